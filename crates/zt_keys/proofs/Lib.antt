@@ -1,0 +1,5 @@
+pub mod Passing
+pub mod Pieces
+pub mod Scan
+pub mod Texts
+pub mod Turns

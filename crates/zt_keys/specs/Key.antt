@@ -1,0 +1,39 @@
+-- What holds of every type of keys.
+use Rattle.std.specs.Prelude.{◌≡◌, ◌≢◌, ℕ, Bool, true, false, ◌||◌, List, [], Result, Ok, Err, ◌==◌, MatchResult}
+use Rattle.std.specs.List.{All}
+use Rattle.std.specs.Str.{IsUtf8}
+use Rattle.std.specs.declared.cmp.Ordering.{Ordering}
+use Rattle.std.specs.declared.cmp.Ordering.TheVariants.{Equal}
+use Rattle.std.proofs.Common.{sym, ap, ◌∙◌, get_or}
+use Rattle.std.proofs.lemmas.Bool.{false≢true, eqb-true}
+use Rattle.zt_keys.specs.Test.{by_test}
+use Rattle.zt_keys.specs.declared.error.KeyError.{KeyError}
+use Rattle.zt_keys.specs.declared.error.KeyError.TheVariants.{Memory}
+
+-- a space, a tab, a line feed or a carriage return
+abbrev pub is_blank : ℕ → Bool
+is_blank b = b == 32 || b == 9 || b == 10 || b == 13
+
+-- a call that reads a text gives this answer, unless memory runs out
+abbrev pub Reads : {K : Type 0} → Result K KeyError → Result K KeyError → Type 0
+Reads answer result = MatchResult result (λ key. answer ≡ Ok key) (λ error. error ≢ Memory → answer ≡ Err error)
+
+-- the laws of keys: `cmp` is the order, `matching` says whether two keys match, `reading` what a text is read as, and `printed` the bytes of a key's text
+pub record KeyLaws {K : Type 0} (cmp : K → K → Ordering) (matching : K → K → Bool) (reading : List ℕ → Result K KeyError) (printed : K → List ℕ) : Type 0 where
+  -- keys that compare equal are the same value
+  pub equal_is_same : (a b : K) → cmp a b ≡ Equal → a ≡ b
+  pub reads_back : (key : K) → reading (printed key) ≡ Ok key
+  -- a key has one spelling
+  pub one_spelling : (text : List ℕ) (key : K) → reading text ≡ Ok key → printed key ≡ text
+  -- want of memory is no answer to a text
+  pub never_memory : (text : List ℕ) → reading text ≢ Err Memory
+  pub prints_some : (key : K) → printed key ≢ []
+  pub prints_no_blank : (key : K) → All (λ b. is_blank b ≡ false) (printed key)
+  pub prints_utf8 : (key : K) → IsUtf8 (printed key)
+  pub matches_itself : (key : K) → matching key key ≡ true
+  pub matches_back : (a b : K) → matching a b ≡ matching b a
+
+-- a text without blanks has none of the byte `c`, which is one
+pub no_byte : (c : ℕ) → is_blank c ≡ true → (bytes : List ℕ) → All (λ b. is_blank b ≡ false) bytes → All (λ b. (b == c) ≡ false) bytes
+no_byte c blank bytes none k d l =
+    by_test (get_or bytes k d == c) (λ e. absurd (false≢true (sym (none k d l) ∙ ap is_blank (eqb-true (get_or bytes k d) c e) ∙ blank))) (λ e. e)

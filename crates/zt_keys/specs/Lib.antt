@@ -1,0 +1,11 @@
+pub mod Chunks
+pub mod Expression
+pub mod Key
+pub mod Laws
+pub mod Matching
+pub mod Meet
+pub mod Members
+pub mod Parts
+pub mod Scan
+pub mod Test
+pub mod Walking

@@ -1,0 +1,145 @@
+// Key expressions.
+ghost use Rattle.std.specs.Prelude.{◌≡◌, ◌++◌, nat_eq, Some, ◌≢◌, ◌↔◌, IsTrue, IfOk, IfErr, string_bytes, if◌then◌else◌, is_ok, refl};
+ghost use Rattle.std.specs.Arc.{arc_str_bytes};
+ghost use Rattle.std.specs.Hash as fed;
+ghost use Rattle.std.specs.Ordering.{nat_cmp};
+ghost use Rattle.std.specs.Cmp.Lexicographic.{pointwise, slice_cmp, texts_ties, texts_po, nat_list_eq_equiv, nat_list_cmp_total};
+ghost use Rattle.std.specs.Cmp.{on_equiv, on_total, on_per, on_po, partial_equiv_from_equiv};
+ghost use Rattle.std.specs.Cmp.Rules.{hashing};
+ghost use Rattle.std.proofs.Common.{rules};
+ghost use Rattle.zt_keys.specs.Key.{Reads};
+ghost use Rattle.zt_keys.specs.Expression.{Expression, expression_code, is_expression, reading, bytes_of};
+ghost use Rattle.zt_keys.specs.Chunks.{chunks, refusal};
+ghost use Rattle.zt_keys.specs.Matching.{matching, Intersect};
+ghost use Rattle.zt_keys.specs.Laws.{expression_laws};
+
+use crate::check::check;
+use crate::error::{KeyError, Memory};
+use crate::key::Key;
+use crate::walk::texts_match;
+use std::alloc::Global;
+use std::cmp::Ordering;
+use std::hash::{Hash, Hasher};
+use std::marker::Model;
+use std::sync::ArcStr;
+
+/// A key expression: one or more chunks with `/` between them, each a name, `*` or `**`.
+///
+/// Contracts see its bytes and the fact that they are a key expression. The text is shared between copies.
+#[derive(Drop)]
+pub struct KeyExpr {
+    shared: ArcStr,
+    ghost is_valid: { IsTrue (is_expression (arc_str_bytes shared)) },
+}
+
+impl Model for KeyExpr {
+    ghost Value = { Expression };
+
+    ghost coded = { expression_code };
+
+    ghost view = { λ k. record { bytes = arc_str_bytes k.shared; valid = k.is_valid } };
+}
+
+impl KeyExpr {
+    /// The text, in its one spelling.
+    pub fn text(&self) -> &str
+        ensures { result.now ≡ self.now.bytes }
+    {
+        self.shared.as_str()
+    }
+}
+
+impl PartialEq for KeyExpr {
+    ghost eq = { λ a b. pointwise nat_eq a.bytes b.bytes };
+
+    ghost laws = { on_per bytes_of (partial_equiv_from_equiv nat_list_eq_equiv) };
+
+    fn eq(&self, other: &KeyExpr) -> bool {
+        self.text() == other.text()
+    }
+}
+
+impl Eq for KeyExpr {
+    ghost laws = { on_equiv bytes_of nat_list_eq_equiv };
+}
+
+impl PartialOrd for KeyExpr {
+    ghost partial_cmp = { λ a b. Some (slice_cmp nat_cmp a.bytes b.bytes) };
+
+    ghost laws = { on_po bytes_of texts_po };
+
+    fn partial_cmp(&self, other: &KeyExpr) -> Option<Ordering> {
+        Some(self.cmp(other))
+    }
+}
+
+impl Ord for KeyExpr {
+    ghost cmp = { λ a b. slice_cmp nat_cmp a.bytes b.bytes };
+
+    ghost total = { on_total bytes_of nat_list_cmp_total };
+
+    ghost matches_partial_cmp = { λ a b. refl };
+
+    ghost matches_eq = { λ a b. texts_ties a.bytes b.bytes };
+
+    fn cmp(&self, other: &KeyExpr) -> Ordering {
+        self.text().cmp(other.text())
+    }
+}
+
+impl Hash for KeyExpr {
+    ghost hash_input = { λ k. fed.str k.bytes };
+
+    ghost respects_eq = { Prim.search (hashing, rules) };
+
+    fn hash<H: Hasher>(&self, state: &mut H) {
+        self.text().hash(state);
+    }
+}
+
+impl Key for KeyExpr {
+    ghost matching = { matching };
+
+    ghost reading = { reading };
+
+    ghost printed = { λ key. key.bytes };
+
+    /// Whether some plain list of chunks is a member of both. The two texts are walked together, and the number of chunks that
+    /// are looked at is at most a fixed multiple of the product of the two numbers of chunks, however many `**` there are.
+    fn matches(&self, other: &KeyExpr) -> bool
+        ensures value { result ≡ matching self.now other.now }
+        ensures member { IsTrue result ↔ Intersect (chunks self.now.bytes) (chunks other.now.bytes) }
+    {
+        texts_match(self.text().as_bytes(), other.text().as_bytes())
+    }
+
+    /// Refuses a text by the first rule that it breaks: `Empty` for the empty text, else `BadChunk` with the place of the first
+    /// bad chunk, else `NotCanonical` with the place of the first `**` that a wildcard follows at once.
+    fn read(alloc: Global, text: &str) -> Result<KeyExpr, KeyError>
+        ensures value { Reads (reading text.now) result }
+        ensures text { IfOk result (λ key. key.bytes ≡ text.now) }
+        ensures refused { IfErr result (λ error. error ≢ KeyError.Memory → refusal text.now ≡ Some error) }
+    {
+        check(text)?;
+        let shared = ArcStr::from_str(alloc, text)?;
+        Ok(KeyExpr { shared })
+    }
+
+    fn print(&self, alloc: Global) -> Result<String, Memory> {
+        let text = String::from_str(alloc, self.text())?;
+        Ok(text)
+    }
+
+    fn print_to(&self, out: &mut String) -> Result<(), Memory> {
+        out.push_str(self.text())?;
+        Ok(())
+    }
+
+    /// Shares the text and takes no memory.
+    fn copy(&self, _alloc: Global) -> Result<KeyExpr, Memory> {
+        let shared = self.shared.clone()?;
+        Ok(KeyExpr { shared })
+    }
+
+    ghost laws = { expression_laws };
+}

@@ -1,0 +1,51 @@
+// The trait of keys.
+ghost use Rattle.std.specs.Prelude.{◌≡◌, ℕ, Bool, List, ◌++◌, Result, IfOk, is_ok, if◌then◌else◌, string_bytes};
+ghost use Rattle.zt_keys.specs.declared.error.KeyError.{KeyError};
+ghost use Rattle.zt_keys.specs.Key.{KeyLaws, Reads};
+
+use crate::error::{KeyError, Memory};
+use std::alloc::Global;
+use std::hash::Hash;
+
+/// A key, by which tokens and interests name what they speak of.
+pub trait Key: Ord + Eq + Hash + Drop + Sized {
+    /// Whether two keys match.
+    ghost matching: { Self → Self → Bool };
+
+    /// What a text is read as; never want of memory.
+    ghost reading: { List ℕ → Result Self KeyError };
+
+    /// The bytes of a key's text.
+    ghost printed: { Self → List ℕ };
+
+    /// Whether the two keys match: a relation of the keys alone, reflexive and symmetric. Takes no memory.
+    fn matches(&self, other: &Self) -> bool
+        ensures { result ≡ matching self.now other.now };
+
+    /// The key that the text spells. The answer is a function of the text, unless memory runs out.
+    fn read(alloc: Global, text: &str) -> Result<Self, KeyError>
+        ensures { Reads (reading text.now) result };
+
+    /// The key's text, which `read` reads back. The only error is want of memory.
+    fn print(&self, alloc: Global) -> Result<String, Memory>
+        ensures { IfOk result (λ text. string_bytes text ≡ printed self.now) };
+
+    /// Appends the key's text to `out`. The only error is want of memory, and it leaves `out` as it was.
+    fn print_to(&self, out: &mut String) -> Result<(), Memory>
+        ensures { string_bytes out.new
+            ≡ (if is_ok result then string_bytes out.old ++ printed self.now else string_bytes out.old) }
+    {
+        let alloc = *out.allocator();
+        let text = self.print(alloc)?;
+        out.push_str(text.as_str())?;
+        Ok(())
+    }
+
+    /// A key equal to this one. The only error is want of memory.
+    fn copy(&self, alloc: Global) -> Result<Self, Memory>
+        ensures { IfOk result (λ key. key ≡ self.now) };
+
+    /// Equal keys are the same value, a text and its key spell each other, a printed text has no blank, and matching is reflexive
+    /// and symmetric. That order, equality and hash agree is said by the laws of `Ord`, `Eq` and `Hash`.
+    ghost laws: { KeyLaws Self.cmp matching reading printed };
+}

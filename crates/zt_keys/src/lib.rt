@@ -1,0 +1,14 @@
+//! Keys: the trait that every type of keys meets, with its laws, and Zenoh's key expressions.
+#![tactic(auto)]
+
+mod check;
+mod error;
+mod expr;
+mod key;
+#[cfg(test)]
+mod tests;
+mod walk;
+
+pub use error::{KeyError, Memory};
+pub use expr::KeyExpr;
+pub use key::Key;

@@ -1,0 +1,177 @@
+// What no clause says: tables of texts and pairs, long expressions, and each call through the trait at `KeyExpr`.
+ghost use Rattle.std.specs.Prelude.{◌≡◌, IfOk, IfErr};
+
+use crate::{Key, KeyError, KeyExpr};
+use std::alloc::{AllocError, Global};
+use std::test::Fail;
+
+// A key's printed text is read as the key, by the laws alone.
+fn read_back<K: Key>(alloc: Global, key: &K) -> Result<K, KeyError>
+    ensures back { IfOk result (λ back. back ≡ key.now) }
+    ensures memory { IfErr result (λ error. error ≡ KeyError.Memory) }
+{
+    let text = key.print(alloc)?;
+    K::read(alloc, text.as_str())
+}
+
+fn refusal(alloc: Global, text: &str) -> Option<KeyError> {
+    KeyExpr::read(alloc, text).err()
+}
+
+fn both_match(alloc: Global, first: &str, second: &str) -> Result<bool, KeyError> {
+    let first = KeyExpr::read(alloc, first)?;
+    let second = KeyExpr::read(alloc, second)?;
+    Ok(first.matches(&second) && second.matches(&first))
+}
+
+#[test]
+fn texts_are_read(rt: HostRuntime) -> Result<(), Fail> {
+    let good = [
+        "a/b", "*", "**", "a/**/b", "*/**", "**/a", "@x/*", "é/ü", "a/*/*/b", "**/a/**", "@/a@",
+    ];
+    for text in good {
+        let key = read_back(rt.alloc(), &KeyExpr::read(rt.alloc(), text)?)?;
+        assert_eq!(rt; key.text(), text);
+    }
+    let refused = [
+        ("", KeyError::Empty),
+        ("/", KeyError::BadChunk(0)),
+        ("/a", KeyError::BadChunk(0)),
+        ("a/", KeyError::BadChunk(2)),
+        ("a//b", KeyError::BadChunk(2)),
+        ("a/b*", KeyError::BadChunk(2)),
+        ("a$*", KeyError::BadChunk(0)),
+        ("***", KeyError::BadChunk(0)),
+        ("a/**b", KeyError::BadChunk(2)),
+        ("ab/c d", KeyError::BadChunk(3)),
+        ("a#b/c", KeyError::BadChunk(0)),
+        ("é/b?", KeyError::BadChunk(3)),
+        ("a/\u{7f}", KeyError::BadChunk(2)),
+        ("a/b\n", KeyError::BadChunk(2)),
+        ("**/**/a*", KeyError::BadChunk(6)),
+        ("**/**", KeyError::NotCanonical(0)),
+        ("a/**/*", KeyError::NotCanonical(2)),
+        ("a/**/b/**/**", KeyError::NotCanonical(7)),
+        ("**/*/**/**", KeyError::NotCanonical(0)),
+    ];
+    for (text, error) in refused {
+        assert_eq!(rt; refusal(rt.alloc(), text), Some(error), "{text}");
+    }
+    Ok(())
+}
+
+#[test]
+fn expressions_match(rt: HostRuntime) -> Result<(), Fail> {
+    let matching = [
+        ("a/*", "*/b"),
+        ("a/**", "a"),
+        ("a/**/c", "a/*/b/c"),
+        ("*", "**"),
+        ("@x/*", "@x/a"),
+        ("a/b", "a/b"),
+        ("**", "a/b/c"),
+        ("a/**", "**/b"),
+        ("a/**/b", "a/b"),
+        ("**/b/**", "a/b/c"),
+        ("**/b/**/d", "a/b/c/b/d"),
+        ("**/b/c/**", "a/b/b/c"),
+        ("**/b/c/**/c/**", "a/b/c/c"),
+        ("*/**", "a"),
+        ("*/*/**", "a/b/c"),
+        ("*/*", "**"),
+        ("**/@x/**", "a/@x/b"),
+        ("**/@x", "@x"),
+        ("@x/**/@y/**", "@x/a/@y/b"),
+        ("a/**/@x/**/b", "a/c/@x/d/b"),
+        ("a/**/@x/b", "a/**/@x/**"),
+        ("a/**/c/**/e", "**/b/**/d/**"),
+        ("a/b/**", "**/c/a/b/c"),
+        ("**/a/*/b", "a/a/a/b"),
+        ("**/a/b", "a/b/a/b"),
+        ("*/b/**/c", "**/b/c"),
+        ("a/*/**/d", "a/b/d"),
+        ("é/*", "é/ü"),
+    ];
+    for (first, second) in matching {
+        assert!(rt; both_match(rt.alloc(), first, second)?, "{first} {second}");
+    }
+    let apart = [
+        ("a/*", "a"),
+        ("**/b", "a/b/c"),
+        ("*", "a/b"),
+        ("*", "@x"),
+        ("**", "@x/a"),
+        ("a/b", "a/c"),
+        ("a", "a/b"),
+        ("a/**", "b/**"),
+        ("**/a", "**/b"),
+        ("a/**/b", "a"),
+        ("a/**/b", "c/**/b"),
+        ("**/b/**", "a/c"),
+        ("**/b/c/**/c/**", "a/b/c"),
+        ("*/*", "a"),
+        ("**/@x/**", "a/b"),
+        ("**/@x/*", "a/@x"),
+        ("@x/**", "@y/**"),
+        ("@x/**/a", "@x/b/@y/a"),
+        ("**/@x/**", "**/@y/**"),
+        ("a/**/c", "**/b/c/d"),
+        ("**/a/*/b", "a/b"),
+        ("a/*/**/d", "a/d"),
+        ("@x", "x"),
+    ];
+    for (first, second) in apart {
+        assert!(rt; !both_match(rt.alloc(), first, second)?, "{first} {second}");
+    }
+    Ok(())
+}
+
+// The text `part`, `count` times, and then `end`.
+fn repeated(alloc: Global, part: &str, count: u32, end: &str) -> Result<String, AllocError> {
+    let mut text = String::new(alloc);
+    for _ in 0..count {
+        text.push_str(part)?;
+    }
+    text.push_str(end)?;
+    Ok(text)
+}
+
+// A walk that tried every way of each `**` would never end here.
+#[test]
+fn long_expressions_end(rt: HostRuntime) -> Result<(), Fail> {
+    let rows = [
+        ("**/a/", 500, "b", "**/a/", 500, "c", false),
+        ("**/a/", 500, "b", "a/", 1000, "b", true),
+        ("**/a/", 500, "b", "a/", 1000, "c", false),
+        ("**/a/", 500, "b", "a/", 499, "b", false),
+        ("**/a/b/", 300, "**", "a/", 1000, "b", false),
+        ("**/a/*/b/", 200, "**", "a/", 2000, "a", false),
+        ("**/@x/", 300, "**", "a/@x/", 300, "a", true),
+        ("**/@x/", 300, "**", "a/@x/", 300, "@y", false),
+        ("a/**/", 300, "b", "**/a/", 300, "b", true),
+        ("a/**/", 300, "b", "**/a/", 300, "c", false),
+        ("**/a/a/a/b/", 100, "**", "a/a/a/a/", 500, "b", false),
+    ];
+    for (part, count, end, other, times, other_end, wanted) in rows {
+        let first = repeated(rt.alloc(), part, count, end)?;
+        let second = repeated(rt.alloc(), other, times, other_end)?;
+        assert_eq!(rt;
+            both_match(rt.alloc(), first.as_str(), second.as_str())?,
+            wanted,
+            "{part} {other}"
+        );
+    }
+    Ok(())
+}
+
+#[test]
+fn keys_are_copied_and_printed(rt: HostRuntime) -> Result<(), Fail> {
+    let key = KeyExpr::read(rt.alloc(), "a/*/b")?;
+    let copy = key.copy(rt.alloc())?;
+    assert!(rt; key == copy);
+    assert!(rt; key < KeyExpr::read(rt.alloc(), "a/b")?);
+    let mut out = String::from_str(rt.alloc(), "> ")?;
+    copy.print_to(&mut out)?;
+    assert_eq!(rt; out.as_str(), "> a/*/b");
+    Ok(())
+}

@@ -1,0 +1,3 @@
+pub mod Interest
+pub mod Refusal
+pub mod Plain

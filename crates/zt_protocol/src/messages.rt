@@ -1,0 +1,133 @@
+ghost use Rattle.std.specs.Prelude.{◌≡◌, IfOk};
+
+use crate::{InterestMode, InterestOptions};
+use std::alloc::Global;
+use zt_keys::{Key, Memory};
+use zt_region::NodeId;
+
+/// The number under which a face declares a token.
+pub type TokenId = u32;
+
+/// The number under which a face declares an interest.
+pub type InterestId = u32;
+
+/// How far a queryable is, and whether it alone answers every query on its key.
+#[derive(Clone, Copy, PartialEq, Eq, Debug)]
+pub struct QueryableInfo {
+    pub complete: bool,
+    pub distance: u16,
+}
+
+/// What a gateway sends to a face, and what a face says to a gateway.
+///
+/// A declaration with an interest id answers that interest. Router regions name the router that a token
+/// comes from by `node_id`, elsewhere it is 0.
+#[derive(PartialEq, Eq, Debug, Drop)]
+pub enum Message<K> {
+    DeclareToken {
+        id: TokenId,
+        expr: K,
+        interest_id: Option<InterestId>,
+        node_id: NodeId,
+    },
+    UndeclareToken {
+        id: TokenId,
+        expr: Option<K>,
+        node_id: NodeId,
+    },
+    DeclareFinal {
+        interest_id: InterestId,
+    },
+    Interest {
+        id: InterestId,
+        mode: InterestMode,
+        options: InterestOptions,
+        expr: Option<K>,
+    },
+    /// Ends a future-mode interest. Zenoh sends an interest of mode `Final`.
+    InterestFinal {
+        id: InterestId,
+    },
+    DeclareSubscriber {
+        id: u32,
+        expr: K,
+        interest_id: InterestId,
+    },
+    DeclareQueryable {
+        id: u32,
+        expr: K,
+        info: QueryableInfo,
+        interest_id: InterestId,
+    },
+}
+
+/// A copy of an expression, where there is one. The only error is want of memory.
+pub fn copy_expression<K: Key>(expr: &Option<K>, alloc: Global) -> Result<Option<K>, Memory>
+    ensures { IfOk result (λ copy. copy ≡ expr.now) }
+{
+    match expr {
+        None => Ok(None),
+        Some(key) => Ok(Some(key.copy(alloc)?)),
+    }
+}
+
+impl<K: Key> Message<K> {
+    /// A message equal to this one. The only error is want of memory.
+    pub fn copy(&self, alloc: Global) -> Result<Message<K>, Memory>
+        ensures { IfOk result (λ copy. copy ≡ self.now) }
+    {
+        Ok(match self {
+            Message::DeclareToken {
+                id,
+                expr,
+                interest_id,
+                node_id,
+            } => Message::DeclareToken {
+                id: *id,
+                expr: expr.copy(alloc)?,
+                interest_id: *interest_id,
+                node_id: *node_id,
+            },
+            Message::UndeclareToken { id, expr, node_id } => Message::UndeclareToken {
+                id: *id,
+                expr: copy_expression(expr, alloc)?,
+                node_id: *node_id,
+            },
+            Message::DeclareFinal { interest_id } => Message::DeclareFinal {
+                interest_id: *interest_id,
+            },
+            Message::Interest {
+                id,
+                mode,
+                options,
+                expr,
+            } => Message::Interest {
+                id: *id,
+                mode: *mode,
+                options: *options,
+                expr: copy_expression(expr, alloc)?,
+            },
+            Message::InterestFinal { id } => Message::InterestFinal { id: *id },
+            Message::DeclareSubscriber {
+                id,
+                expr,
+                interest_id,
+            } => Message::DeclareSubscriber {
+                id: *id,
+                expr: expr.copy(alloc)?,
+                interest_id: *interest_id,
+            },
+            Message::DeclareQueryable {
+                id,
+                expr,
+                info,
+                interest_id,
+            } => Message::DeclareQueryable {
+                id: *id,
+                expr: expr.copy(alloc)?,
+                info: *info,
+                interest_id: *interest_id,
+            },
+        })
+    }
+}

@@ -1,0 +1,12 @@
+use Rattle.std.proofs.Common.{rules, tests, map, string_bytes}
+use Rattle.std.specs.List.{list_all}
+use Rattle.std.proofs.lemmas.Iterator.{YieldsList-from_slice}
+use Rattle.std.proofs.lemmas.Iterator.Search.{all_from_yields_List}
+use Rattle.std.proofs.lemmas.List.Folds.{list_all-map}
+use Rattle.zt_region.specs.South.{is_text_listed, plain_link}
+use Rattle.zt_region.proofs.matching.are_links_listed.Goals as goal
+
+pub returns : goal.returns
+returns c =
+    rw list_all-map (all_from_yields_List (λ link. list_all (is_text_listed (map string_bytes c.args.listed.now)) (plain_link link)) _ _ _ c.all.ensures.ran
+    (YieldsList-from_slice c.args.links.now cc) (λ x b q k. search (rules, tests)))

@@ -1,0 +1,5 @@
+pub mod Region
+pub mod RegionError
+pub mod Admission
+pub mod South
+pub mod Tables

@@ -1,0 +1,17 @@
+use Rattle.std.proofs.Common.{◌-◌, ◌≤◌, vec_len}
+use Rattle.std.specs.Io.KnownBytes.{Consumes}
+use Rattle.zt_streams.proofs.reading.read_script.Given as goal
+
+-- what was read is all that the source lost, and there was room for it
+abbrev pub invariant-loop-count : goal.invariant-loop-count
+invariant-loop-count g l =
+    let left = g.S.Source.left in
+    let faults = g.S.Source.faults in
+    record {
+      room : vec_len l.bytes ≤ 1048576;
+      read : Consumes (left l.fn.source) (left l.source) l.bytes.items;
+      count : faults l.fn.source ≤ faults l.source;
+    }
+
+abbrev pub decreases-loop-count : goal.decreases-loop-count
+decreases-loop-count g l = 1048576 - vec_len l.bytes
