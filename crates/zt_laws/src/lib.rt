@@ -1,0 +1,94 @@
+//! Laws of the machine of scripts: theorems over the definitions of `zt_model`, each the contract of a function
+//! that does nothing. `specs/Sound.antt` has the words for what stays true of a fabric.
+#![tactic(auto)]
+
+ghost use Rattle.std.specs.Prelude.{◌≡◌, ◌+◌, ◌||◌, ℕ, Bool, true, false, if◌then◌else◌, List, map, Some, None};
+ghost use Rattle.zt_region.specs.declared.region.Region.{Region};
+ghost use Rattle.zt_protocol.specs.Plain.{PlainCall, PlainLine};
+ghost use Rattle.zt_protocol.specs.declared.interests.InterestMode.{InterestMode};
+ghost use Rattle.zt_protocol.specs.declared.messages.Message.{Message};
+ghost use Rattle.zt_model.specs.Fabric.{Fabric, Node, after_hearing, call_of, empty_fabric, entries_from, entry_of, fabric_after, printed_message, said_at, sorted_by_face, with_rows};
+ghost use Rattle.zt_model.specs.Hearing.{heard_all, rows_heard};
+ghost use Rattle.zt_model.specs.Lists.{nth};
+ghost use Rattle.zt_model.specs.Refusals.{call_causes, could_spend_ids, first_cause, need, spends_ids};
+ghost use Rattle.zt_model.specs.Rows.{Face, Rows};
+ghost use Rattle.zt_model.specs.Says.{altered, answers_from, forget_to, is_routed, is_told, said, tell_to, to_each, to_face, with_face};
+ghost use Rattle.zt_model.specs.Sessions.{is_session_line};
+ghost use Rattle.zt_model.specs.Transcript.{Each, IsFaithfulFrom};
+ghost use Rattle.zt_model.specs.Visible.{is_visible};
+ghost use Rattle.zt_laws.specs.Effects.{forgotten, told_after_answers, told_anew};
+ghost use Rattle.zt_laws.specs.Sound.{CallHasFirstIds, FabricIsSound, HasFirstIds, IsToldInOrder, RiseFrom, RowsAreSound, opens_face, rows_after_call};
+
+use zt_keys::Key;
+
+/// The transcript theorem for scripts of sessions: to any lines, the machine's entries are faithful. Each is a
+/// refusal exactly by its line's first cause, and after each entry every face keeps, by its own messages alone,
+/// only visible tokens that it seeks, among them every admitted one that it covers. First ids are at least 1.
+pub fn scripts_are_faithful<K: Key>()
+    ensures { (lines : List (PlainLine K)) → Each HasFirstIds lines
+        → IsFaithfulFrom K.cmp K.matching is_session_line lines (entries_from K.cmp K.matching is_session_line lines empty_fabric) empty_fabric }
+{}
+
+/// What stays true while a script is carried out, whichever lines are built: the empty fabric is sound, and each
+/// line leaves a sound fabric sound, be it accepted or refused.
+pub fn fabrics_stay_sound<K: Key>()
+    ensures start { FabricIsSound K.cmp K.matching empty_fabric }
+    ensures step { (is_built : PlainLine K → Bool) (line : PlainLine K) (s : Fabric K) → HasFirstIds line → FabricIsSound K.cmp K.matching s
+        → FabricIsSound K.cmp K.matching (fabric_after K.cmp K.matching line (entry_of K.cmp K.matching is_built line s) s) }
+{}
+
+/// What a line says in a sound fabric stands in order of face before it is sorted.
+pub fn messages_stand_in_order<K: Key>()
+    ensures { (line : PlainLine K) (s : Fabric K) → FabricIsSound K.cmp K.matching s
+        → sorted_by_face (said_at K.cmp K.matching s (call_of line s)) ≡ said_at K.cmp K.matching s (call_of line s) }
+{}
+
+/// The printed messages of a call, sorted by face or not, leave at its gateway the rows after the call, and change
+/// no other gateway.
+pub fn messages_change_their_gateway<K: Key>()
+    ensures sorted { (n : ℕ) (node : Node K) (c : PlainCall K) (s : Fabric K) → nth n s.gateways ≡ Some node → opens_face c ≡ false → FabricIsSound K.cmp K.matching s
+        → after_hearing K.cmp (sorted_by_face (map (printed_message s n) (said K.cmp K.matching c node.rows))) (with_rows n (altered K.cmp K.matching c) s)
+        ≡ with_rows n (rows_after_call K.cmp K.matching c) s }
+    ensures unsorted { (n : ℕ) (node : Node K) (c : PlainCall K) (s : Fabric K) → nth n s.gateways ≡ Some node → opens_face c ≡ false → FabricIsSound K.cmp K.matching s
+        → after_hearing K.cmp (map (printed_message s n) (said K.cmp K.matching c node.rows)) (with_rows n (altered K.cmp K.matching c) s)
+        ≡ with_rows n (rows_after_call K.cmp K.matching c) s }
+{}
+
+/// What faces hear of a rule's messages. Where each face is sent what the rule gives for it, each hears just that;
+/// where one face is, that face does, and no other face changes.
+pub fn faces_hear_their_rule<K: Key>()
+    ensures each { (rule : Face K → List (Message K)) (g : Rows K) → RiseFrom (λ f. f.number) 1 g.faces
+        → rows_heard K.cmp (to_each rule g.faces) g ≡ record g { faces = map (λ f. heard_all K.cmp g.moment (rule f) f) g.faces } }
+    ensures one { (n : ℕ) (rule : Face K → List (Message K)) (g : Rows K) → RiseFrom (λ f. f.number) 1 g.faces
+        → rows_heard K.cmp (to_face n rule g) g ≡ with_face n (λ f. heard_all K.cmp g.moment (rule f) f) g }
+{}
+
+/// What each phase of a call leaves at a face. A face that is told an expression has it under its next id; one that
+/// can't see an expression any more has no row of it; one that is answered has the answers that it didn't keep
+/// under its next ids, where it asked for what comes later too.
+pub fn phases_change_told_rows<K: Key>()
+    ensures telling { (now : ℕ) (g : Rows K) (source : Region) (e : K) (f : Face K) → IsToldInOrder K.cmp f.told f.next
+        → heard_all K.cmp now (tell_to K.cmp K.matching g source e f) f ≡ (if is_told K.cmp K.matching g source e f then told_anew e f else f) }
+    ensures forgetting { (now : ℕ) (g : Rows K) (source : Region) (e : K) (f : Face K) → IsToldInOrder K.cmp f.told f.next
+        → heard_all K.cmp now (forget_to K.cmp K.matching g source e f) f ≡ (if is_routed g f || is_visible K.cmp g f.region e then f else forgotten K.cmp e f) }
+    ensures answering { (now id : ℕ) (mode : InterestMode) (es : List K) (f : Face K) → IsToldInOrder K.cmp f.told f.next
+        → (heard_all K.cmp now (answers_from K.cmp K.matching f.next f.told mode id es) f).told ≡ told_after_answers K.cmp K.matching mode es f }
+{}
+
+/// An accepted call leaves the rows of a gateway sound: faces in order, told ids that rise below the next one, one
+/// for an expression, and faces that keep what they should.
+pub fn calls_leave_rows_sound<K: Key>()
+    ensures { (c : PlainCall K) (g : Rows K) → CallHasFirstIds c → first_cause (call_causes K.cmp K.matching (spends_ids K.cmp K.matching c g) c g) ≡ None
+        → RowsAreSound K.cmp K.matching g → RowsAreSound K.cmp K.matching (rows_after_call K.cmp K.matching c g) }
+{}
+
+/// A call that needs more ids than are left is one that could, as the transcript shows it, spend them.
+pub fn need_is_within_could<K: Key>()
+    ensures { (c : PlainCall K) (g : Rows K) → spends_ids K.cmp K.matching c g ≡ true → could_spend_ids K.cmp K.matching c g ≡ true }
+{}
+
+/// A call that is carried out draws for each face as many ids as it needs for it.
+pub fn calls_draw_what_they_need<K: Key>()
+    ensures { (c : PlainCall K) (g : Rows K) → opens_face c ≡ false → RowsAreSound K.cmp K.matching g
+        → map (λ f. f.next) (rows_after_call K.cmp K.matching c g).faces ≡ map (λ f. f.next + need K.cmp K.matching c g f) g.faces }
+{}

@@ -1,0 +1,11 @@
+pub mod Rows
+pub mod Strategy
+pub mod Lists
+pub mod Visible
+pub mod Wants
+pub mod Hearing
+pub mod Says
+pub mod Refusals
+pub mod Fabric
+pub mod Transcript
+pub mod Sessions
