@@ -1,0 +1,16 @@
+pub mod Lists
+pub mod Keys
+pub mod Answering
+pub mod Bridge
+pub mod AfterTelling
+pub mod Changes
+pub mod Declaring
+pub mod Finding
+pub mod Declared
+pub mod Undeclared
+pub mod Answered
+pub mod Asked
+pub mod Members
+pub mod Stepping
+pub mod Opened
+pub mod Speakers

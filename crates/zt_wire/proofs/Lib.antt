@@ -1,0 +1,11 @@
+pub mod NumberLemmas
+pub mod FieldLemmas
+pub mod TextLemmas
+pub mod ListLemmas
+pub mod ItemLemmas
+pub mod Exact
+pub mod ExactParts
+pub mod ExactLists
+pub mod ExactSouth
+pub mod LineLaws
+pub mod ReadingLaw

@@ -1,0 +1,9 @@
+pub mod Numbers
+pub mod Words
+pub mod Fields
+pub mod Values
+pub mod Lists
+pub mod Items
+pub mod Reading
+pub mod Text
+pub mod Grammar
