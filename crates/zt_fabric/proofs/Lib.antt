@@ -1,0 +1,3 @@
+pub mod FirstIds
+pub mod CarryLemmas
+pub mod RunLemmas

@@ -1,0 +1,99 @@
+use Rattle.std.proofs.Common.{List, ℕ, ◌++◌, ◌+◌, ◌≤◌, [], ◌-◌, ◌≡◌, length, take, string_bytes, ap, subst, ◌∙◌, arith}
+use Rattle.std.proofs.lemmas.List.{length-take}
+use Rattle.std.specs.Io.KnownBytes.{Consumes}
+use Rattle.zt_laws.proofs.Faithful.{faithful_from, sound_empty}
+use Rattle.zt_laws.specs.Sound.{HasFirstIds}
+use Rattle.zt_streams.specs.Lines.{whole_lines}
+use Rattle.zt_streams.proofs.LineLemmas.{whole_lines-rest_of}
+use Rattle.zt_model.specs.Fabric.{empty_fabric}
+use Rattle.zt_model.specs.Sessions.{is_session_line}
+use Rattle.zt_fabric.proofs.RunLemmas.{fed-front, so_far-none, so_far-next, so_far-end, so_far-start, stopped, finished, too_long, read_failed}
+use Rattle.zt_fabric.proofs.running.run.Goals as goal
+
+pub loop-reads-init : goal.loop-reads-init
+loop-reads-init g c = record {
+  so_far = so_far-start g.K.Ord.cmp g.K.Key.matching g.K.Key.reading g.K.Key.printed (g.S.Source.left c.args.source.now) (g.T.Sink.written c.args.sink.now) c.new.result c.new-feeder.result c.new.ensures c.new-feeder.ensures;
+  empty = c.new-2.ensures.bytes;
+  within = omega arith;
+  reads = omega arith;
+  lines = omega (arith, ap length c.new-feeder.ensures);
+  range = record { messages_fit = omega arith; refusals_fit = omega arith };
+  read_faults = omega arith;
+  write_faults = omega arith;
+}
+
+pub returns-in_default : goal.returns-in_default
+returns-in_default g c =
+    read_failed g.K.Ord.cmp g.K.Key.matching g.K.Key.reading g.K.Key.printed
+    (λ lines real. faithful_from g.K.Ord.cmp g.K.Key.matching g.met.K.Ord.total g.met.K.Key.laws.equal_is_same is_session_line lines empty_fabric real (sound_empty g.K.Ord.cmp g.K.Key.matching))
+    (g.S.Source.left c.args.source.now) (g.T.Sink.written c.args.sink.now) (g.S.Source.left c.loop-reads.source) (g.T.Sink.written c.loop-reads.sink) (g.S.Source.left c.read.new.self)
+    c.loop-reads.run.fabric c.loop-reads.run.report c.loop-reads.feeder c.loop-reads.total
+    (g.S.Source.faults c.args.source.now) (g.S.Source.faults c.loop-reads.source) (g.S.Source.faults c.read.new.self) (g.T.Sink.faults c.args.sink.now) (g.T.Sink.faults c.loop-reads.sink)
+    c.loop-reads.invariant.so_far c.in_default.ensures.kept c.loop-reads.invariant.within c.loop-reads.invariant.read_faults c.in_default.ensures.fault
+
+pub finish-requires-clause-whole : goal.finish-requires-clause-whole
+finish-requires-clause-whole g c =
+    ap whole_lines c.loop-reads.invariant.so_far.kept_is ∙ whole_lines-rest_of c.loop-reads.invariant.so_far.read
+
+pub returns-then-count-eq0 : goal.returns-then-count-eq0
+returns-then-count-eq0 g c =
+    finished g.K.Ord.cmp g.K.Key.matching g.K.Key.reading g.K.Key.printed
+    (λ lines real. faithful_from g.K.Ord.cmp g.K.Key.matching g.met.K.Ord.total g.met.K.Key.laws.equal_is_same is_session_line lines empty_fabric real (sound_empty g.K.Ord.cmp g.K.Key.matching))
+    (g.S.Source.left c.args.source.now) (g.T.Sink.written c.args.sink.now) (g.S.Source.left c.read.new.self) (g.T.Sink.written c.loop-reads.sink) (g.T.Sink.written c.finish.new.sink)
+    c.loop-reads.run.fabric c.loop-reads.run.report c.loop-reads.feeder c.loop-reads.total
+    (g.S.Source.faults c.args.source.now) (g.S.Source.faults c.read.new.self) (g.T.Sink.faults c.args.sink.now) (g.T.Sink.faults c.loop-reads.sink) (g.T.Sink.faults c.finish.new.sink) c.finish.result
+    (so_far-end g.K.Ord.cmp g.K.Key.matching g.K.Key.reading g.K.Key.printed
+    (g.S.Source.left c.args.source.now) (g.T.Sink.written c.args.sink.now) (g.S.Source.left c.loop-reads.source) (g.T.Sink.written c.loop-reads.sink) (g.S.Source.left c.read.new.self)
+    c.loop-reads.run.fabric c.loop-reads.run.report c.loop-reads.feeder c.loop-reads.total (take c.in-Ok.count c.read.new.buf)
+    c.loop-reads.invariant.so_far c.in-Ok.ensures.given (ap (λ n. take n c.read.new.buf) c.if-count-eq0.true))
+    (c.in-Ok.ensures.end c.if-count-eq0.true) c.loop-reads.invariant.within c.loop-reads.invariant.write_faults c.finish.ensures.ok c.finish.ensures.err
+
+pub returns-in-Err : goal.returns-in-Err
+returns-in-Err g c =
+    let so_far = c.loop-reads.invariant.so_far in
+    let n = c.min-in-loop-reads.result in
+    stopped g.K.Ord.cmp g.K.Key.matching g.K.Key.reading g.K.Key.printed
+    (λ lines real. faithful_from g.K.Ord.cmp g.K.Key.matching g.met.K.Ord.total g.met.K.Key.laws.equal_is_same is_session_line lines empty_fabric real (sound_empty g.K.Ord.cmp g.K.Key.matching))
+    (g.S.Source.left c.args.source.now) (g.T.Sink.written c.args.sink.now) (g.S.Source.left c.loop-reads.source) (g.T.Sink.written c.loop-reads.sink) (g.S.Source.left c.read.new.self) (g.T.Sink.written c.carry_piece.new.sink)
+    c.loop-reads.run.fabric c.loop-reads.run.report c.loop-reads.feeder c.loop-reads.total
+    (g.S.Source.faults c.args.source.now) (g.S.Source.faults c.read.new.self) (g.T.Sink.faults c.args.sink.now) (g.T.Sink.faults c.loop-reads.sink) (g.T.Sink.faults c.carry_piece.new.sink)
+    c.in-Err.error (take c.in-Ok.count c.read.new.buf) (take n c.read.new.buf)
+    so_far c.in-Ok.ensures.given
+    (fed-front so_far.read c.read.new.buf c.in-Ok.count (1048576 - c.loop-reads.total) 1048576 n (omega (arith, so_far.size, c.loop-reads.invariant.within)) (omega (arith, so_far.size)) c.min-in-loop-reads.ensures)
+    c.in-Err.ensures.err c.loop-reads.invariant.write_faults
+
+pub returns-then-count-room : goal.returns-then-count-room
+returns-then-count-room g c =
+    let so_far = c.loop-reads.invariant.so_far in
+    let n = c.min-in-loop-reads.result in
+    too_long g.K.Ord.cmp g.K.Key.matching g.K.Key.reading g.K.Key.printed
+    (λ lines real. faithful_from g.K.Ord.cmp g.K.Key.matching g.met.K.Ord.total g.met.K.Key.laws.equal_is_same is_session_line lines empty_fabric real (sound_empty g.K.Ord.cmp g.K.Key.matching))
+    (g.S.Source.left c.args.source.now) (g.T.Sink.written c.args.sink.now) (g.S.Source.left c.loop-reads.source) (g.T.Sink.written c.loop-reads.sink) (g.S.Source.left c.read.new.self) (g.T.Sink.written c.carry_piece.new.sink)
+    c.loop-reads.run.fabric c.carry_piece.new.run.fabric c.loop-reads.run.report c.carry_piece.new.run.report c.loop-reads.feeder c.loop-reads.total
+    (g.S.Source.faults c.args.source.now) (g.S.Source.faults c.read.new.self) (g.T.Sink.faults c.args.sink.now) (g.T.Sink.faults c.carry_piece.new.sink)
+    (take c.in-Ok.count c.read.new.buf) (take n c.read.new.buf)
+    so_far c.in-Ok.ensures.given
+    (fed-front so_far.read c.read.new.buf c.in-Ok.count (1048576 - c.loop-reads.total) 1048576 n (omega (arith, so_far.size, c.loop-reads.invariant.within)) (omega (arith, so_far.size)) c.min-in-loop-reads.ensures)
+    (omega (arith, c.if-count-room.true, c.loop-reads.invariant.within, length-take c.in-Ok.count c.read.new.buf, c.in-Ok.ensures.fits))
+    c.in_default-carry_piece.ensures.ok
+
+pub loop-reads-preserved : goal.loop-reads-preserved
+loop-reads-preserved g c =
+    let so_far = c.loop-reads.invariant.so_far in
+    let n = c.min-in-loop-reads.result in
+    let same : c.in-Ok.count ≡ n = omega (arith, c.min-in-loop-reads.ensures, c.if-count-room.false) in
+    let P : ℕ → Type 0 = λ k. Consumes (g.S.Source.left c.loop-reads.source) (g.S.Source.left c.read.new.self) (take k c.read.new.buf) in
+    let size : length (take n c.read.new.buf) ≡ c.in-Ok.count = omega (arith, same, length-take n c.read.new.buf, c.in-Ok.ensures.fits) in
+    record {
+      so_far = so_far-next g.K.Ord.cmp g.K.Key.matching g.K.Key.reading g.K.Key.printed
+          (g.S.Source.left c.args.source.now) (g.T.Sink.written c.args.sink.now) (g.S.Source.left c.loop-reads.source) (g.T.Sink.written c.loop-reads.sink) (g.S.Source.left c.read.new.self) (g.T.Sink.written c.carry_piece.new.sink)
+          c.loop-reads.run.fabric c.carry_piece.new.run.fabric c.loop-reads.run.report c.carry_piece.new.run.report c.loop-reads.feeder c.carry_piece.new.feeder c.loop-reads.total c.in-Ok.count
+          (take n c.read.new.buf) so_far (subst P same c.in-Ok.ensures.given) size c.in_default-carry_piece.ensures.ok c.in_default-carry_piece.ensures.rest;
+      empty = c.in_default-carry_piece.ensures.empty;
+      within = omega (arith, c.if-count-room.false, c.loop-reads.invariant.within);
+      reads = omega (arith, c.if-prove.false);
+      lines = omega (arith, c.in_default-carry_piece.ensures.lines, c.loop-reads.invariant.lines, size);
+      range = c.in_default-carry_piece.ensures.range;
+      read_faults = omega (arith, c.loop-reads.invariant.read_faults, c.read.ensures.count);
+      write_faults = omega (arith, c.loop-reads.invariant.write_faults, c.carry_piece.ensures.count);
+    }

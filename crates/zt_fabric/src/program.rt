@@ -1,0 +1,58 @@
+//! What the program does with its words.
+ghost use Rattle.std.specs.Prelude.{◌≡◌, true, false, map, string_bytes, Result};
+ghost use Rattle.zt_protocol.specs.declared.entries.Report.{Report};
+ghost use Rattle.zt_protocol.specs.declared.errors.RunError.{RunError};
+ghost use Rattle.zt_fabric.specs.Transcripts.{Answers, ask_to_run, status_of, streams};
+
+use crate::running::run;
+use std::alloc::Global;
+use zt_keys::{Key, KeyExpr};
+use zt_protocol::{Report, RunError};
+use zt_streams::{Sink, Source};
+
+// The status of a program whose words ask for nothing that it does.
+const UNKNOWN_WORDS: u8 = 64;
+
+/// All that the program does: with no word, or the one word `run`, it carries out the script that
+/// the source gives. The result is its status: 0 where the whole transcript was written, 1 to 5 for
+/// a bad line, a script that is too long, a fault of the source, a fault of the sink and want of
+/// memory. With other words it is 64, and nothing is read or written.
+pub fn tool<S: Source, T: Sink>(alloc: Global, words: &[String], source: &mut S, sink: &mut T) -> u8
+    ensures runs { ask_to_run (map string_bytes words.now) ≡ true → (answer : Result Report RunError) × (result ≡ status_of answer)
+        × Answers ⟦<KeyExpr as Ord>⟧.cmp ⟦<KeyExpr as Key>⟧.matching ⟦<KeyExpr as Key>⟧.reading ⟦<KeyExpr as Key>⟧.printed
+        (streams (S.left source.old) (S.faults source.old) (T.written sink.old) (T.faults sink.old))
+        (streams (S.left source.new) (S.faults source.new) (T.written sink.new) (T.faults sink.new)) answer }
+    ensures unknown { ask_to_run (map string_bytes words.now) ≡ false → result ≡ 64 }
+    ensures unread { ask_to_run (map string_bytes words.now) ≡ false → source.new ≡ source.old }
+    ensures unwritten { ask_to_run (map string_bytes words.now) ≡ false → sink.new ≡ sink.old }
+{
+    if !asks_to_run(words) {
+        return UNKNOWN_WORDS;
+    }
+    let answer = run::<KeyExpr, S, T>(alloc, source, sink);
+    status(&answer)
+}
+
+// Whether there is no word, or the one word `run`.
+fn asks_to_run(words: &[String]) -> bool
+    ensures { result ≡ ask_to_run (map string_bytes words.now) }
+{
+    match words {
+        [] => true,
+        [word] => word.as_str() == "run",
+        _ => false,
+    }
+}
+
+fn status(answer: &Result<Report, RunError>) -> u8
+    ensures { result ≡ status_of answer.now }
+{
+    match answer {
+        Ok(_) => 0,
+        Err(RunError::BadLine(_)) => 1,
+        Err(RunError::TooLong) => 2,
+        Err(RunError::ReadFault) => 3,
+        Err(RunError::WriteFault) => 4,
+        Err(RunError::Alloc) => 5,
+    }
+}
