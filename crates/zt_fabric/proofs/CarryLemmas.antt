@@ -1,5 +1,5 @@
 -- Carrying out lines one after another.
-use Rattle.std.proofs.Common.{◌≡◌, ◌≢◌, ℕ, suc, ◌+◌, ◌*◌, ◌<◌, ◌≤◌, Bool, true, false, List, [], ◌∷◌, ◌++◌, length, map, sum_by, Option, Some, None, Result, Ok, Err, refl, sym, ap, subst, ◌∙◌, arith, add-zero, add_assoc, append_assoc, append-nil, length-append, take, if◌then◌else◌, is_ok, is_err, OnErr}
+use Rattle.std.proofs.Common.{◌≡◌, ◌≢◌, ℕ, suc, ◌+◌, ◌≤◌, Bool, true, false, List, [], ◌∷◌, ◌++◌, length, map, Option, Some, Result, Ok, Err, refl, sym, ap, subst, ◌∙◌, arith, add-zero, add_assoc, append_assoc, append-nil, length-append, take, if◌then◌else◌, is_ok, is_err, OnErr}
 use Rattle.std.specs.declared.cmp.Ordering.{Ordering}
 use Rattle.std.proofs.lemmas.List.{map-append, length-map}
 use Rattle.std.proofs.lemmas.List.Sums.{sum_by-append}
@@ -17,9 +17,9 @@ use Rattle.zt_wire.specs.Reading.{line_read}
 use Rattle.zt_wire.specs.Text.{entry_text, report_text}
 use Rattle.zt_model.specs.Fabric.{Fabric, entries_from, entry_of, fabric_after}
 use Rattle.zt_model.specs.Sessions.{is_session_line}
-use Rattle.zt_model.specs.Transcript.{messages_in, refusals_in, report_of}
+use Rattle.zt_model.specs.Transcript.{messages_in, refusals_in}
 use Rattle.zt_fabric.specs.Transcripts.{entries_text}
-use Rattle.zt_fabric.specs.Carrying.{Carries, EndsInPart, LineStops, Shows, Stops, StopsBehind, StopsWriting, Writes, WritesUntil, fabric_from, no_totals, with_entries, with_entry}
+use Rattle.zt_fabric.specs.Carrying.{Carries, EndsInPart, LineStops, Shows, Stops, StopsBehind, StopsWriting, Writes, WritesUntil, fabric_from, with_entries, with_entry}
 
 -- ---- totals
 

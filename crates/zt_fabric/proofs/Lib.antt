@@ -1,3 +1,4 @@
 pub mod FirstIds
 pub mod CarryLemmas
 pub mod RunLemmas
+pub mod CompleteLemmas

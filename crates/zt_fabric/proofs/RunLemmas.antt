@@ -1,5 +1,5 @@
 -- A run, piece by piece.
-use Rattle.std.proofs.Common.{◌≡◌, ◌≢◌, ◌⊎◌, ℕ, suc, ◌+◌, ◌-◌, ◌*◌, ◌^◌, ◌<◌, ◌≤◌, min, Bool, true, false, List, [], ◌∷◌, ◌++◌, length, take, drop, map, sum_by, Option, Some, None, Result, Ok, Err, is_err, inl, inr, refl, sym, ap, subst, ◌∙◌, arith, zero-add, append_assoc, append-nil, length-append, take-append-drop, IfOk, IfErr}
+use Rattle.std.proofs.Common.{◌≡◌, ◌⊎◌, ℕ, ◌+◌, ◌-◌, ◌<◌, ◌≤◌, min, Bool, List, [], ◌∷◌, ◌++◌, length, take, drop, Option, Result, Ok, Err, inl, inr, refl, sym, ap, subst, ◌∙◌, arith, zero-add, append_assoc, append-nil, length-append, take-append-drop, IfOk, IfErr}
 use Rattle.std.specs.declared.cmp.Ordering.{Ordering}
 use Rattle.std.specs.Io.KnownBytes.{Appends, Consumes, IsAtEnd, Keeps}
 use Rattle.std.proofs.KnownBytes.{Appends-nil, Appends-trans, Consumes-kept, Consumes-nil, Consumes-trans}
@@ -7,21 +7,20 @@ use Rattle.std.proofs.lemmas.List.{length-take, take-take, take_all}
 use Rattle.std.proofs.Math.Seq.{take-append-add}
 use Rattle.std.proofs.lemmas.Bool.{cases_lt}
 use Rattle.zt_keys.specs.declared.error.KeyError.{KeyError}
-use Rattle.zt_streams.specs.Streams.{AppendsPart, HasRisen}
+use Rattle.zt_streams.specs.Streams.{HasRisen}
 use Rattle.zt_streams.specs.Lines.{last_line, lines_of, rest_of, whole_lines}
-use Rattle.zt_streams.proofs.LineLemmas.{lines_of-parts, rest_of-append, rest_of-rest_of, whole_lines-append, whole_lines-rest_of}
+use Rattle.zt_streams.proofs.LineLemmas.{lines_of-parts, rest_of-append, rest_of-rest_of, whole_lines-append}
 use Rattle.zt_protocol.specs.Plain.{PlainEntry, PlainLine}
 use Rattle.zt_protocol.specs.declared.entries.Report.{Report}
 use Rattle.zt_protocol.specs.declared.errors.RunError.{RunError}
 use Rattle.zt_protocol.specs.declared.errors.RunError.TheVariants as errors
-use Rattle.zt_wire.specs.Reading.{line_read}
-use Rattle.zt_wire.specs.Text.{entry_text, report_text}
+use Rattle.zt_wire.specs.Text.{report_text}
 use Rattle.zt_model.specs.Fabric.{Fabric, empty_fabric, entries_from}
 use Rattle.zt_model.specs.Sessions.{is_session_line}
 use Rattle.zt_model.specs.Transcript.{Each, IsFaithfulFrom, report_of}
 use Rattle.zt_laws.specs.Sound.{HasFirstIds}
-use Rattle.zt_fabric.specs.Transcripts.{Answers, BeginsWith, FailedToRead, FailedToWrite, FoundABadLine, FoundTooMuch, IsTranscript, LackedMemory, RanToItsEnd, entries_text, most_bytes, streams}
-use Rattle.zt_fabric.specs.Carrying.{Carries, Ends, EndsInPart, Shows, StopsBehind, StopsWriting, Writes, WritesUntil, fabric_from, no_totals, with_entries}
+use Rattle.zt_fabric.specs.Transcripts.{Answers, BeginsWith, FailedToRead, FailedToWrite, FoundTooMuch, IsTranscript, RanToItsEnd, entries_text, most_bytes, streams}
+use Rattle.zt_fabric.specs.Carrying.{Carries, Ends, EndsInPart, Shows, StopsWriting, Writes, WritesUntil, no_totals, with_entries}
 use Rattle.zt_fabric.proofs.FirstIds.{first_ids_of}
 use Rattle.zt_fabric.proofs.CarryLemmas.{carries-behind, carries-none, carries-then, lines_read, same_totals, shows-carried, shows-then}
 

@@ -1,5 +1,5 @@
 -- What a run of a script reads, writes and answers.
-use Rattle.std.specs.Prelude.{◌≡◌, ◌⊎◌, ℕ, Bool, true, false, ◌+◌, ◌<◌, ◌≤◌, ◌&&◌, List, [], ◌∷◌, ◌++◌, length, take, map, codes, Option, Result, Ok, Err, is_err}
+use Rattle.std.specs.Prelude.{◌≡◌, ◌⊎◌, ℕ, Bool, true, false, ◌+◌, ◌<◌, ◌≤◌, List, [], ◌∷◌, ◌++◌, length, take, map, codes, Option, Some, Result, Ok, Err, is_err}
 use Rattle.std.specs.Str.{bytes_eq}
 use Rattle.std.specs.declared.cmp.Ordering.{Ordering}
 use Rattle.std.specs.Io.KnownBytes.{Appends, Consumes, IsAtEnd}
@@ -138,6 +138,20 @@ module _ {K : Type 0} (cmp : K → K → Ordering) (matching : K → K → Bool)
   Answers old new (Err errors.ReadFault) = FailedToRead old new
   Answers old new (Err errors.WriteFault) = FailedToWrite old new
   Answers old new (Err errors.Alloc) = LackedMemory old new
+
+-- a script of at most 2^20 bytes, each line of which is one of the grammar
+pub record IsComplete {K : Type 0} (reading : List ℕ → Result K KeyError) (script : List ℕ) : Type 0 where
+  pub fits : length script ≤ most_bytes
+  pub lines : List (PlainLine K)
+  pub are_read : map (line_read reading) (lines_of script) ≡ map (λ line. Ok line) lines
+
+-- no fault came between
+abbrev pub HasNoFault : Streams → Streams → Type 0
+HasNoFault old new = ¬ HasRisen old.read_faults new.read_faults × ¬ HasRisen old.write_faults new.write_faults
+
+-- the source tells its bytes, they are a complete script, and neither stream failed
+abbrev pub GivesComplete : {K : Type 0} → (List ℕ → Result K KeyError) → Streams → Streams → Type 0
+GivesComplete reading old new = (script : List ℕ) × (old.left ≡ Some script) × IsComplete reading script × HasNoFault old new
 
 -- the status that a program ends with after a run
 abbrev pub status_of : Result Report RunError → ℕ

@@ -1,8 +1,8 @@
 //! A whole run, from the bytes of a script to those of its transcript.
-ghost use Rattle.std.specs.Prelude.{◌≡◌, ◌⊎◌, ◌+◌, ◌≤◌, [], length, IfOk, IfErr, string_bytes};
+ghost use Rattle.std.specs.Prelude.{◌≡◌, ◌⊎◌, ◌+◌, ◌≤◌, [], length, IfOk, IfErr, IsOkUnless, string_bytes};
 ghost use Rattle.zt_streams.specs.Lines.{whole_lines, rest_of, last_line};
 ghost use Rattle.zt_fabric.specs.Carrying.{Ends, EndsInPart, IsInRange, StopsWriting};
-ghost use Rattle.zt_fabric.specs.Transcripts.{Answers, streams};
+ghost use Rattle.zt_fabric.specs.Transcripts.{Answers, GivesComplete, streams};
 
 use crate::carrying::{Progress, carry_end, carry_piece, flush};
 use std::alloc::Global;
@@ -52,6 +52,9 @@ fn finish<K: Key, T: Sink>(
 /// one byte too many is there, and keeps no more of the script than the unfinished line and one
 /// piece of 4,096 bytes.
 ///
+/// A complete script, one of at most 2^20 bytes in which each line is of the grammar, is carried
+/// out to its end unless memory runs out or a stream fails.
+///
 /// Before `BadLine`, `TooLong` and `ReadFault` the entries of all lines before were written, before
 /// `Alloc` those of the first lines, and before `WriteFault` a part of the transcript.
 pub fn run<K: Key, S: Source, T: Sink>(
@@ -59,9 +62,12 @@ pub fn run<K: Key, S: Source, T: Sink>(
     source: &mut S,
     sink: &mut T,
 ) -> Result<Report, RunError>
-    ensures { Answers K.cmp K.matching K.reading K.printed
+    ensures answers { Answers K.cmp K.matching K.reading K.printed
         (streams (S.left source.old) (S.faults source.old) (T.written sink.old) (T.faults sink.old))
         (streams (S.left source.new) (S.faults source.new) (T.written sink.new) (T.faults sink.new)) result }
+    ensures complete { GivesComplete K.reading
+        (streams (S.left source.old) (S.faults source.old) (T.written sink.old) (T.faults sink.old))
+        (streams (S.left source.new) (S.faults source.new) (T.written sink.new) (T.faults sink.new)) → IsOkUnless result RunError.Alloc }
 {
     let mut feeder = Feeder::new(alloc);
     let mut run = Progress {

@@ -25,7 +25,7 @@ unfoldable pub first_cause : Causes → Option Refusal
 first_cause [] = None
 first_cause (cause ∷ causes) = if cause.0 then Some cause.1 else first_cause causes
 
--- all numbers of gateways, links or faces are given out
+-- the greatest number that a gateway, link or face, and the greatest id that a token can have
 abbrev pub GREATEST_NUMBER : ℕ
 GREATEST_NUMBER = 4294967295
 

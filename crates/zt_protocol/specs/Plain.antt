@@ -64,7 +64,6 @@ pub data PlainLine (K : Type 0) : Type 0 where
   Speak : (call : PlainCall K) → PlainLine K
   Moment : (gateway now : ℕ) → PlainLine K
   SetTreesAt : (gateway : ℕ) (region : Region) (table : Trees) → PlainLine K
-  Unbuilt : PlainLine K
 
 abbrev pub plain_line : {K : Type 0} → Line K → PlainLine K
 plain_line (line.Gateway mode zid regions south name timeout refuse) = Gateway mode zid regions.items (plain_south south) (option_map string_bytes name) timeout refuse.refused.items
@@ -76,7 +75,6 @@ plain_line (line.Step link back) = Step link back
 plain_line (line.Speak call) = Speak (plain_call call)
 plain_line (line.Moment gateway now) = Moment gateway now
 plain_line (line.Trees gateway region table) = SetTreesAt gateway region (trees_of table)
-plain_line line.Unbuilt = Unbuilt
 
 -- what a line came to: its messages, or why it was refused
 abbrev pub PlainEntry : Type 0 → Type 0

@@ -58,6 +58,4 @@ pub enum Line<K> {
         region: Region,
         table: TreeTable,
     },
-    /// A line of a kind that isn't built yet. It is refused as `NotBuilt`.
-    Unbuilt,
 }

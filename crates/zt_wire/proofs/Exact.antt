@@ -1,15 +1,14 @@
 -- What values are read from is what the grammar says of their texts.
-use Rattle.std.proofs.Common.{◌≡◌, ◌≢◌, ◌⊎◌, inl, inr, ℕ, zero, suc, ◌+◌, ◌*◌, ◌-◌, ◌<◌, ◌≤◌, ◌^◌, Bool, true, false, cond, not, eqb, leb, ltb, List, [], ◌∷◌, ◌++◌, length, get_or, Option, Some, None, Result, Ok, Err, refl, sym, ap, subst, ◌∙◌, arith, rules}
-use Rattle.std.proofs.lemmas.Bool.{cond-true, cond-false, eqb-true, eq-eqb, and_from, and_parts}
+use Rattle.std.proofs.Common.{◌≡◌, ◌⊎◌, inl, inr, ℕ, zero, suc, ◌+◌, ◌*◌, ◌-◌, ◌<◌, ◌≤◌, ◌^◌, Bool, true, false, cond, eqb, leb, List, [], ◌∷◌, length, get_or, Option, Some, None, Result, Ok, refl, sym, ap, subst, ◌∙◌, arith}
+use Rattle.std.proofs.lemmas.Bool.{cond-true, cond-false, and_from, and_parts}
 use Rattle.std.proofs.lemmas.Bool.Decides.{nat_tests}
 use Rattle.std.proofs.lemmas.Slice.Eq.{bytes_eq-Decides}
 use Rattle.std.proofs.lemmas.Fmt.{decimal-digits_value, digits_decimal, digits_value-decimal, decimal_digit, decimal_nonempty, first_decimal}
 use Rattle.std.proofs.lemmas.Str.Parse.{IsNumeralModel, numerals_by_fold, tells_all_ascii_digits}
-use Rattle.std.specs.Prelude.{codes, decimal, option_and_then, option_map}
+use Rattle.std.specs.Prelude.{codes, decimal}
 use Rattle.std.specs.Char.{is_ascii_digit}
 use Rattle.std.specs.Str.{bytes_eq, all_ascii_digits}
 use Rattle.zt_protocol.specs.declared.errors.LineError.{LineError}
-use Rattle.zt_protocol.specs.declared.errors.LineError.TheVariants as errors
 use Rattle.zt_region.specs.declared.region.WhatAmI.{WhatAmI}
 use Rattle.zt_region.specs.declared.region.WhatAmI.TheVariants.{Router, Peer, Client}
 use Rattle.zt_region.specs.declared.region.Bound.{Bound}
@@ -18,10 +17,10 @@ use Rattle.zt_protocol.specs.declared.interests.InterestMode.{InterestMode}
 use Rattle.zt_protocol.specs.declared.interests.InterestMode.TheVariants.{Current, Future, CurrentFuture}
 use Rattle.zt_wire.specs.Numbers.{digits_after, decimal_value, is_unwritten, up_to, number_up_to, u16_of, u32_of, u64_of}
 use Rattle.zt_wire.specs.Fields.{or_bad, spelled_by}
-use Rattle.zt_wire.specs.Values.{mode_of, bound_of, direction_of, interest_mode_of, first_of}
+use Rattle.zt_wire.specs.Values.{mode_of, bound_of, direction_of, interest_mode_of}
 use Rattle.zt_wire.specs.Items.{flag_of}
 use Rattle.zt_wire.specs.Text.{interest_mode_text, flag_text}
-use Rattle.zt_wire.specs.Grammar.{IsNumber, IsU16, IsU32, IsU64, IsFirst, mode_text, IsMode, bound_text, IsBound, direction_text, IsDirection, IsInterestMode, IsFlag}
+use Rattle.zt_wire.specs.Grammar.{IsNumber, IsU16, IsU32, IsU64, mode_text, IsMode, bound_text, IsBound, direction_text, IsDirection, IsInterestMode, IsFlag}
 
 -- reading answers exactly where the grammar has the value
 pub record Exact {A : Type 0} (read : List ℕ → Result A LineError) (Is : List ℕ → A → Type 0) : Type 0 where

@@ -1,6 +1,6 @@
 -- The same of lists, pairs and triples, and of fields that may be absent.
-use Rattle.std.proofs.Common.{◌≡◌, ◌≢◌, ◌⊎◌, inl, inr, ℕ, Bool, true, false, cond, List, [], ◌∷◌, ◌++◌, Option, Some, None, Result, Ok, Err, refl, sym, ap, subst, ◌∙◌, append_assoc}
-use Rattle.std.proofs.lemmas.Bool.{cond-true, cond-false, and_from, and_parts}
+use Rattle.std.proofs.Common.{◌≡◌, inl, inr, ℕ, true, List, [], ◌∷◌, ◌++◌, Option, Some, None, Result, Ok, Err, refl, sym, ap, subst, ◌∙◌}
+use Rattle.std.proofs.lemmas.Bool.{cond-true}
 use Rattle.std.proofs.lemmas.List.{append-nil}
 use Rattle.std.specs.Prelude.{option_and_then, option_map}
 use Rattle.std.specs.List.{list_all, AllByRecursion}
@@ -8,7 +8,7 @@ use Rattle.zt_region.specs.declared.region.Region.{Region}
 use Rattle.zt_region.specs.declared.region.Region.TheVariants.{North, Local, South}
 use Rattle.zt_protocol.specs.declared.errors.LineError.{LineError}
 use Rattle.zt_protocol.specs.declared.errors.LineError.TheVariants as errors
-use Rattle.zt_wire.specs.Fields.{◌>>=◌, or_bad, spelled_by, Fields, parts_of, two_of, three_of, behind, field_at, end_at, optional_at, optional_by, optional_value, value_at, optional_value_at}
+use Rattle.zt_wire.specs.Fields.{or_bad, spelled_by, Fields, parts_of, two_of, three_of, behind, end_at, optional_at, optional_by, optional_value, value_at, optional_value_at}
 use Rattle.zt_wire.specs.Lists.{region_of, pair_by, pair_of, triple_by, triple_of, each_read, list_read, is_south, south_regions_read}
 use Rattle.zt_wire.specs.Grammar.{EachIs, IsList, IsPair, IsTriple, IsRegion, IsSouth, AreSouthRegions, MayStand}
 use Rattle.zt_wire.proofs.FieldLemmas.{behind_of, behind_is}
@@ -49,13 +49,13 @@ pair_are {A} {B} one two (Some (a, b)) x h =
 pub exact_pair : {A B : Type 0} (one : List ℕ → Option A) (two : List ℕ → Option B) (One : List ℕ → A → Type 0) (Two : List ℕ → B → Type 0) → Exact (spelled_by one) One → Exact (spelled_by two) Two → Exact (spelled_by (pair_of one two)) (IsPair One Two)
 exact_pair {A} {B} one two One Two first second = by_option (pair_of one two) (IsPair One Two)
     (λ text x h.
-      let p = pair_are one two (two_of (parts_of 58 text)) x h in
-      (p.0, p.1, two_is (parts_of 58 text) (p.0, p.1) p.2, first.sound p.0 x.0 (ap or_bad p.3), second.sound p.1 x.1 (ap or_bad p.4)))
+    let p = pair_are one two (two_of (parts_of 58 text)) x h in
+    (p.0, p.1, two_is (parts_of 58 text) (p.0, p.1) p.2, first.sound p.0 x.0 (ap or_bad p.3), second.sound p.1 x.1 (ap or_bad p.4)))
     (λ text x h.
-      let a = or_bad_ok (one h.0) x.0 (first.complete h.0 x.0 h.3) in
-      let b = or_bad_ok (two h.1) x.1 (second.complete h.1 x.1 h.4) in
-      let read : pair_by one two (Some (h.0, h.1)) ≡ Some x = rw (a, b) refl in
-      ap (λ (parts : List (List ℕ)). pair_by one two (two_of parts)) h.2 ∙ read)
+    let a = or_bad_ok (one h.0) x.0 (first.complete h.0 x.0 h.3) in
+    let b = or_bad_ok (two h.1) x.1 (second.complete h.1 x.1 h.4) in
+    let read : pair_by one two (Some (h.0, h.1)) ≡ Some x = rw (a, b) refl in
+    ap (λ (parts : List (List ℕ)). pair_by one two (two_of parts)) h.2 ∙ read)
 
 three_is : (parts : List (List ℕ)) (x : List ℕ × List ℕ × List ℕ) → three_of parts ≡ Some x → parts ≡ x.0 ∷ x.1 ∷ x.2 ∷ []
 three_is [] x h = absurd cc
@@ -77,14 +77,14 @@ pub exact_triple : {A B C : Type 0} (one : List ℕ → Option A) (two : List �
     → Exact (spelled_by one) One → Exact (spelled_by two) Two → Exact (spelled_by three) Three → Exact (spelled_by (triple_of one two three)) (IsTriple One Two Three)
 exact_triple one two three One Two Three first second third = by_option (triple_of one two three) (IsTriple One Two Three)
     (λ text x h.
-      let p = triple_are one two three (three_of (parts_of 58 text)) x h in
-      (p.0, p.1, p.2, three_is (parts_of 58 text) (p.0, p.1, p.2) p.3, first.sound p.0 x.0 (ap or_bad p.4), second.sound p.1 x.1 (ap or_bad p.5), third.sound p.2 x.2 (ap or_bad p.6)))
+    let p = triple_are one two three (three_of (parts_of 58 text)) x h in
+    (p.0, p.1, p.2, three_is (parts_of 58 text) (p.0, p.1, p.2) p.3, first.sound p.0 x.0 (ap or_bad p.4), second.sound p.1 x.1 (ap or_bad p.5), third.sound p.2 x.2 (ap or_bad p.6)))
     (λ text x h.
-      let a = or_bad_ok (one h.0) x.0 (first.complete h.0 x.0 h.4) in
-      let b = or_bad_ok (two h.1) x.1 (second.complete h.1 x.1 h.5) in
-      let c = or_bad_ok (three h.2) x.2 (third.complete h.2 x.2 h.6) in
-      let read : triple_by one two three (Some (h.0, h.1, h.2)) ≡ Some x = rw (a, b, c) refl in
-      ap (λ (parts : List (List ℕ)). triple_by one two three (three_of parts)) h.3 ∙ read)
+    let a = or_bad_ok (one h.0) x.0 (first.complete h.0 x.0 h.4) in
+    let b = or_bad_ok (two h.1) x.1 (second.complete h.1 x.1 h.5) in
+    let c = or_bad_ok (three h.2) x.2 (third.complete h.2 x.2 h.6) in
+    let read : triple_by one two three (Some (h.0, h.1, h.2)) ≡ Some x = rw (a, b, c) refl in
+    ap (λ (parts : List (List ℕ)). triple_by one two three (three_of parts)) h.3 ∙ read)
 
 -- ---- south regions
 

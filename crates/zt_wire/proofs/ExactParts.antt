@@ -1,12 +1,12 @@
 -- The same of zids, options, keys, names and regions.
-use Rattle.std.proofs.Common.{◌≡◌, ◌≢◌, ◌⊎◌, inl, inr, ℕ, zero, suc, ◌+◌, ◌*◌, ◌-◌, ◌<◌, ◌≤◌, ◌^◌, Bool, true, false, cond, not, eqb, leb, ltb, List, [], ◌∷◌, ◌++◌, length, get_or, Option, Some, None, Result, Ok, Err, refl, sym, ap, subst, ◌∙◌, arith, rules, append_assoc}
+use Rattle.std.proofs.Common.{◌≡◌, ◌≢◌, ◌⊎◌, inl, inr, ℕ, zero, suc, ◌+◌, ◌*◌, ◌<◌, ◌≤◌, ◌^◌, Bool, true, false, cond, not, eqb, List, [], ◌∷◌, ◌++◌, length, Option, Some, None, Result, Ok, Err, refl, sym, ap, subst, ◌∙◌, arith, append_assoc}
 use Rattle.std.proofs.Math.Nat.{pow-le-pow_right, pow-succ', add-mul, mul_assoc, mul-le-mul_right, one-mul}
 use Rattle.std.proofs.lemmas.Bool.{cond-true, cond-false, cases_lt, eqb-true, eq-eqb, and_from, and_parts}
 use Rattle.std.proofs.lemmas.Bool.Decides.{nat_tests}
 use Rattle.std.proofs.lemmas.Int.Digits.{digits_value-lt}
 use Rattle.std.proofs.lemmas.List.{append-nil}
 use Rattle.std.proofs.lemmas.List.Folds.{list_any_none}
-use Rattle.std.proofs.lemmas.List.Elements.{All-nil, All-cons, All-from_recursion, recursion_from_All}
+use Rattle.std.proofs.lemmas.List.Elements.{All-nil, All-cons}
 use Rattle.std.specs.Prelude.{◌&&◌, ◌||◌, ◌==◌, nat_le, nat_lt, codes, option_and_then, option_map, All}
 use Rattle.std.specs.Char.{is_ascii_digit, digit_value}
 use Rattle.std.specs.Int.{IsInRange, is_in_range}
@@ -20,7 +20,6 @@ use Rattle.zt_region.specs.declared.region.WhatAmI.{WhatAmI}
 use Rattle.zt_region.specs.declared.region.Zid.{Zid}
 use Rattle.zt_region.specs.declared.region.Region.{Region}
 use Rattle.zt_region.specs.declared.region.Region.TheVariants.{North, Local, South}
-use Rattle.zt_protocol.specs.declared.errors.LineError.{LineError}
 use Rattle.zt_protocol.specs.declared.errors.LineError.TheVariants as errors
 use Rattle.zt_protocol.specs.declared.interests.InterestOptions.{InterestOptions}
 use Rattle.zt_wire.specs.Numbers.{digits_after, is_hex_digit, hex_value, begins_with_zero, up_to, hex_number, u128_max, u32_of}
@@ -28,11 +27,11 @@ use Rattle.zt_wire.specs.Fields.{or_bad, spelled_by, parts_of, two_of, behind}
 use Rattle.zt_wire.specs.Values.{mode_of, zid_of, letter_bit, letters_after, options_of, first_of, is_key_text, key_or_bad, key_read}
 use Rattle.zt_wire.specs.Lists.{region_of, south_of, south_parts, is_word_byte, is_word, name_of}
 use Rattle.zt_wire.specs.Text.{letters_of, options_text}
-use Rattle.zt_wire.specs.Grammar.{IsU32, IsFirst, IsMode, mode_text, IsHexDigit, IsZid, IsOptions, IsRegion, IsKey, IsWordByte, IsName}
-use Rattle.zt_wire.proofs.FieldLemmas.{behind_of, behind_is}
+use Rattle.zt_wire.specs.Grammar.{IsFirst, IsHexDigit, IsZid, IsOptions, IsRegion, IsKey, IsWordByte, IsName}
+use Rattle.zt_wire.proofs.FieldLemmas.{behind_is}
 use Rattle.zt_wire.proofs.NumberLemmas.{some_up_to}
 use Rattle.zt_wire.proofs.ItemLemmas.{ok_is}
-use Rattle.zt_wire.proofs.Exact.{Exact, some, some_is, or_bad_ok, by_option, chosen, same_bytes, bytes_same, row, up_to_ok, exact_u32, exact_mode}
+use Rattle.zt_wire.proofs.Exact.{Exact, some, some_is, or_bad_ok, by_option, chosen, same_bytes, row, up_to_ok, exact_u32, exact_mode}
 
 -- ---- tests of all small numbers
 
@@ -357,7 +356,7 @@ region_sound : (text : List ℕ) (region : Region) → region_of text ≡ Some r
 unfolding region_of
 region_sound text region =
     row (IsRegion text) text (codes "north") North _ region (λ e. e)
-      (row (IsRegion text) text (codes "local") Local _ region (λ e. e) (south_sound text region))
+    (row (IsRegion text) text (codes "local") Local _ region (λ e. e) (south_sound text region))
 
 region_complete : (text : List ℕ) (region : Region) → IsRegion text region → region_of text ≡ Some region
 unfolding region_of
@@ -398,10 +397,10 @@ added b k bit small table same bits lt =
 letter_adds : (b bit : ℕ) → letter_bit b ≡ Some bit → Adds b bit
 letter_adds b bit =
     nat_row (Adds b) b 107 1 _ bit (added b 107 1 (omega arith) refl)
-      (nat_row (Adds b) b 115 2 _ bit (added b 115 2 (omega arith) refl)
-        (nat_row (Adds b) b 113 4 _ bit (added b 113 4 (omega arith) refl)
-          (nat_row (Adds b) b 116 8 _ bit (added b 116 8 (omega arith) refl)
-            (nat_row (Adds b) b 97 16 _ bit (added b 97 16 (omega arith) refl) (λ h. absurd cc)))))
+    (nat_row (Adds b) b 115 2 _ bit (added b 115 2 (omega arith) refl)
+    (nat_row (Adds b) b 113 4 _ bit (added b 113 4 (omega arith) refl)
+    (nat_row (Adds b) b 116 8 _ bit (added b 116 8 (omega arith) refl)
+    (nat_row (Adds b) b 97 16 _ bit (added b 97 16 (omega arith) refl) (λ h. absurd cc)))))
 
 letters_are : (bits out : ℕ) (text : List ℕ) → bits < 32 → letters_after bits text ≡ Some out → (letters bits ++ text ≡ letters out) × (out < 32)
 letters_are bits out [] small h = let e = some_is bits out h in (append-nil (letters bits) ∙ ap letters e, omega (arith, e, small))

@@ -1,5 +1,5 @@
 -- The same of the configuration of the south, and of items.
-use Rattle.std.proofs.Common.{◌≡◌, ◌≢◌, ◌⊎◌, inl, inr, ℕ, zero, suc, ◌<◌, ◌≤◌, ◌+◌, Bool, true, false, cond, eqb, List, [], ◌∷◌, ◌++◌, length, Option, Some, None, Result, Ok, Err, refl, sym, ap, subst, ◌∙◌, arith}
+use Rattle.std.proofs.Common.{◌≡◌, ◌≢◌, inl, inr, ℕ, zero, suc, ◌<◌, ◌≤◌, Bool, true, false, cond, eqb, List, [], ◌∷◌, ◌++◌, length, Option, Some, None, Result, Ok, refl, sym, ap, subst, ◌∙◌, arith}
 use Rattle.std.proofs.lemmas.Bool.{cond-true, cond-false, eqb-true}
 use Rattle.std.specs.Prelude.{codes}
 use Rattle.std.specs.List.{onto_first}
@@ -9,19 +9,18 @@ use Rattle.zt_region.specs.declared.region.WhatAmI.{WhatAmI}
 use Rattle.zt_region.specs.declared.region.Zid.{Zid}
 use Rattle.zt_region.specs.South.{PlainFilter, PlainSubregion, PlainSouth}
 use Rattle.zt_protocol.specs.declared.errors.LineError.{LineError}
-use Rattle.zt_protocol.specs.declared.errors.LineError.TheVariants as errors
 use Rattle.zt_protocol.specs.declared.messages.QueryableInfo.{QueryableInfo}
 use Rattle.zt_wire.specs.declared.entities.Item.{Item}
 use Rattle.zt_wire.specs.declared.entities.Item.TheVariants.{Subscriber, Queryable}
 use Rattle.zt_wire.specs.Numbers.{u16_of}
-use Rattle.zt_wire.specs.Fields.{◌>>=◌, spelled_by, Fields, parts_of, is_byte, behind, field_at, end_at, value_at, optional_value_at}
+use Rattle.zt_wire.specs.Fields.{◌>>=◌, spelled_by, Fields, parts_of, behind, end_at, value_at, optional_value_at}
 use Rattle.zt_wire.specs.Values.{zid_of, mode_of, key_read}
 use Rattle.zt_wire.specs.Lists.{name_of, list_read, conditions_read, positive_read, filter_by, filter_read, subregion_read, south_read}
-use Rattle.zt_wire.specs.Items.{flag_of, subscriber_at, queryable_at, item_by, item_at, items_within, items_read, subscribers_of, queryables_of, entities_read}
+use Rattle.zt_wire.specs.Items.{flag_of, subscriber_at, queryable_at, item_at, items_within, items_read, subscribers_of, queryables_of, entities_read}
 use Rattle.zt_wire.specs.Grammar.{EachIs, IsList, IsZid, IsMode, IsName, IsU16, IsFlag, IsKey, MayStand, AreConditions, IsPositive, IsFilter, IsSubregion, IsSouthConf, AreTheItems, AreItems}
 use Rattle.zt_wire.proofs.FieldLemmas.{behind_of, behind_is, parts_some}
 use Rattle.zt_wire.proofs.ItemLemmas.{bind_ok, ok_is, items_step}
-use Rattle.zt_wire.proofs.Exact.{Exact, some_is, chosen, same_bytes, bytes_same, exact_mode, exact_u16, exact_flag}
+use Rattle.zt_wire.proofs.Exact.{Exact, chosen, same_bytes, bytes_same, exact_mode, exact_u16, exact_flag}
 use Rattle.zt_wire.proofs.ExactParts.{exact_zid, exact_name, exact_key}
 use Rattle.zt_wire.proofs.ExactLists.{exact_list, value_sound, value_complete, Absent, optional_sound, optional_complete, optional_last, absent_before, absent_last, end_sound, ended}
 
@@ -64,9 +63,11 @@ conditions_complete text f h =
     let made : PlainFilter = record { zids = f.zids; interfaces = None; modes = f.modes; region_names = f.region_names; negated = f.negated } in
     let same : made ≡ f = λ i. record { zids = f.zids; interfaces = (sym h.7) i; modes = f.modes; region_names = f.region_names; negated = f.negated } in
     ap (λ (t : Fields). optional_value_at (list_read (spelled_by zid_of) 43) (codes "zid:") t >>= λ zids. optional_value_at (list_read (spelled_by mode_of) 43) (codes "mode:") zids.1 >>= λ modes. optional_value_at (list_read (spelled_by name_of) 43) (codes "name:") modes.1 >>= λ names. end_at names.1 >>= λ end. Ok (record { zids = zids.0; interfaces = None; modes = modes.0; region_names = names.0; negated = f.negated })) h.3
-      ∙ rw (optional_complete (list_read (spelled_by zid_of) 43) (IsList IsZid 43) zids_exact (codes "zid:") x f.zids (y ++ z) h.4 zids_absent,
-            optional_complete (list_read (spelled_by mode_of) 43) (IsList IsMode 43) modes_exact (codes "mode:") y f.modes z h.5 modes_absent,
-            optional_last (list_read (spelled_by name_of) 43) (IsList IsName 43) names_exact (codes "name:") z f.region_names h.6) (ap (λ (g : PlainFilter). Ok g) same)
+    ∙ rw (
+      optional_complete (list_read (spelled_by zid_of) 43) (IsList IsZid 43) zids_exact (codes "zid:") x f.zids (y ++ z) h.4 zids_absent,
+      optional_complete (list_read (spelled_by mode_of) 43) (IsList IsMode 43) modes_exact (codes "mode:") y f.modes z h.5 modes_absent,
+      optional_last (list_read (spelled_by name_of) 43) (IsList IsName 43) names_exact (codes "name:") z f.region_names h.6,
+    ) (ap (λ (g : PlainFilter). Ok g) same)
 
 -- the first byte of the first part
 onto_is : (c b : ℕ) (parts others : Fields) (bs : List ℕ) → onto_first c parts ≡ (b ∷ bs) ∷ others → c ≡ b
@@ -260,7 +261,7 @@ queryable_sound {K} reading kind rest x k h =
     let w = value_sound (key_read reading) (IsKey reading) (exact_key reading) b.0.1 c.0 c.1 in
     let made : Item K = Queryable c.0.0 (record { complete = a.0.0; distance = b.0.0 }) in
     let fields : kind ∷ rest ≡ codes "q" ∷ u.0 ∷ v.0 ∷ w.0 ∷ c.0.1 =
-        ap (λ (t : List ℕ). t ∷ rest) k ∙ ap (λ (t : Fields). codes "q" ∷ t) (u.1 ∙ ap (λ (t : Fields). u.0 ∷ t) (v.1 ∙ ap (λ (t : Fields). v.0 ∷ t) w.1)) in
+    ap (λ (t : List ℕ). t ∷ rest) k ∙ ap (λ (t : Fields). codes "q" ∷ t) (u.1 ∙ ap (λ (t : Fields). u.0 ∷ t) (v.1 ∙ ap (λ (t : Fields). v.0 ∷ t) w.1)) in
     let found : IsItem reading (kind ∷ rest) made c.0.1 = (u.0, v.0, w.0, fields, u.2, v.2, w.2) in
     subst (λ (y : Item K × Fields). IsItem reading (kind ∷ rest) y.0 y.1) (ok_is (made, c.0.1) x c.2) found
 
@@ -271,9 +272,9 @@ item_sound reading (kind ∷ rest) x h =
     elim (chosen (bytes_eq kind (codes "s")) (subscriber_at reading rest) _ (Ok x) h) [
       | inl g ↦ subscriber_sound reading kind rest x (same_bytes kind (codes "s") g.0) g.1
       | inr g ↦ elim (chosen (bytes_eq kind (codes "q")) (queryable_at reading rest) _ (Ok x) g.1) [
-          | inl k ↦ queryable_sound reading kind rest x (same_bytes kind (codes "q") k.0) k.1
-          | inr k ↦ absurd cc
-        ]
+        | inl k ↦ queryable_sound reading kind rest x (same_bytes kind (codes "q") k.0) k.1
+        | inr k ↦ absurd cc
+      ]
     ]
 
 items_sound : {K : Type 0} (reading : List ℕ → Result K KeyError) (most : ℕ) (fields : Fields) (items : List (Item K)) → items_within reading most fields ≡ Ok items → AreTheItems reading fields items
@@ -285,7 +286,7 @@ items_sound reading (suc most) (field ∷ fields) items h =
     let a = bind_ok (item_at reading (field ∷ fields)) _ items h in
     let b = bind_ok (items_within reading most a.0.1) _ items a.2 in
     subst (AreTheItems reading (field ∷ fields)) (ok_is (a.0.0 ∷ b.0) items b.2)
-      (item_first reading (field ∷ fields) a.0.0 a.0.1 b.0 (item_sound reading (field ∷ fields) a.0 a.1) (items_sound reading most a.0.1 b.0 b.1))
+    (item_first reading (field ∷ fields) a.0.0 a.0.1 b.0 (item_sound reading (field ∷ fields) a.0 a.1) (items_sound reading most a.0.1 b.0 b.1))
 
 subscriber_complete : {K : Type 0} (reading : List ℕ → Result K KeyError) (text : List ℕ) (rest : Fields) (key : K) → IsKey reading text key → item_at reading (codes "s" ∷ text ∷ rest) ≡ Ok (Subscriber key, rest)
 unfolding item_at subscriber_at
@@ -295,9 +296,11 @@ queryable_complete : {K : Type 0} (reading : List ℕ → Result K KeyError) (c 
     → item_at reading (codes "q" ∷ c ∷ d ∷ text ∷ rest) ≡ Ok (Queryable key info, rest)
 unfolding item_at queryable_at
 queryable_complete reading c d text rest key info hc hd hk =
-    rw (value_complete (spelled_by flag_of) IsFlag exact_flag c (d ∷ text ∷ rest) info.complete hc,
-        value_complete (spelled_by u16_of) IsU16 exact_u16 d (text ∷ rest) info.distance hd,
-        value_complete (key_read reading) (IsKey reading) (exact_key reading) text rest key hk) refl
+    rw (
+      value_complete (spelled_by flag_of) IsFlag exact_flag c (d ∷ text ∷ rest) info.complete hc,
+      value_complete (spelled_by u16_of) IsU16 exact_u16 d (text ∷ rest) info.distance hd,
+      value_complete (key_read reading) (IsKey reading) (exact_key reading) text rest key hk,
+    ) refl
 
 items_complete : {K : Type 0} (reading : List ℕ → Result K KeyError) (fields : Fields) (items : List (Item K)) → AreTheItems reading fields items → items_read reading fields ≡ Ok items
 unfolding items_read items_within

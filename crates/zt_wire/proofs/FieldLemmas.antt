@@ -1,12 +1,11 @@
 -- Taking fields off the front of a line.
-use Rattle.std.proofs.Common.{◌≡◌, ◌≢◌, ℕ, ◌+◌, not, ◌<◌, Bool, true, false, cond, eqb, List, [], ◌∷◌, ◌++◌, length, take, drop, Option, Some, None, Result, Ok, Err, refl, sym, ap, subst, ◌∙◌, arith}
+use Rattle.std.proofs.Common.{◌≡◌, ◌≢◌, ℕ, ◌+◌, not, ◌<◌, Bool, true, false, cond, eqb, List, [], ◌∷◌, ◌++◌, length, Option, Some, None, Result, Ok, Err, refl, sym, ap, ◌∙◌, arith}
 use Rattle.std.proofs.lemmas.Bool.{eqb-true, eq-eqb}
-use Rattle.std.proofs.lemmas.List.Splits.{slice_split_first, slice_split_none}
-use Rattle.std.proofs.lemmas.List.Elements.{All-nil, All-cons}
+use Rattle.std.proofs.lemmas.List.Splits.{slice_split_first}
 use Rattle.std.proofs.Common.{Bor}
 use Rattle.std.specs.Prelude.{is_some}
 use Rattle.std.specs.Option.{option_copied}
-use Rattle.std.specs.List.{slice_split, prefix_len, onto_first, All, position_or_len, before_first, after_first}
+use Rattle.std.specs.List.{prefix_len, onto_first, position_or_len, before_first, after_first}
 use Rattle.zt_protocol.specs.declared.errors.LineError.{LineError}
 use Rattle.zt_protocol.specs.declared.errors.LineError.TheVariants as errors
 use Rattle.zt_wire.specs.Fields.{Fields, parts_of, parts_left, is_byte, end_at, two_of, three_of, behind}
@@ -26,7 +25,7 @@ pub end_of_text : (c : ℕ) (text : List ℕ) → end_at (parts_of c text) ≡ E
 end_of_text c [] = refl
 end_of_text c (b ∷ bs) =
     elim (is_byte c b) as (λ v. end_at (cond v ([] ∷ parts_of c bs) (onto_first b (parts_of c bs))) ≡ Err errors.NotInGrammar)
-      [ true ↦ refl | false ↦ onto_some b (parts_of c bs) ]
+    [ true ↦ refl | false ↦ onto_some b (parts_of c bs) ]
 
 pub part_at_separator : (c : ℕ) (text before after : List ℕ) → (before ≡ before_first (is_byte c) text) × (after ≡ after_first (is_byte c) text) × (position_or_len (is_byte c) text < length text)
     → parts_of c text ≡ before ∷ parts_of c after

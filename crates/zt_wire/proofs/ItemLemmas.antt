@@ -1,5 +1,5 @@
 -- Reading items, one after the other.
-use Rattle.std.proofs.Common.{◌≡◌, ℕ, zero, suc, ◌+◌, ◌<◌, ◌≤◌, Bool, true, false, cond, List, [], ◌∷◌, ◌++◌, Option, Some, None, Result, Ok, Err, refl, sym, ap, subst, ◌∙◌, append_assoc, length, arith, ◌⊎◌, inl, inr}
+use Rattle.std.proofs.Common.{◌≡◌, ℕ, zero, suc, ◌<◌, ◌≤◌, Bool, true, false, cond, List, [], ◌∷◌, ◌++◌, Result, Ok, Err, refl, sym, ap, ◌∙◌, append_assoc, length, arith, ◌⊎◌, inl, inr}
 use Rattle.std.proofs.lemmas.List.{append-nil}
 use Rattle.std.specs.Str.{bytes_eq}
 use Rattle.std.specs.Prelude.{codes}
@@ -73,9 +73,9 @@ item_shortens reading fields x e =
     elim (chosen (bytes_eq a.0.0 (codes "s")) (subscriber_at reading a.0.1) _ (Ok x) a.2) [
       | inl h ↦ omega (arith, s, subscriber_shortens reading a.0.1 x h.1)
       | inr h ↦ elim (chosen (bytes_eq a.0.0 (codes "q")) (queryable_at reading a.0.1) _ (Ok x) h.1) [
-          | inl k ↦ omega (arith, s, queryable_shortens reading a.0.1 x k.1)
-          | inr k ↦ absurd cc
-        ]
+        | inl k ↦ omega (arith, s, queryable_shortens reading a.0.1 x k.1)
+        | inr k ↦ absurd cc
+      ]
     ]
 
 -- ---- items

@@ -9,3 +9,6 @@ pub mod ExactLists
 pub mod ExactSouth
 pub mod LineLaws
 pub mod ReadingLaw
+pub mod SettledLemmas
+pub mod Clean
+pub mod SentLaws

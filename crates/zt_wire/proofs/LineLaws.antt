@@ -1,5 +1,5 @@
 -- Each kind of line is read exactly where the grammar has it.
-use Rattle.std.proofs.Common.{◌≡◌, ◌≢◌, ℕ, Bool, List, [], ◌∷◌, ◌++◌, Option, Some, None, Result, Ok, Err, refl, sym, ap, subst, ◌∙◌}
+use Rattle.std.proofs.Common.{◌≡◌, ℕ, Bool, List, [], ◌∷◌, ◌++◌, Option, Some, None, Result, Ok, refl, sym, ap, subst, ◌∙◌}
 use Rattle.std.specs.Prelude.{codes, unwrap_or}
 use Rattle.zt_keys.specs.declared.error.KeyError.{KeyError}
 use Rattle.zt_region.specs.declared.region.WhatAmI.{WhatAmI}
@@ -7,25 +7,22 @@ use Rattle.zt_region.specs.declared.region.Bound.{Bound}
 use Rattle.zt_region.specs.declared.region.Region.{Region}
 use Rattle.zt_region.specs.declared.region.Zid.{Zid}
 use Rattle.zt_region.specs.South.{PlainSouth}
-use Rattle.zt_protocol.specs.declared.errors.LineError.{LineError}
-use Rattle.zt_protocol.specs.declared.errors.LineError.TheVariants as errors
 use Rattle.zt_protocol.specs.declared.interests.InterestMode.{InterestMode}
 use Rattle.zt_protocol.specs.declared.interests.InterestOptions.{InterestOptions}
 use Rattle.zt_protocol.specs.declared.messages.QueryableInfo.{QueryableInfo}
-use Rattle.zt_protocol.specs.Plain.{PlainLine, Gateway, Session, Face, Link, Unlink, Step, Speak, Moment, SetTreesAt, PlainCall, DeclareToken, UndeclareToken, Interest, InterestFinal, DeclareFinal, CloseFace, SetEntities, Trees}
+use Rattle.zt_protocol.specs.Plain.{PlainLine, Gateway, Session, Face, Link, Unlink, Step, Speak, Moment, SetTreesAt, DeclareToken, UndeclareToken, Interest, InterestFinal, DeclareFinal, CloseFace, SetEntities, Trees}
 use Rattle.zt_wire.specs.Numbers.{u16_of, u32_of, u64_of}
 use Rattle.zt_wire.specs.Words.{word_of}
-use Rattle.zt_wire.specs.Fields.{◌>>=◌, or_bad, spelled_by, Fields, end_at, value_at, optional_value_at}
+use Rattle.zt_wire.specs.Fields.{or_bad, spelled_by, Fields, end_at, value_at, optional_value_at}
 use Rattle.zt_wire.specs.Values.{mode_of, bound_of, zid_of, direction_of, interest_mode_of, options_of, first_of, key_read}
 use Rattle.zt_wire.specs.Lists.{region_of, pair_of, triple_of, name_of, list_read, south_read, south_regions_read}
 use Rattle.zt_wire.specs.Items.{entities_read}
 use Rattle.zt_wire.specs.Reading.{gateway_at, session_at, face_at, trees_at, entities_at, link_at, unlink_at, step_at, moment_at, declare_at, undeclare_at, interest_at, interest_final_at, declare_final_at, close_at, kind_at, line_at}
-use Rattle.zt_wire.specs.Grammar.{IsU16, IsU32, IsU64, IsFirst, IsMode, IsBound, IsDirection, IsInterestMode, IsOptions, IsZid, IsRegion, IsKey, IsName, IsList, IsPair, IsTriple, AreSouthRegions, IsSouthConf, MayStand, AreItems, IsLine}
-use Rattle.zt_wire.proofs.FieldLemmas.{behind_of}
+use Rattle.zt_wire.specs.Grammar.{IsU16, IsU32, IsU64, IsFirst, IsMode, IsBound, IsDirection, IsInterestMode, IsOptions, IsZid, IsRegion, IsKey, IsName, IsList, IsPair, IsTriple, AreSouthRegions, IsSouthConf, MayStand, IsLine}
 use Rattle.zt_wire.proofs.ItemLemmas.{bind_ok, ok_is}
 use Rattle.zt_wire.proofs.Exact.{Exact, or_bad_ok, exact_mode, exact_bound, exact_direction, exact_interest_mode, exact_u16, exact_u32, exact_u64}
 use Rattle.zt_wire.proofs.ExactParts.{exact_zid, exact_first, exact_key, exact_name, exact_region, exact_options}
-use Rattle.zt_wire.proofs.ExactLists.{exact_list, exact_pair, exact_triple, exact_south_regions, value_sound, value_complete, Absent, optional_sound, optional_complete, optional_last, absent_before, absent_last, end_sound, ended}
+use Rattle.zt_wire.proofs.ExactLists.{exact_list, exact_pair, exact_triple, exact_south_regions, value_sound, value_complete, optional_sound, optional_complete, optional_last, absent_before, absent_last, end_sound, ended}
 use Rattle.zt_wire.proofs.ExactSouth.{exact_south, entities_sound, entities_complete}
 
 abbrev refused_exact : Exact (list_read (spelled_by (pair_of region_of region_of)) 44) (IsList (IsPair IsRegion IsRegion) 44)
@@ -47,9 +44,11 @@ session_sound {K} reading fields line h =
 pub session_complete : {K : Type 0} (reading : List ℕ → Result K KeyError) (fields : Fields) (gateway : ℕ) (first : ℕ) → IsLine reading fields (Session gateway first) → line_at reading fields ≡ Ok (Session gateway first)
 unfolding line_at kind_at word_of session_at
 session_complete reading fields gateway first h =
-    ap (line_at reading) h.2 ∙ rw (value_complete (spelled_by u32_of) IsU32 exact_u32 h.0 h.1 gateway h.3,
+    ap (line_at reading) h.2 ∙ rw (
+      value_complete (spelled_by u32_of) IsU32 exact_u32 h.0 h.1 gateway h.3,
       optional_last (spelled_by first_of) IsFirst exact_first (codes "first=") h.1 h.4.0 h.4.1,
-      h.4.2) refl
+      h.4.2,
+    ) refl
 
 pub face_sound : {K : Type 0} (reading : List ℕ → Result K KeyError) (fields : Fields) (line : PlainLine K) → face_at fields ≡ Ok line → IsLine reading (codes "face" ∷ fields) line
 unfolding face_at
@@ -75,13 +74,15 @@ face_sound {K} reading fields line h =
 pub face_complete : {K : Type 0} (reading : List ℕ → Result K KeyError) (fields : Fields) (gateway : ℕ) (mode : WhatAmI) (zid : Zid) (region : Region) (bound : Bound) (first : ℕ) → IsLine reading fields (Face gateway mode zid region bound first) → line_at reading fields ≡ Ok (Face gateway mode zid region bound first)
 unfolding line_at kind_at word_of face_at
 face_complete reading fields gateway mode zid region bound first h =
-    ap (line_at reading) h.6 ∙ rw (value_complete (spelled_by u32_of) IsU32 exact_u32 h.0 (h.1 ∷ (h.2 ∷ (h.3 ∷ (h.4 ∷ h.5)))) gateway h.7,
+    ap (line_at reading) h.6 ∙ rw (
+      value_complete (spelled_by u32_of) IsU32 exact_u32 h.0 (h.1 ∷ (h.2 ∷ (h.3 ∷ (h.4 ∷ h.5)))) gateway h.7,
       value_complete (spelled_by mode_of) IsMode exact_mode h.1 (h.2 ∷ (h.3 ∷ (h.4 ∷ h.5))) mode h.8,
       value_complete (spelled_by zid_of) IsZid exact_zid h.2 (h.3 ∷ (h.4 ∷ h.5)) zid h.9,
       value_complete (spelled_by region_of) IsRegion exact_region h.3 (h.4 ∷ h.5) region h.10,
       value_complete (spelled_by bound_of) IsBound exact_bound h.4 h.5 bound h.11,
       optional_last (spelled_by first_of) IsFirst exact_first (codes "first=") h.5 h.12.0 h.12.1,
-      h.12.2) refl
+      h.12.2,
+    ) refl
 
 pub link_sound : {K : Type 0} (reading : List ℕ → Result K KeyError) (fields : Fields) (line : PlainLine K) → link_at fields ≡ Ok line → IsLine reading (codes "link" ∷ fields) line
 unfolding link_at
@@ -103,12 +104,14 @@ link_sound {K} reading fields line h =
 pub link_complete : {K : Type 0} (reading : List ℕ → Result K KeyError) (fields : Fields) (one : ℕ) (two : ℕ) (first : ℕ) (back : ℕ) → IsLine reading fields (Link one two first back) → line_at reading fields ≡ Ok (Link one two first back)
 unfolding line_at kind_at word_of link_at
 link_complete reading fields one two first back h =
-    ap (line_at reading) h.4 ∙ rw (value_complete (spelled_by u32_of) IsU32 exact_u32 h.0 (h.1 ∷ (h.2 ++ h.3)) one h.5,
+    ap (line_at reading) h.4 ∙ rw (
+      value_complete (spelled_by u32_of) IsU32 exact_u32 h.0 (h.1 ∷ (h.2 ++ h.3)) one h.5,
       value_complete (spelled_by u32_of) IsU32 exact_u32 h.1 (h.2 ++ h.3) two h.6,
       optional_complete (spelled_by first_of) IsFirst exact_first (codes "first=") h.2 h.7.0 h.3 h.7.1 (absent_last IsFirst (codes "first=") (codes "back=") (λ t. refl) h.3 h.8.0 h.8.1),
       optional_last (spelled_by first_of) IsFirst exact_first (codes "back=") h.3 h.8.0 h.8.1,
       h.7.2,
-      h.8.2) refl
+      h.8.2,
+    ) refl
 
 pub unlink_sound : {K : Type 0} (reading : List ℕ → Result K KeyError) (fields : Fields) (line : PlainLine K) → unlink_at fields ≡ Ok line → IsLine reading (codes "unlink" ∷ fields) line
 unfolding unlink_at
@@ -142,8 +145,10 @@ step_sound {K} reading fields line h =
 pub step_complete : {K : Type 0} (reading : List ℕ → Result K KeyError) (fields : Fields) (link : ℕ) (back : Bool) → IsLine reading fields (Step link back) → line_at reading fields ≡ Ok (Step link back)
 unfolding line_at kind_at word_of step_at
 step_complete reading fields link back h =
-    ap (line_at reading) h.2 ∙ rw (value_complete (spelled_by u32_of) IsU32 exact_u32 h.0 (h.1 ∷ []) link h.3,
-      value_complete (spelled_by direction_of) IsDirection exact_direction h.1 [] back h.4) refl
+    ap (line_at reading) h.2 ∙ rw (
+      value_complete (spelled_by u32_of) IsU32 exact_u32 h.0 (h.1 ∷ []) link h.3,
+      value_complete (spelled_by direction_of) IsDirection exact_direction h.1 [] back h.4,
+    ) refl
 
 pub moment_sound : {K : Type 0} (reading : List ℕ → Result K KeyError) (fields : Fields) (line : PlainLine K) → moment_at fields ≡ Ok line → IsLine reading (codes "moment" ∷ fields) line
 unfolding moment_at
@@ -161,8 +166,10 @@ moment_sound {K} reading fields line h =
 pub moment_complete : {K : Type 0} (reading : List ℕ → Result K KeyError) (fields : Fields) (gateway : ℕ) (now : ℕ) → IsLine reading fields (Moment gateway now) → line_at reading fields ≡ Ok (Moment gateway now)
 unfolding line_at kind_at word_of moment_at
 moment_complete reading fields gateway now h =
-    ap (line_at reading) h.2 ∙ rw (value_complete (spelled_by u32_of) IsU32 exact_u32 h.0 (h.1 ∷ []) gateway h.3,
-      value_complete (spelled_by u64_of) IsU64 exact_u64 h.1 [] now h.4) refl
+    ap (line_at reading) h.2 ∙ rw (
+      value_complete (spelled_by u32_of) IsU32 exact_u32 h.0 (h.1 ∷ []) gateway h.3,
+      value_complete (spelled_by u64_of) IsU64 exact_u64 h.1 [] now h.4,
+    ) refl
 
 pub declare_sound : {K : Type 0} (reading : List ℕ → Result K KeyError) (fields : Fields) (line : PlainLine K) → declare_at reading fields ≡ Ok line → IsLine reading (codes "declare" ∷ fields) line
 unfolding declare_at
@@ -186,12 +193,14 @@ declare_sound {K} reading fields line h =
 pub declare_complete : {K : Type 0} (reading : List ℕ → Result K KeyError) (fields : Fields) (face : ℕ) (id : ℕ) (expr : K) (node : ℕ) (interest : Option ℕ) → IsLine reading fields (Speak (DeclareToken face id expr node interest)) → line_at reading fields ≡ Ok (Speak (DeclareToken face id expr node interest))
 unfolding line_at kind_at word_of declare_at
 declare_complete reading fields face id expr node interest h =
-    ap (line_at reading) h.5 ∙ rw (value_complete (spelled_by u32_of) IsU32 exact_u32 h.0 (h.1 ∷ (h.2 ∷ (h.3 ++ h.4))) face h.6,
+    ap (line_at reading) h.5 ∙ rw (
+      value_complete (spelled_by u32_of) IsU32 exact_u32 h.0 (h.1 ∷ (h.2 ∷ (h.3 ++ h.4))) face h.6,
       value_complete (spelled_by u32_of) IsU32 exact_u32 h.1 (h.2 ∷ (h.3 ++ h.4)) id h.7,
       value_complete (key_read reading) (IsKey reading) (exact_key reading) h.2 (h.3 ++ h.4) expr h.8,
       optional_complete (spelled_by u32_of) IsU32 exact_u32 (codes "interest=") h.3 interest h.4 h.9 (absent_last IsU16 (codes "interest=") (codes "node=") (λ t. refl) h.4 h.10.0 h.10.1),
       optional_last (spelled_by u16_of) IsU16 exact_u16 (codes "node=") h.4 h.10.0 h.10.1,
-      h.10.2) refl
+      h.10.2,
+    ) refl
 
 pub undeclare_sound : {K : Type 0} (reading : List ℕ → Result K KeyError) (fields : Fields) (line : PlainLine K) → undeclare_at reading fields ≡ Ok line → IsLine reading (codes "undeclare" ∷ fields) line
 unfolding undeclare_at
@@ -213,11 +222,13 @@ undeclare_sound {K} reading fields line h =
 pub undeclare_complete : {K : Type 0} (reading : List ℕ → Result K KeyError) (fields : Fields) (face : ℕ) (id : ℕ) (expr : Option K) (node : ℕ) → IsLine reading fields (Speak (UndeclareToken face id expr node)) → line_at reading fields ≡ Ok (Speak (UndeclareToken face id expr node))
 unfolding line_at kind_at word_of undeclare_at
 undeclare_complete reading fields face id expr node h =
-    ap (line_at reading) h.4 ∙ rw (value_complete (spelled_by u32_of) IsU32 exact_u32 h.0 (h.1 ∷ (h.2 ++ h.3)) face h.5,
+    ap (line_at reading) h.4 ∙ rw (
+      value_complete (spelled_by u32_of) IsU32 exact_u32 h.0 (h.1 ∷ (h.2 ++ h.3)) face h.5,
       value_complete (spelled_by u32_of) IsU32 exact_u32 h.1 (h.2 ++ h.3) id h.6,
       optional_complete (key_read reading) (IsKey reading) (exact_key reading) (codes "expr=") h.2 expr h.3 h.7 (absent_last IsU16 (codes "expr=") (codes "node=") (λ t. refl) h.3 h.8.0 h.8.1),
       optional_last (spelled_by u16_of) IsU16 exact_u16 (codes "node=") h.3 h.8.0 h.8.1,
-      h.8.2) refl
+      h.8.2,
+    ) refl
 
 pub interest_sound : {K : Type 0} (reading : List ℕ → Result K KeyError) (fields : Fields) (line : PlainLine K) → interest_at reading fields ≡ Ok line → IsLine reading (codes "interest" ∷ fields) line
 unfolding interest_at
@@ -241,11 +252,13 @@ interest_sound {K} reading fields line h =
 pub interest_complete : {K : Type 0} (reading : List ℕ → Result K KeyError) (fields : Fields) (face : ℕ) (id : ℕ) (mode : InterestMode) (options : InterestOptions) (expr : Option K) → IsLine reading fields (Speak (Interest face id mode options expr)) → line_at reading fields ≡ Ok (Speak (Interest face id mode options expr))
 unfolding line_at kind_at word_of interest_at
 interest_complete reading fields face id mode options expr h =
-    ap (line_at reading) h.5 ∙ rw (value_complete (spelled_by u32_of) IsU32 exact_u32 h.0 (h.1 ∷ (h.2 ∷ (h.3 ∷ h.4))) face h.6,
+    ap (line_at reading) h.5 ∙ rw (
+      value_complete (spelled_by u32_of) IsU32 exact_u32 h.0 (h.1 ∷ (h.2 ∷ (h.3 ∷ h.4))) face h.6,
       value_complete (spelled_by u32_of) IsU32 exact_u32 h.1 (h.2 ∷ (h.3 ∷ h.4)) id h.7,
       value_complete (spelled_by interest_mode_of) IsInterestMode exact_interest_mode h.2 (h.3 ∷ h.4) mode h.8,
       value_complete (spelled_by options_of) IsOptions exact_options h.3 h.4 options h.9,
-      optional_last (key_read reading) (IsKey reading) (exact_key reading) (codes "expr=") h.4 expr h.10) refl
+      optional_last (key_read reading) (IsKey reading) (exact_key reading) (codes "expr=") h.4 expr h.10,
+    ) refl
 
 pub interest_final_sound : {K : Type 0} (reading : List ℕ → Result K KeyError) (fields : Fields) (line : PlainLine K) → interest_final_at fields ≡ Ok line → IsLine reading (codes "interest-final" ∷ fields) line
 unfolding interest_final_at
@@ -263,8 +276,10 @@ interest_final_sound {K} reading fields line h =
 pub interest_final_complete : {K : Type 0} (reading : List ℕ → Result K KeyError) (fields : Fields) (face : ℕ) (id : ℕ) → IsLine reading fields (Speak (InterestFinal face id)) → line_at reading fields ≡ Ok (Speak (InterestFinal face id))
 unfolding line_at kind_at word_of interest_final_at
 interest_final_complete reading fields face id h =
-    ap (line_at reading) h.2 ∙ rw (value_complete (spelled_by u32_of) IsU32 exact_u32 h.0 (h.1 ∷ []) face h.3,
-      value_complete (spelled_by u32_of) IsU32 exact_u32 h.1 [] id h.4) refl
+    ap (line_at reading) h.2 ∙ rw (
+      value_complete (spelled_by u32_of) IsU32 exact_u32 h.0 (h.1 ∷ []) face h.3,
+      value_complete (spelled_by u32_of) IsU32 exact_u32 h.1 [] id h.4,
+    ) refl
 
 pub declare_final_sound : {K : Type 0} (reading : List ℕ → Result K KeyError) (fields : Fields) (line : PlainLine K) → declare_final_at fields ≡ Ok line → IsLine reading (codes "declare-final" ∷ fields) line
 unfolding declare_final_at
@@ -282,8 +297,10 @@ declare_final_sound {K} reading fields line h =
 pub declare_final_complete : {K : Type 0} (reading : List ℕ → Result K KeyError) (fields : Fields) (face : ℕ) (interest : ℕ) → IsLine reading fields (Speak (DeclareFinal face interest)) → line_at reading fields ≡ Ok (Speak (DeclareFinal face interest))
 unfolding line_at kind_at word_of declare_final_at
 declare_final_complete reading fields face interest h =
-    ap (line_at reading) h.2 ∙ rw (value_complete (spelled_by u32_of) IsU32 exact_u32 h.0 (h.1 ∷ []) face h.3,
-      value_complete (spelled_by u32_of) IsU32 exact_u32 h.1 [] interest h.4) refl
+    ap (line_at reading) h.2 ∙ rw (
+      value_complete (spelled_by u32_of) IsU32 exact_u32 h.0 (h.1 ∷ []) face h.3,
+      value_complete (spelled_by u32_of) IsU32 exact_u32 h.1 [] interest h.4,
+    ) refl
 
 pub close_sound : {K : Type 0} (reading : List ℕ → Result K KeyError) (fields : Fields) (line : PlainLine K) → close_at fields ≡ Ok line → IsLine reading (codes "close" ∷ fields) line
 unfolding close_at
@@ -327,7 +344,8 @@ gateway_sound {K} reading fields line h =
 pub gateway_complete : {K : Type 0} (reading : List ℕ → Result K KeyError) (fields : Fields) (mode : WhatAmI) (zid : Zid) (regions : List Region) (south : PlainSouth) (name : Option (List ℕ)) (timeout : ℕ) (refused : List (Region × Region)) → IsLine reading fields (Gateway mode zid regions south name timeout refused) → line_at reading fields ≡ Ok (Gateway mode zid regions south name timeout refused)
 unfolding line_at kind_at word_of gateway_at
 gateway_complete reading fields mode zid regions south name timeout refused h =
-    ap (line_at reading) h.7 ∙ rw (value_complete (spelled_by mode_of) IsMode exact_mode h.0 (h.1 ∷ (h.2 ++ (h.3 ++ (h.4 ++ (h.5 ++ h.6))))) mode h.8,
+    ap (line_at reading) h.7 ∙ rw (
+      value_complete (spelled_by mode_of) IsMode exact_mode h.0 (h.1 ∷ (h.2 ++ (h.3 ++ (h.4 ++ (h.5 ++ h.6))))) mode h.8,
       value_complete (spelled_by zid_of) IsZid exact_zid h.1 (h.2 ++ (h.3 ++ (h.4 ++ (h.5 ++ h.6)))) zid h.9,
       optional_complete south_regions_read AreSouthRegions exact_south_regions (codes "regions=") h.2 h.10.0 (h.3 ++ (h.4 ++ (h.5 ++ h.6))) h.10.1 (absent_before IsSouthConf (codes "regions=") (codes "south=") (λ t. refl) h.3 h.11.0 (h.4 ++ (h.5 ++ h.6)) h.11.1 (absent_before IsName (codes "regions=") (codes "name=") (λ t. refl) h.4 name (h.5 ++ h.6) h.12 (absent_before IsU64 (codes "regions=") (codes "timeout=") (λ t. refl) h.5 h.13.0 h.6 h.13.1 (absent_last (IsList (IsPair IsRegion IsRegion) 44) (codes "regions=") (codes "refuse=") (λ t. refl) h.6 h.14.0 h.14.1)))),
       optional_complete south_read IsSouthConf exact_south (codes "south=") h.3 h.11.0 (h.4 ++ (h.5 ++ h.6)) h.11.1 (absent_before IsName (codes "south=") (codes "name=") (λ t. refl) h.4 name (h.5 ++ h.6) h.12 (absent_before IsU64 (codes "south=") (codes "timeout=") (λ t. refl) h.5 h.13.0 h.6 h.13.1 (absent_last (IsList (IsPair IsRegion IsRegion) 44) (codes "south=") (codes "refuse=") (λ t. refl) h.6 h.14.0 h.14.1))),
@@ -337,7 +355,8 @@ gateway_complete reading fields mode zid regions south name timeout refused h =
       h.10.2,
       h.11.2,
       h.13.2,
-      h.14.2) refl
+      h.14.2,
+    ) refl
 
 abbrev routers_exact : Exact (list_read (spelled_by (pair_of u16_of zid_of)) 44) (IsList (IsPair IsU16 IsZid) 44)
 routers_exact = exact_list (spelled_by (pair_of u16_of zid_of)) (IsPair IsU16 IsZid) (exact_pair u16_of zid_of IsU16 IsZid exact_u16 exact_zid) 44
@@ -383,9 +402,10 @@ trees_complete {K} reading fields gateway region table h =
       value_complete (spelled_by region_of) IsRegion exact_region h.1 ((codes "routers=" ++ h.2) ∷ (h.3 ++ h.4)) region h.7,
       optional_complete (list_read (spelled_by (pair_of u16_of zid_of)) 44) (IsList (IsPair IsU16 IsZid) 44) routers_exact (codes "routers=") ((codes "routers=" ++ h.2) ∷ []) (Some table.routers) (h.3 ++ h.4) (h.2, refl, h.8) absent,
       optional_complete (list_read (spelled_by (triple_of u32_of u16_of zid_of)) 44) (IsList (IsTriple IsU32 IsU16 IsZid) 44) links_exact (codes "links=") h.3 h.9.0 h.4 h.9.1
-        (absent_last (IsList (IsPair IsZid IsZid) 44) (codes "links=") (codes "children=") (λ t. refl) h.4 h.10.0 h.10.1),
-      optional_last (list_read (spelled_by (pair_of zid_of zid_of)) 44) (IsList (IsPair IsZid IsZid) 44) children_exact (codes "children=") h.4 h.10.0 h.10.1)
-      (ap (λ (t : Trees). Ok (SetTreesAt gateway region t)) same)
+          (absent_last (IsList (IsPair IsZid IsZid) 44) (codes "links=") (codes "children=") (λ t. refl) h.4 h.10.0 h.10.1),
+      optional_last (list_read (spelled_by (pair_of zid_of zid_of)) 44) (IsList (IsPair IsZid IsZid) 44) children_exact (codes "children=") h.4 h.10.0 h.10.1,
+    )
+    (ap (λ (t : Trees). Ok (SetTreesAt gateway region t)) same)
 
 pub entities_line_sound : {K : Type 0} (reading : List ℕ → Result K KeyError) (fields : Fields) (line : PlainLine K) → entities_at reading fields ≡ Ok line → IsLine reading (codes "entities" ∷ fields) line
 unfolding entities_at
@@ -402,4 +422,5 @@ unfolding line_at kind_at word_of entities_at
 entities_line_complete reading fields face subscribers queryables h =
     ap (line_at reading) h.2 ∙ rw (
       value_complete (spelled_by u32_of) IsU32 exact_u32 h.0 h.1 face h.3,
-      entities_complete reading h.1 subscribers queryables h.4) refl
+      entities_complete reading h.1 subscribers queryables h.4,
+    ) refl

@@ -1,5 +1,5 @@
 -- Reading a number digit by digit.
-use Rattle.std.proofs.Common.{◌≡◌, ℕ, suc, ◌+◌, ◌*◌, ◌-◌, ◌<◌, ◌≤◌, Bool, true, false, cond, leb, List, [], ◌∷◌, length, get_or, drop, Option, Some, None, refl, sym, ap, ◌∙◌, arith, add-one}
+use Rattle.std.proofs.Common.{◌≡◌, ℕ, ◌+◌, ◌*◌, ◌<◌, ◌≤◌, Bool, true, false, cond, leb, List, [], ◌∷◌, length, get_or, drop, Some, None, refl, sym, ap, ◌∙◌, arith, add-one}
 use Rattle.std.proofs.Math.Seq.{drop-cons}
 use Rattle.std.proofs.lemmas.Bool.{cond-true, cond-false}
 use Rattle.std.proofs.lemmas.Bool.Decides.{nat_tests}
@@ -20,7 +20,7 @@ pub up_to_past : (d : ℕ → Bool) (v : ℕ → ℕ) (base most : ℕ) (grows :
 up_to_past d v base most grows n [] h = rw (no_more most n h) refl
 up_to_past d v base most grows n (b ∷ bs) h =
     elim (d b) as (λ c. up_to most (cond c (digits_after d v base (n * base + v b) bs) None) ≡ None)
-      [ true ↦ up_to_past d v base most grows (n * base + v b) bs (omega (arith, grows n)) | false ↦ refl ]
+    [ true ↦ up_to_past d v base most grows (n * base + v b) bs (omega (arith, grows n)) | false ↦ refl ]
 
 -- one byte more
 pub digits_next : (d : ℕ → Bool) (v : ℕ → ℕ) (base n i : ℕ) (text : List ℕ) → i < length text

@@ -1,13 +1,13 @@
 -- A line is read exactly where the grammar has it.
-use Rattle.std.proofs.Common.{◌≡◌, ◌≢◌, ◌↔◌, ◌⊎◌, inl, inr, ℕ, Bool, true, false, List, [], ◌∷◌, Option, Some, None, Result, Ok, Err, refl, sym, ap, subst, ◌∙◌}
+use Rattle.std.proofs.Common.{◌≡◌, ◌≢◌, ◌↔◌, inl, inr, ℕ, Bool, true, false, List, [], ◌∷◌, Some, None, Result, Ok, Err, refl, sym, ap, subst, ◌∙◌}
 use Rattle.std.proofs.lemmas.Bool.{cond-true, cond-false}
 use Rattle.std.proofs.lemmas.Str.{is_utf8-from_IsUtf8, IsUtf8-from_is_utf8}
 use Rattle.std.specs.Prelude.{codes}
-use Rattle.std.specs.Str.{is_utf8, IsUtf8, bytes_eq}
+use Rattle.std.specs.Str.{is_utf8, IsUtf8}
 use Rattle.zt_keys.specs.declared.error.KeyError.{KeyError}
 use Rattle.zt_protocol.specs.declared.errors.LineError.{LineError}
 use Rattle.zt_protocol.specs.declared.errors.LineError.TheVariants as errors
-use Rattle.zt_protocol.specs.Plain.{PlainLine, Gateway, Session, Face, Link, Unlink, Step, Speak, Moment, SetTreesAt, Unbuilt, PlainCall, NewSession, NewTransport, DeclareToken, UndeclareToken, Interest, InterestFinal, DeclareFinal, CloseFace, Expire, SetTrees, SetEntities}
+use Rattle.zt_protocol.specs.Plain.{PlainLine, Gateway, Session, Face, Link, Unlink, Step, Speak, Moment, SetTreesAt, PlainCall, NewSession, NewTransport, DeclareToken, UndeclareToken, Interest, InterestFinal, DeclareFinal, CloseFace, Expire, SetTrees, SetEntities}
 use Rattle.zt_wire.specs.declared.words.Word.{Word}
 use Rattle.zt_wire.specs.declared.words.Word.TheVariants as word
 use Rattle.zt_wire.specs.Words.{spelled, word_of}
@@ -92,7 +92,6 @@ line_complete reading fields (Step link back) h = step_complete reading fields l
 line_complete reading fields (Speak call) h = call_complete reading fields call h
 line_complete reading fields (Moment gateway now) h = moment_complete reading fields gateway now h
 line_complete reading fields (SetTreesAt gateway region table) h = trees_complete reading fields gateway region table h
-line_complete reading fields Unbuilt h = absurd h
 
 -- ---- the bytes of a line
 
@@ -137,12 +136,14 @@ not_in_grammar_exactly {K} reading bytes = (bad reading bytes, λ h. cond-true _
   where
     other : {A : Type 0} (x : A) → Err errors.NotInGrammar ≡ result_of x → ⊥
     other x h = cc
+
     bad : {K : Type 0} (reading : List ℕ → Result K KeyError) (bytes : List ℕ) → line_read reading bytes ≡ Err errors.NotInGrammar → IsUtf8 bytes × ((line : PlainLine K) → IsLine reading (fields_of bytes) line → ⊥)
     bad reading bytes h =
         elim (chosen (is_utf8 bytes) (settled (line_at reading (fields_of bytes))) (Err errors.NotUtf8) (Err errors.NotInGrammar) h) [
           | inl g ↦ (IsUtf8-from_is_utf8 bytes g.0, λ line is. other line (sym h ∙ read_complete reading bytes line (IsUtf8-from_is_utf8 bytes g.0, is)))
           | inr g ↦ absurd cc
         ]
+
     none : {K : Type 0} (reading : List ℕ → Result K KeyError) (fields : Fields) (r : Result (PlainLine K) LineError) → line_at reading fields ≡ r → ((line : PlainLine K) → IsLine reading fields line → ⊥) → settled r ≡ Err errors.NotInGrammar
     none reading fields (Ok line) is h = absurd (h line (line_sound reading fields line is))
     none reading fields (Err e) is h = refl

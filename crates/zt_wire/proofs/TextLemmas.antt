@@ -1,5 +1,5 @@
 -- Texts that grow at their end.
-use Rattle.std.proofs.Common.{◌≡◌, ℕ, ◌+◌, ◌<◌, true, List, [], ◌∷◌, ◌++◌, length, take, drop, get_or, Result, Ok, Err, refl, sym, subst, ap, ◌∙◌, append_assoc, add-one, suc}
+use Rattle.std.proofs.Common.{◌≡◌, ℕ, ◌+◌, ◌<◌, true, List, [], ◌++◌, length, take, drop, get_or, Result, Ok, Err, sym, subst, ap, ◌∙◌, append_assoc, add-one, suc}
 use Rattle.std.proofs.Math.Seq.{drop-cons}
 use Rattle.std.proofs.lemmas.List.{append-nil, take_at}
 use Rattle.std.proofs.lemmas.List.Concat.{flat_map-cons}
@@ -31,9 +31,9 @@ pub told_more : {X : Type 0} (f : X → List ℕ) (xs : List X) (i : ℕ) (x : X
     → old ++ flat_map f (drop i xs) ≡ all → new ++ flat_map f (drop (i + 1) xs) ≡ all
 told_more f xs i x all old new h is grown told =
     ap (λ (t : List ℕ). t ++ flat_map f (drop (i + 1) xs)) grown
-      ∙ append_assoc old (f x) (flat_map f (drop (i + 1) xs))
-      ∙ ap (λ (t : List ℕ). old ++ t) (sym (flat_map_drop f xs i x h is))
-      ∙ told
+    ∙ append_assoc old (f x) (flat_map f (drop (i + 1) xs))
+    ∙ ap (λ (t : List ℕ). old ++ t) (sym (flat_map_drop f xs i x h is))
+    ∙ told
 
 -- what a failed call leaves can be cut back to what was there
 pub undo_ready : (r : Result (Unit {0}) Memory) (old new : List ℕ) (n : ℕ) → is_err r ≡ true → OnErr r (Begins old new) → n ≡ length old → IsUtf8 old → IsUtf8 (take n new)

@@ -1,9 +1,6 @@
 -- The fields of a line, taken off one by one.
-use Rattle.std.specs.Prelude.{◌≡◌, ℕ, Bool, true, false, ◌&&◌, ◌==◌, nat_eq, if◌then◌else◌, List, [], ◌∷◌, length, take, drop, Option, Some, None, Result, Ok, Err, not}
-use Rattle.std.specs.List.{slice_split, list_any}
-use Rattle.std.specs.Str.{bytes_eq}
-use Rattle.zt_keys.specs.Key.{is_blank}
-use Rattle.zt_keys.specs.declared.error.KeyError.{KeyError}
+use Rattle.std.specs.Prelude.{◌≡◌, ℕ, Bool, ◌==◌, if◌then◌else◌, List, [], ◌∷◌, Option, Some, None, Result, Ok, Err}
+use Rattle.std.specs.List.{slice_split}
 use Rattle.zt_protocol.specs.declared.errors.LineError.{LineError}
 use Rattle.zt_protocol.specs.declared.errors.LineError.TheVariants as errors
 

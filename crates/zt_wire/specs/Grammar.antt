@@ -1,5 +1,5 @@
 -- The grammar of a script's lines, over the fields of a line: one space stands between two fields.
-use Rattle.std.specs.Prelude.{◌≡◌, ◌≢◌, ◌⊎◌, ℕ, ◌<◌, ◌≤◌, ◌^◌, Bool, true, false, List, [], ◌∷◌, ◌++◌, All, codes, decimal, length, Option, Some, None, Result, Ok, Err, unwrap_or}
+use Rattle.std.specs.Prelude.{◌≡◌, ◌≢◌, ◌⊎◌, ℕ, ◌<◌, ◌≤◌, Bool, true, false, List, [], ◌∷◌, ◌++◌, All, codes, decimal, length, Option, Some, None, Result, Ok, unwrap_or}
 use Rattle.std.specs.List.{AllByRecursion}
 use Rattle.std.specs.Int.{IsInRange}
 use Rattle.std.specs.Str.Parse.{digits_value}
@@ -16,7 +16,7 @@ use Rattle.zt_region.specs.South.{PlainFilter, PlainSubregion, PlainSouth}
 use Rattle.zt_protocol.specs.declared.interests.InterestMode.{InterestMode}
 use Rattle.zt_protocol.specs.declared.interests.InterestOptions.{InterestOptions}
 use Rattle.zt_protocol.specs.declared.messages.QueryableInfo.{QueryableInfo}
-use Rattle.zt_protocol.specs.Plain.{PlainLine, Gateway, Session, Face, Link, Unlink, Step, Speak, Moment, SetTreesAt, Unbuilt, PlainCall, NewSession, NewTransport, DeclareToken, UndeclareToken, Interest, InterestFinal, DeclareFinal, CloseFace, Expire, SetTrees, SetEntities}
+use Rattle.zt_protocol.specs.Plain.{PlainLine, Gateway, Session, Face, Link, Unlink, Step, Speak, Moment, SetTreesAt, PlainCall, NewSession, NewTransport, DeclareToken, UndeclareToken, Interest, InterestFinal, DeclareFinal, CloseFace, Expire, SetTrees, SetEntities}
 use Rattle.zt_wire.specs.declared.entities.Item.{Item}
 use Rattle.zt_wire.specs.declared.entities.Item.TheVariants.{Subscriber, Queryable}
 use Rattle.zt_wire.specs.Items.{subscribers_of, queryables_of}
@@ -270,4 +270,3 @@ IsLine reading fields (SetTreesAt gateway region table) =
     × IsList (IsPair IsU16 IsZid) 44 routers table.routers
     × StandsOr (codes "links=") (IsList (IsTriple IsU32 IsU16 IsZid) 44) [] l table.links
     × StandsOr (codes "children=") (IsList (IsPair IsZid IsZid) 44) [] c table.children
-IsLine reading fields Unbuilt = ⊥

@@ -7,3 +7,4 @@ pub mod Items
 pub mod Reading
 pub mod Text
 pub mod Grammar
+pub mod Sent

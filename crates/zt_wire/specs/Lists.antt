@@ -1,18 +1,16 @@
 -- Lists, regions, and what stands in lists.
-use Rattle.std.specs.Prelude.{ℕ, Bool, true, false, ◌&&◌, ◌||◌, not, ◌==◌, nat_le, if◌then◌else◌, List, [], ◌∷◌, ◌++◌, codes, length, map, Option, Some, None, Result, Ok, Err, option_map, option_and_then}
+use Rattle.std.specs.Prelude.{ℕ, Bool, true, false, ◌&&◌, ◌||◌, ◌==◌, nat_le, if◌then◌else◌, List, [], ◌∷◌, codes, length, Option, Some, None, Result, Ok, Err, option_map, option_and_then}
 use Rattle.std.specs.List.{list_all}
 use Rattle.std.specs.Char.{is_ascii_digit}
 use Rattle.std.specs.Int.{is_in_range}
 use Rattle.std.specs.Str.{bytes_eq}
-use Rattle.zt_region.specs.declared.region.WhatAmI.{WhatAmI}
-use Rattle.zt_region.specs.declared.region.Zid.{Zid}
 use Rattle.zt_region.specs.declared.region.Region.{Region}
 use Rattle.zt_region.specs.declared.region.Region.TheVariants.{North, Local, South}
 use Rattle.zt_region.specs.South.{PlainFilter, PlainSubregion, PlainSouth}
 use Rattle.zt_protocol.specs.declared.errors.LineError.{LineError}
 use Rattle.zt_protocol.specs.declared.errors.LineError.TheVariants as errors
-use Rattle.zt_wire.specs.Numbers.{u16_of, u32_of}
-use Rattle.zt_wire.specs.Fields.{◌>>=◌, spelled_by, Fields, parts_of, two_of, three_of, behind, optional_value_at, end_at}
+use Rattle.zt_wire.specs.Numbers.{u32_of}
+use Rattle.zt_wire.specs.Fields.{◌>>=◌, spelled_by, parts_of, two_of, three_of, behind, optional_value_at, end_at}
 use Rattle.zt_wire.specs.Values.{mode_of, zid_of}
 
 -- ---- regions

@@ -1,12 +1,10 @@
 -- What a line is read as: each kind of line takes its fields one after the other.
-use Rattle.std.specs.Prelude.{ℕ, Bool, true, false, nat_lt, if◌then◌else◌, List, [], ◌∷◌, codes, Option, Some, None, Result, Ok, Err, unwrap_or}
+use Rattle.std.specs.Prelude.{ℕ, if◌then◌else◌, List, [], codes, Option, Some, None, Result, Ok, Err, unwrap_or}
 use Rattle.std.specs.Str.{is_utf8}
 use Rattle.zt_keys.specs.declared.error.KeyError.{KeyError}
-use Rattle.zt_region.specs.declared.region.WhatAmI.{WhatAmI}
-use Rattle.zt_region.specs.declared.region.Zid.{Zid}
 use Rattle.zt_protocol.specs.declared.errors.LineError.{LineError}
 use Rattle.zt_protocol.specs.declared.errors.LineError.TheVariants as errors
-use Rattle.zt_protocol.specs.Plain.{PlainLine, Gateway, Session, Face, Link, Unlink, Step, Speak, Moment, SetTreesAt, PlainCall, SetEntities, DeclareToken, UndeclareToken, Interest, InterestFinal, DeclareFinal, CloseFace}
+use Rattle.zt_protocol.specs.Plain.{PlainLine, Gateway, Session, Face, Link, Unlink, Step, Speak, Moment, SetTreesAt, SetEntities, DeclareToken, UndeclareToken, Interest, InterestFinal, DeclareFinal, CloseFace}
 use Rattle.zt_wire.specs.declared.words.Word.{Word}
 use Rattle.zt_wire.specs.declared.words.Word.TheVariants as word
 use Rattle.zt_wire.specs.Numbers.{u16_of, u32_of, u64_of}

@@ -29,7 +29,7 @@ fn flag_of(text: &str) -> Option<bool>
 }
 
 #[tactic(auto, unfolding(crate::specs::Fields::value_at))]
-fn flag_at(rest: Option<&str>) -> Result<(bool, Option<&str>), LineError>
+pub(crate) fn flag_at(rest: Option<&str>) -> Result<(bool, Option<&str>), LineError>
     ensures { Finds (λ x. (x.0, fields_left (option_copied x.1))) result (value_at (spelled_by flag_of) (fields_left (option_copied rest.entry))) }
 {
     let (field, rest) = field_at(rest)?;
@@ -38,7 +38,10 @@ fn flag_at(rest: Option<&str>) -> Result<(bool, Option<&str>), LineError>
 }
 
 #[tactic(auto, unfolding(crate::specs::Items::subscriber_at))]
-fn subscriber_at<K: Key>(alloc: Global, rest: Option<&str>) -> Result<(Item<K>, Option<&str>), LineError>
+fn subscriber_at<K: Key>(
+    alloc: Global,
+    rest: Option<&str>,
+) -> Result<(Item<K>, Option<&str>), LineError>
     ensures { Finds (λ x. (x.0, fields_left (option_copied x.1))) result (subscriber_at K.reading (fields_left (option_copied rest.entry))) }
 {
     let (key, rest) = key_at(alloc, rest)?;
@@ -46,7 +49,10 @@ fn subscriber_at<K: Key>(alloc: Global, rest: Option<&str>) -> Result<(Item<K>, 
 }
 
 #[tactic(auto, unfolding(crate::specs::Items::queryable_at))]
-fn queryable_at<K: Key>(alloc: Global, rest: Option<&str>) -> Result<(Item<K>, Option<&str>), LineError>
+fn queryable_at<K: Key>(
+    alloc: Global,
+    rest: Option<&str>,
+) -> Result<(Item<K>, Option<&str>), LineError>
     ensures { Finds (λ x. (x.0, fields_left (option_copied x.1))) result (queryable_at K.reading (fields_left (option_copied rest.entry))) }
 {
     let (complete, rest) = flag_at(rest)?;

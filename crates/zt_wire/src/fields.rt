@@ -17,7 +17,10 @@ pub(crate) fn first_part(text: &str, separator: char) -> (&str, Option<&str>)
 }
 
 /// The next part up to `separator`, and what is left behind it.
-pub(crate) fn part_at(rest: Option<&str>, separator: char) -> Result<(&str, Option<&str>), LineError>
+pub(crate) fn part_at(
+    rest: Option<&str>,
+    separator: char,
+) -> Result<(&str, Option<&str>), LineError>
     requires { separator < 128 }
     ensures { Finds (λ x. (x.0.now, parts_left separator (option_copied x.1))) result (field_at (parts_left separator (option_copied rest.entry))) }
 {
@@ -107,7 +110,10 @@ pub(crate) fn optional_part<'a>(
 }
 
 /// The next field without `word`, where it begins with it, and what is left behind it.
-pub(crate) fn optional_at<'a>(rest: Option<&'a str>, word: &str) -> (Option<&'a str>, Option<&'a str>)
+pub(crate) fn optional_at<'a>(
+    rest: Option<&'a str>,
+    word: &str,
+) -> (Option<&'a str>, Option<&'a str>)
     ensures { (option_copied result.0, fields_left (option_copied result.1)) ≡ optional_at word.now (fields_left (option_copied rest.entry)) }
 {
     optional_part(rest, ' ', word)

@@ -1,10 +1,13 @@
-ghost use Rattle.std.specs.Prelude.{◌≡◌, ◌≢◌, ◌↔◌, ℕ, List, Ok, Err};
+ghost use Rattle.std.specs.Prelude.{◌≡◌, ◌≢◌, ◌↔◌, ◌++◌, ◌∷◌, [], ℕ, List, Ok, Err};
 ghost use Rattle.std.specs.Str.{IsUtf8};
 ghost use Rattle.zt_protocol.specs.declared.errors.LineError.TheVariants as errors;
 ghost use Rattle.zt_protocol.specs.Plain.{PlainLine};
 ghost use Rattle.zt_wire.specs.Fields.{fields_of};
 ghost use Rattle.zt_wire.specs.Reading.{line_read};
+ghost use Rattle.zt_protocol.specs.declared.entries.Sent.{Sent};
 ghost use Rattle.zt_wire.specs.Grammar.{IsLine};
+ghost use Rattle.zt_wire.specs.Sent.{IsSent, sent_read};
+ghost use Rattle.zt_wire.specs.Text.{sent_text};
 
 use zt_keys::Key;
 
@@ -15,5 +18,11 @@ pub fn grammar_is_read<K: Key>()
     ensures not_in_grammar { (bytes : List ℕ) → (line_read K.reading bytes ≡ Err errors.NotInGrammar)
         ↔ (IsUtf8 bytes × ((line : PlainLine K) → IsLine K.reading (fields_of bytes) line → ⊥)) }
     ensures memory { (bytes : List ℕ) → line_read K.reading bytes ≢ Err errors.Memory }
-{
-}
+{}
+
+/// What `read_sent` gives is the message of which the line is the printed form.
+///
+/// So no two messages have one printed form, of those whose options have no bits but the five named ones.
+pub fn printing_is_read<K: Key>()
+    ensures { (bytes : List ℕ) (sent : Sent K) → (sent_read K.reading bytes ≡ Ok sent) ↔ (IsSent sent × (bytes ++ 10 ∷ [] ≡ sent_text K.printed sent)) }
+{}

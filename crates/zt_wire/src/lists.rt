@@ -21,7 +21,11 @@ fn member_of<M: Spelled>(text: &str) -> Result<M, LineError>
 }
 
 /// The members of a list, with `separator` between them.
-pub(crate) fn list_of<M: Spelled>(alloc: Global, text: &str, separator: char) -> Result<Vec<M>, LineError>
+pub(crate) fn list_of<M: Spelled>(
+    alloc: Global,
+    text: &str,
+    separator: char,
+) -> Result<Vec<M>, LineError>
     requires { separator < 128 }
     ensures { Finds (λ v. v.items) result (list_read (spelled_by M.of_text) separator text.now) }
 {

@@ -26,7 +26,9 @@ pub(crate) fn number_up_to(text: &[u8], most: u64) -> Option<u64>
         if !byte.is_ascii_digit() {
             return None;
         }
-        number = number.checked_mul(10)?.checked_add(u64::from(*byte - b'0'))?;
+        number = number
+            .checked_mul(10)?
+            .checked_add(u64::from(*byte - b'0'))?;
     }
     if most < number {
         return None;
@@ -53,7 +55,11 @@ fn hex_value(byte: u8) -> u8
     requires { IsTrue (is_hex_digit byte) }
     ensures { result ≡ hex_value byte }
 {
-    if byte <= b'9' { byte - b'0' } else { byte - b'a' + 10 }
+    if byte <= b'9' {
+        byte - b'0'
+    } else {
+        byte - b'a' + 10
+    }
 }
 
 /// The number from 1 that a text of at most 32 digits spells in hexadecimal.
@@ -69,7 +75,9 @@ pub(crate) fn hex_number(text: &[u8]) -> Option<u128>
         if !is_hex_digit(*byte) {
             return None;
         }
-        number = number.checked_mul(16)?.checked_add(u128::from(hex_value(*byte)))?;
+        number = number
+            .checked_mul(16)?
+            .checked_add(u128::from(hex_value(*byte)))?;
     }
     Some(number)
 }

@@ -46,7 +46,10 @@ pub(crate) fn optional_value_at<'a, V: Spelled>(
 
 /// The id that a face begins with, where one is given.
 #[tactic(auto, unfolding(crate::specs::Fields::optional_value_at))]
-pub(crate) fn first_at<'a>(rest: Option<&'a str>, word: &str) -> Result<(Option<u32>, Option<&'a str>), LineError>
+pub(crate) fn first_at<'a>(
+    rest: Option<&'a str>,
+    word: &str,
+) -> Result<(Option<u32>, Option<&'a str>), LineError>
     ensures { Finds (λ x. (x.0, fields_left (option_copied x.1))) result
         (optional_value_at (spelled_by first_of) word.now (fields_left (option_copied rest.entry))) }
 {
@@ -60,7 +63,10 @@ pub(crate) fn first_at<'a>(rest: Option<&'a str>, word: &str) -> Result<(Option<
 }
 
 #[tactic(auto, unfolding(crate::specs::Fields::value_at))]
-pub(crate) fn key_at<K: Key>(alloc: Global, rest: Option<&str>) -> Result<(K, Option<&str>), LineError>
+pub(crate) fn key_at<K: Key>(
+    alloc: Global,
+    rest: Option<&str>,
+) -> Result<(K, Option<&str>), LineError>
     ensures { Finds (λ x. (x.0, fields_left (option_copied x.1))) result (value_at (key_read K.reading) (fields_left (option_copied rest.entry))) }
 {
     let (field, rest) = field_at(rest)?;
@@ -69,7 +75,10 @@ pub(crate) fn key_at<K: Key>(alloc: Global, rest: Option<&str>) -> Result<(K, Op
 }
 
 #[tactic(auto, unfolding(crate::specs::Fields::optional_value_at))]
-pub(crate) fn optional_key_at<K: Key>(alloc: Global, rest: Option<&str>) -> Result<(Option<K>, Option<&str>), LineError>
+pub(crate) fn optional_key_at<K: Key>(
+    alloc: Global,
+    rest: Option<&str>,
+) -> Result<(Option<K>, Option<&str>), LineError>
     ensures { Finds (λ x. (x.0, fields_left (option_copied x.1))) result
         (optional_value_at (key_read K.reading) (codes "expr=") (fields_left (option_copied rest.entry))) }
 {
@@ -96,7 +105,10 @@ pub(crate) fn list_at<'a, V: Spelled>(
 }
 
 #[tactic(auto, unfolding(crate::specs::Fields::optional_value_at))]
-pub(crate) fn south_regions_at(alloc: Global, rest: Option<&str>) -> Result<(Option<Vec<Region>>, Option<&str>), LineError>
+pub(crate) fn south_regions_at(
+    alloc: Global,
+    rest: Option<&str>,
+) -> Result<(Option<Vec<Region>>, Option<&str>), LineError>
     ensures { Finds (λ x. (option_map (λ v. v.items) x.0, fields_left (option_copied x.1))) result
         (optional_value_at south_regions_read (codes "regions=") (fields_left (option_copied rest.entry))) }
 {
@@ -107,7 +119,10 @@ pub(crate) fn south_regions_at(alloc: Global, rest: Option<&str>) -> Result<(Opt
 }
 
 #[tactic(auto, unfolding(crate::specs::Fields::optional_value_at))]
-pub(crate) fn south_at(alloc: Global, rest: Option<&str>) -> Result<(Option<SouthConf>, Option<&str>), LineError>
+pub(crate) fn south_at(
+    alloc: Global,
+    rest: Option<&str>,
+) -> Result<(Option<SouthConf>, Option<&str>), LineError>
     ensures { Finds (λ x. (option_map plain_south x.0, fields_left (option_copied x.1))) result
         (optional_value_at south_read (codes "south=") (fields_left (option_copied rest.entry))) }
 {
@@ -118,7 +133,10 @@ pub(crate) fn south_at(alloc: Global, rest: Option<&str>) -> Result<(Option<Sout
 }
 
 #[tactic(auto, unfolding(crate::specs::Fields::optional_value_at))]
-pub(crate) fn name_at(alloc: Global, rest: Option<&str>) -> Result<(Option<String>, Option<&str>), LineError>
+pub(crate) fn name_at(
+    alloc: Global,
+    rest: Option<&str>,
+) -> Result<(Option<String>, Option<&str>), LineError>
     ensures { Finds (λ x. (option_map string_bytes x.0, fields_left (option_copied x.1))) result
         (optional_value_at (spelled_by name_of) (codes "name=") (fields_left (option_copied rest.entry))) }
 {

@@ -130,11 +130,21 @@ fn put_message<K: Key>(out: &mut String, message: &Message<K>) -> Result<(), Mem
     ensures err { OnErr result (Begins (string_bytes out.old) (string_bytes out.new)) }
 {
     match message {
-        Message::DeclareToken { id, expr, interest_id: None, node_id } => {
+        Message::DeclareToken {
+            id,
+            expr,
+            interest_id: None,
+            node_id,
+        } => {
             put_head(out, "token", &[*id, u32::from(*node_id)])?;
             put_key(out, expr)
         }
-        Message::DeclareToken { id, expr, interest_id: Some(interest_id), node_id } => {
+        Message::DeclareToken {
+            id,
+            expr,
+            interest_id: Some(interest_id),
+            node_id,
+        } => {
             put_head(out, "answer", &[*interest_id, *id, u32::from(*node_id)])?;
             put_key(out, expr)
         }
@@ -143,13 +153,27 @@ fn put_message<K: Key>(out: &mut String, message: &Message<K>) -> Result<(), Mem
             put_optional_key(out, expr)
         }
         Message::DeclareFinal { interest_id } => put_head(out, "final", &[*interest_id]),
-        Message::Interest { id, mode, options, expr } => put_interest(out, *id, *mode, *options, expr),
+        Message::Interest {
+            id,
+            mode,
+            options,
+            expr,
+        } => put_interest(out, *id, *mode, *options, expr),
         Message::InterestFinal { id } => put_head(out, "interest-final", &[*id]),
-        Message::DeclareSubscriber { id, expr, interest_id } => {
+        Message::DeclareSubscriber {
+            id,
+            expr,
+            interest_id,
+        } => {
             put_head(out, "subscriber", &[*interest_id, *id])?;
             put_key(out, expr)
         }
-        Message::DeclareQueryable { id, expr, info, interest_id } => {
+        Message::DeclareQueryable {
+            id,
+            expr,
+            info,
+            interest_id,
+        } => {
             put_head(out, "queryable", &[*interest_id, *id])?;
             put_field(out, if info.complete { "1" } else { "0" })?;
             put_number(out, u64::from(info.distance))?;
@@ -212,7 +236,6 @@ fn put_report(out: &mut String, report: &Report) -> Result<(), Memory>
     out.push('\n')?;
     Ok(())
 }
-
 
 // Takes back what a failed call added behind the first `before` bytes.
 fn undo(out: &mut String, before: usize)

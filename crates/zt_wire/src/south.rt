@@ -29,7 +29,10 @@ fn condition_at<'a, V: Spelled>(
 }
 
 #[tactic(auto, unfolding(crate::specs::Fields::optional_value_at))]
-fn names_at(alloc: Global, rest: Option<&str>) -> Result<(Option<Vec<String>>, Option<&str>), LineError>
+fn names_at(
+    alloc: Global,
+    rest: Option<&str>,
+) -> Result<(Option<Vec<String>>, Option<&str>), LineError>
     ensures { Finds (λ x. (option_map (λ v. map string_bytes v.items) x.0, parts_left 38 (option_copied x.1))) result
         (optional_value_at (list_read (spelled_by name_of) 43) (codes "name:") (parts_left 38 (option_copied rest.entry))) }
 {

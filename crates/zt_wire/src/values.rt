@@ -5,9 +5,9 @@ ghost use Rattle.zt_keys.specs.Key.{is_blank};
 ghost use Rattle.zt_wire.specs.Fields.{Finds};
 ghost use Rattle.zt_wire.specs.Values.{mode_of, bound_of, direction_of, interest_mode_of, zid_of, letter_bit, letters_after, options_of, is_key_text, key_read};
 
-use bitflags::Flags;
 use crate::numbers::hex_number;
 use crate::{InterestMode, InterestOptions, LineError};
+use bitflags::Flags;
 use std::alloc::Global;
 use zt_keys::{Key, KeyError};
 use zt_region::{Bound, WhatAmI, Zid};

@@ -1,4 +1,4 @@
-use Rattle.std.proofs.Common.{◌∷◌, ◌++◌, Some, None, length, length-append, string_bytes, refl, sym, ap, ◌∙◌, arith}
+use Rattle.std.proofs.Common.{◌∷◌, Some, None, length, length-append, string_bytes, refl, sym, ap, ◌∙◌, arith}
 use Rattle.zt_streams.specs.Lines.{TakesLine, whole_lines}
 use Rattle.zt_streams.proofs.LineLemmas.{whole_lines-given, rest_of-given, rest-left}
 use Rattle.zt_fabric.proofs.CarryLemmas.{partly-none, partly-next, partly-all, partly-stops}

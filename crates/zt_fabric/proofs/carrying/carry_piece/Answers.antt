@@ -1,4 +1,4 @@
-use Rattle.std.proofs.Common.{◌++◌, ◌+◌, string_bytes}
+use Rattle.std.proofs.Common.{◌++◌, ◌+◌}
 use Rattle.zt_streams.specs.Lines.{whole_lines}
 use Rattle.zt_fabric.proofs.CarryLemmas.{stops-first}
 use Rattle.zt_fabric.proofs.carrying.carry_piece.Goals as goal

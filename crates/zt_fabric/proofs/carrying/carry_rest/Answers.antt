@@ -1,6 +1,6 @@
-use Rattle.std.proofs.Common.{List, ℕ, ◌∷◌, [], Some, None, string_bytes, refl, sym, ap, subst, ◌∙◌}
+use Rattle.std.proofs.Common.{List, ℕ, [], Some, None, string_bytes, sym, ap, subst}
 use Rattle.zt_streams.specs.Lines.{TakesRest, last_line, rest_of}
-use Rattle.zt_fabric.specs.Carrying.{Carries, Stops}
+use Rattle.zt_fabric.specs.Carrying.{Carries}
 use Rattle.zt_fabric.proofs.CarryLemmas.{carries-none, only_line, partly-none, partly-stops}
 use Rattle.zt_fabric.proofs.carrying.carry_rest.Goals as goal
 

@@ -1,13 +1,15 @@
-use Rattle.std.proofs.Common.{List, ℕ, ◌++◌, ◌+◌, ◌≤◌, [], ◌-◌, ◌≡◌, length, take, string_bytes, ap, subst, ◌∙◌, arith}
+use Rattle.std.proofs.Common.{Err, ℕ, ◌-◌, ◌≡◌, length, take, ap, subst, ◌∙◌, arith}
 use Rattle.std.proofs.lemmas.List.{length-take}
 use Rattle.std.specs.Io.KnownBytes.{Consumes}
 use Rattle.zt_laws.proofs.Faithful.{faithful_from, sound_empty}
-use Rattle.zt_laws.specs.Sound.{HasFirstIds}
 use Rattle.zt_streams.specs.Lines.{whole_lines}
 use Rattle.zt_streams.proofs.LineLemmas.{whole_lines-rest_of}
 use Rattle.zt_model.specs.Fabric.{empty_fabric}
 use Rattle.zt_model.specs.Sessions.{is_session_line}
-use Rattle.zt_fabric.proofs.RunLemmas.{fed-front, so_far-none, so_far-next, so_far-end, so_far-start, stopped, finished, too_long, read_failed}
+use Rattle.zt_protocol.specs.declared.errors.RunError.TheVariants as errors
+use Rattle.zt_fabric.specs.Transcripts.{streams}
+use Rattle.zt_fabric.proofs.CompleteLemmas.{complete}
+use Rattle.zt_fabric.proofs.RunLemmas.{fed-front, so_far-next, so_far-end, so_far-start, stopped, finished, too_long, read_failed}
 use Rattle.zt_fabric.proofs.running.run.Goals as goal
 
 pub loop-reads-init : goal.loop-reads-init
@@ -22,8 +24,8 @@ loop-reads-init g c = record {
   write_faults = omega arith;
 }
 
-pub returns-in_default : goal.returns-in_default
-returns-in_default g c =
+pub returns-in_default-clause-answers : goal.returns-in_default-clause-answers
+returns-in_default-clause-answers g c =
     read_failed g.K.Ord.cmp g.K.Key.matching g.K.Key.reading g.K.Key.printed
     (λ lines real. faithful_from g.K.Ord.cmp g.K.Key.matching g.met.K.Ord.total g.met.K.Key.laws.equal_is_same is_session_line lines empty_fabric real (sound_empty g.K.Ord.cmp g.K.Key.matching))
     (g.S.Source.left c.args.source.now) (g.T.Sink.written c.args.sink.now) (g.S.Source.left c.loop-reads.source) (g.T.Sink.written c.loop-reads.sink) (g.S.Source.left c.read.new.self)
@@ -35,8 +37,8 @@ pub finish-requires-clause-whole : goal.finish-requires-clause-whole
 finish-requires-clause-whole g c =
     ap whole_lines c.loop-reads.invariant.so_far.kept_is ∙ whole_lines-rest_of c.loop-reads.invariant.so_far.read
 
-pub returns-then-count-eq0 : goal.returns-then-count-eq0
-returns-then-count-eq0 g c =
+pub returns-then-count-eq0-clause-answers : goal.returns-then-count-eq0-clause-answers
+returns-then-count-eq0-clause-answers g c =
     finished g.K.Ord.cmp g.K.Key.matching g.K.Key.reading g.K.Key.printed
     (λ lines real. faithful_from g.K.Ord.cmp g.K.Key.matching g.met.K.Ord.total g.met.K.Key.laws.equal_is_same is_session_line lines empty_fabric real (sound_empty g.K.Ord.cmp g.K.Key.matching))
     (g.S.Source.left c.args.source.now) (g.T.Sink.written c.args.sink.now) (g.S.Source.left c.read.new.self) (g.T.Sink.written c.loop-reads.sink) (g.T.Sink.written c.finish.new.sink)
@@ -48,8 +50,8 @@ returns-then-count-eq0 g c =
     c.loop-reads.invariant.so_far c.in-Ok.ensures.given (ap (λ n. take n c.read.new.buf) c.if-count-eq0.true))
     (c.in-Ok.ensures.end c.if-count-eq0.true) c.loop-reads.invariant.within c.loop-reads.invariant.write_faults c.finish.ensures.ok c.finish.ensures.err
 
-pub returns-in-Err : goal.returns-in-Err
-returns-in-Err g c =
+pub returns-in-Err-clause-answers : goal.returns-in-Err-clause-answers
+returns-in-Err-clause-answers g c =
     let so_far = c.loop-reads.invariant.so_far in
     let n = c.min-in-loop-reads.result in
     stopped g.K.Ord.cmp g.K.Key.matching g.K.Key.reading g.K.Key.printed
@@ -62,8 +64,8 @@ returns-in-Err g c =
     (fed-front so_far.read c.read.new.buf c.in-Ok.count (1048576 - c.loop-reads.total) 1048576 n (omega (arith, so_far.size, c.loop-reads.invariant.within)) (omega (arith, so_far.size)) c.min-in-loop-reads.ensures)
     c.in-Err.ensures.err c.loop-reads.invariant.write_faults
 
-pub returns-then-count-room : goal.returns-then-count-room
-returns-then-count-room g c =
+pub returns-then-count-room-clause-answers : goal.returns-then-count-room-clause-answers
+returns-then-count-room-clause-answers g c =
     let so_far = c.loop-reads.invariant.so_far in
     let n = c.min-in-loop-reads.result in
     too_long g.K.Ord.cmp g.K.Key.matching g.K.Key.reading g.K.Key.printed
@@ -97,3 +99,31 @@ loop-reads-preserved g c =
       read_faults = omega (arith, c.loop-reads.invariant.read_faults, c.read.ensures.count);
       write_faults = omega (arith, c.loop-reads.invariant.write_faults, c.carry_piece.ensures.count);
     }
+
+pub returns-in_default-clause-complete : goal.returns-in_default-clause-complete
+returns-in_default-clause-complete g c =
+    complete g.K.Key.reading g.K.Ord.cmp g.K.Key.matching g.K.Key.printed
+    (streams (g.S.Source.left c.args.source.now) (g.S.Source.faults c.args.source.now) (g.T.Sink.written c.args.sink.now) (g.T.Sink.faults c.args.sink.now))
+    (streams (g.S.Source.left c.read.new.self) (g.S.Source.faults c.read.new.self) (g.T.Sink.written c.loop-reads.sink) (g.T.Sink.faults c.loop-reads.sink))
+    (Err errors.ReadFault) (returns-in_default-clause-answers g c)
+
+pub returns-then-count-eq0-clause-complete : goal.returns-then-count-eq0-clause-complete
+returns-then-count-eq0-clause-complete g c =
+    complete g.K.Key.reading g.K.Ord.cmp g.K.Key.matching g.K.Key.printed
+    (streams (g.S.Source.left c.args.source.now) (g.S.Source.faults c.args.source.now) (g.T.Sink.written c.args.sink.now) (g.T.Sink.faults c.args.sink.now))
+    (streams (g.S.Source.left c.read.new.self) (g.S.Source.faults c.read.new.self) (g.T.Sink.written c.finish.new.sink) (g.T.Sink.faults c.finish.new.sink))
+    c.finish.result (returns-then-count-eq0-clause-answers g c)
+
+pub returns-in-Err-clause-complete : goal.returns-in-Err-clause-complete
+returns-in-Err-clause-complete g c =
+    complete g.K.Key.reading g.K.Ord.cmp g.K.Key.matching g.K.Key.printed
+    (streams (g.S.Source.left c.args.source.now) (g.S.Source.faults c.args.source.now) (g.T.Sink.written c.args.sink.now) (g.T.Sink.faults c.args.sink.now))
+    (streams (g.S.Source.left c.read.new.self) (g.S.Source.faults c.read.new.self) (g.T.Sink.written c.carry_piece.new.sink) (g.T.Sink.faults c.carry_piece.new.sink))
+    (Err c.in-Err.error) (returns-in-Err-clause-answers g c)
+
+pub returns-then-count-room-clause-complete : goal.returns-then-count-room-clause-complete
+returns-then-count-room-clause-complete g c =
+    complete g.K.Key.reading g.K.Ord.cmp g.K.Key.matching g.K.Key.printed
+    (streams (g.S.Source.left c.args.source.now) (g.S.Source.faults c.args.source.now) (g.T.Sink.written c.args.sink.now) (g.T.Sink.faults c.args.sink.now))
+    (streams (g.S.Source.left c.read.new.self) (g.S.Source.faults c.read.new.self) (g.T.Sink.written c.carry_piece.new.sink) (g.T.Sink.faults c.carry_piece.new.sink))
+    (Err errors.TooLong) (returns-then-count-room-clause-answers g c)

@@ -1,6 +1,5 @@
 use Rattle.std.proofs.Common.{◌≡◌, ◌+◌, ◌≤◌, [], length, string_bytes}
 use Rattle.zt_fabric.specs.Carrying.{IsInRange}
-use Rattle.zt_fabric.specs.Transcripts.{streams}
 use Rattle.zt_fabric.proofs.RunLemmas.{SoFar}
 use Rattle.zt_fabric.proofs.running.run.Given as goal
 

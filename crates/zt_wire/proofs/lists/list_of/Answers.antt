@@ -1,6 +1,5 @@
-use Rattle.std.proofs.Common.{◌≡◌, ◌++◌, ◌∷◌, [], ℕ, List, Option, ap, sym, ◌∙◌}
+use Rattle.std.proofs.Common.{◌≡◌, ◌∷◌}
 use Rattle.std.proofs.lemmas.Result.{err_from_is_err_and}
-use Rattle.std.proofs.lemmas.List.{map_push}
 use Rattle.std.specs.Option.{option_copied}
 use Rattle.zt_wire.specs.Fields.{spelled_by, parts_of, parts_left}
 use Rattle.zt_wire.specs.Lists.{each_read, list_read}

@@ -1,4 +1,4 @@
-use Rattle.std.proofs.Common.{◌≡◌, ◌<◌, ℕ, List, length, map}
+use Rattle.std.proofs.Common.{◌≡◌, length, map}
 use Rattle.std.specs.Option.{option_copied}
 use Rattle.zt_wire.specs.Fields.{spelled_by, parts_of, parts_left}
 use Rattle.zt_wire.specs.Lists.{name_of}

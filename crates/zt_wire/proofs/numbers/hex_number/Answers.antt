@@ -1,6 +1,6 @@
-use Rattle.std.proofs.Common.{◌≡◌, ℕ, ◌+◌, ◌-◌, ◌*◌, ◌<◌, get_or, drop, length, Some, None, refl, sym, ap, ◌∙◌, arith, rules, cond}
-use Rattle.std.proofs.lemmas.Bool.{cond-true, cond-false}
-use Rattle.zt_wire.specs.Numbers.{digits_after, is_hex_digit, hex_value, up_to, hex_number, u128_max}
+use Rattle.std.proofs.Common.{sym, ap, ◌∙◌, arith}
+use Rattle.std.proofs.lemmas.Bool.{cond-false}
+use Rattle.zt_wire.specs.Numbers.{is_hex_digit, hex_value, up_to, hex_number, u128_max}
 use Rattle.zt_wire.proofs.NumberLemmas.{too_large, whole, some_up_to}
 use Rattle.zt_wire.proofs.numbers.hex_number.Goals as goal
 
@@ -8,7 +8,7 @@ pub returns-in_err-checked_mul : goal.returns-in_err-checked_mul
 unfolding hex_number
 returns-in_err-checked_mul c =
     c.from_residual.ensures ∙ sym (cond-false _ _ _ (sym c.if-begins_with_zero.ensures)
-      ∙ too_large is_hex_digit hex_value 16 u128_max (λ n. omega arith) c.loop-byte.number c.loop-byte.byte-index c.args.text.now c.loop-byte-test.true c.if-not-is_hex_digit.ensures c.loop-byte.invariant.0 (omega (arith, c.in_err-checked_mul.ensures)))
+    ∙ too_large is_hex_digit hex_value 16 u128_max (λ n. omega arith) c.loop-byte.number c.loop-byte.byte-index c.args.text.now c.loop-byte-test.true c.if-not-is_hex_digit.ensures c.loop-byte.invariant.0 (omega (arith, c.in_err-checked_mul.ensures)))
 
 pub returns : goal.returns
 unfolding hex_number

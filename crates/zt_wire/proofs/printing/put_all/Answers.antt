@@ -1,7 +1,7 @@
 use Rattle.std.proofs.Common.{◌++◌}
 use Rattle.std.specs.Prelude.{string_bytes}
 use Rattle.std.specs.List.{flat_map}
-use Rattle.zt_wire.specs.Text.{Begins, sent_text}
+use Rattle.zt_wire.specs.Text.{sent_text}
 use Rattle.zt_wire.proofs.TextLemmas.{on_err, begins_trans, begins_more, told_more}
 use Rattle.zt_wire.proofs.printing.put_all.Goals as goal
 

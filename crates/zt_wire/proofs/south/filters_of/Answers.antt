@@ -1,8 +1,8 @@
-use Rattle.std.proofs.Common.{◌≡◌, ◌++◌, ◌∷◌, [], ℕ, List, Option, ap, sym, ◌∙◌, map}
+use Rattle.std.proofs.Common.{◌≡◌, ◌∷◌, ap, ◌∙◌, map}
 use Rattle.std.proofs.lemmas.Result.{err_from_is_err_and}
 use Rattle.std.proofs.lemmas.List.{map_push}
 use Rattle.std.specs.Option.{option_copied}
-use Rattle.zt_wire.specs.Fields.{spelled_by, parts_of, parts_left}
+use Rattle.zt_wire.specs.Fields.{parts_of, parts_left}
 use Rattle.zt_wire.specs.Lists.{filter_read}
 use Rattle.zt_region.specs.South.{plain_filter}
 use Rattle.zt_wire.specs.Lists.{each_read, list_read}

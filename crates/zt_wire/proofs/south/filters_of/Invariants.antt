@@ -1,6 +1,6 @@
-use Rattle.std.proofs.Common.{◌≡◌, ◌<◌, ℕ, List, length, map}
+use Rattle.std.proofs.Common.{◌≡◌, length, map}
 use Rattle.std.specs.Option.{option_copied}
-use Rattle.zt_wire.specs.Fields.{spelled_by, parts_of, parts_left}
+use Rattle.zt_wire.specs.Fields.{parts_of, parts_left}
 use Rattle.zt_wire.specs.Lists.{filter_read}
 use Rattle.zt_region.specs.South.{plain_filter}
 use Rattle.zt_wire.specs.Lists.{each_read}

@@ -1,4 +1,4 @@
-use Rattle.std.proofs.Common.{◌≡◌, ◌<◌, drop}
+use Rattle.std.proofs.Common.{◌≡◌, drop}
 use Rattle.zt_wire.specs.Values.{letters_after}
 use Rattle.zt_wire.proofs.values.letters_of.Given as goal
 
