@@ -1,9 +1,9 @@
 -- A complete script has no bad line and is not too long.
-use Rattle.std.proofs.Common.{◌≡◌, ◌⊎◌, ℕ, ◌+◌, ◌<◌, ◌≤◌, Bool, true, false, List, [], ◌∷◌, ◌++◌, length, take, drop, map, Option, Some, None, Result, Ok, Err, IsOkUnless, is_err, inl, inr, refl, sym, ap, subst, ◌∙◌, arith, append_assoc, append-nil, length-append, take-append-drop}
+use Rattle.std.proofs.Common.{◌≡◌, ◌⊎◌, ℕ, Bool, true, false, List, [], ◌∷◌, ◌++◌, length, take, drop, map, Option, Some, None, Result, Ok, Err, IsOkUnless, is_err, inl, inr, refl, sym, ap, ◌∙◌, arith, append_assoc, append-nil, length-append, take-append-drop}
 use Rattle.std.specs.declared.cmp.Ordering.{Ordering}
 use Rattle.std.specs.Io.KnownBytes.{Consumes, IsAtEnd}
 use Rattle.zt_keys.specs.declared.error.KeyError.{KeyError}
-use Rattle.zt_streams.specs.Lines.{lines_of, rest_of, whole_lines}
+use Rattle.zt_streams.specs.Lines.{lines_of, rest_of}
 use Rattle.zt_streams.proofs.LineLemmas.{lines_of-append}
 use Rattle.zt_protocol.specs.Plain.{PlainLine}
 use Rattle.zt_protocol.specs.declared.entries.Report.{Report}

@@ -1,5 +1,5 @@
 -- A line that is read names first ids of at least 1.
-use Rattle.std.proofs.Common.{◌≡◌, ℕ, ◌+◌, ◌≤◌, ◌<◌, List, [], ◌∷◌, map, codes, Option, Some, None, Result, Ok, Err, unwrap_or, refl, sym, subst, arith}
+use Rattle.std.proofs.Common.{◌≡◌, ℕ, ◌≤◌, ◌<◌, List, [], ◌∷◌, map, codes, Option, Some, None, Result, Ok, unwrap_or, sym, subst, arith}
 use Rattle.zt_keys.specs.declared.error.KeyError.{KeyError}
 use Rattle.zt_protocol.specs.Plain.{PlainLine, Gateway, Session, Face, Link, Unlink, Step, Speak, Moment, SetTreesAt}
 use Rattle.zt_wire.specs.Fields.{fields_of}

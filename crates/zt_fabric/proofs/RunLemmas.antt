@@ -133,11 +133,11 @@ module _ {K : Type 0} (cmp : K → K → Ordering) (matching : K → K → Bool)
 
     -- the lines before were carried out, and of those behind them only some
     stopped_at : (left0 written0 left written left' written' : Option (List ℕ)) (s : Fabric K) (r : Report) (kept : List ℕ) (total rf0 rf wf0 wf wf' : ℕ) (e : RunError)
-        (p : SoFar left0 written0 left written s r kept total) (read : List ℕ) → Consumes left0 left' read → (all : List (List ℕ))
+        (p : SoFar left0 written0 left written s r kept total) (read : List ℕ) → Consumes left0 left' read → length read ≤ most_bytes + 1 → (all : List (List ℕ))
         → ((texts others : List (List ℕ)) → whole_lines p.read ++ all ≡ texts ++ others → BeginsWith left' read texts)
         → StopsWriting cmp matching reading printed all s (r.lines + 1) written written' wf wf' e → wf0 ≤ wf
         → Answers cmp matching reading printed (streams left0 rf0 written0 wf0) (streams left' rf written' wf') (Err e)
-    stopped_at left0 written0 left written left' written' s r kept total rf0 rf wf0 wf wf' e p read taken all begins q low = by_cause e q.cause
+    stopped_at left0 written0 left written left' written' s r kept total rf0 rf wf0 wf wf' e p read taken few all begins q low = by_cause e q.cause
       where
         lines : List (List ℕ)
         lines = whole_lines p.read
@@ -157,6 +157,7 @@ module _ {K : Type 0} (cmp : K → K → Ordering) (matching : K → K → Bool)
         by_cause (errors.BadLine n) h = record {
           read = read;
           taken = taken;
+          bounded = few;
           before = whole_lines p.read ++ q.before;
           bad = h.0.0;
           first = begins ((whole_lines p.read ++ q.before) ++ h.0.0 ∷ []) h.0.1
@@ -171,6 +172,7 @@ module _ {K : Type 0} (cmp : K → K → Ordering) (matching : K → K → Bool)
         by_cause errors.Alloc h = record {
           read = read;
           taken = taken;
+          bounded = few;
           texts = whole_lines p.read ++ q.before;
           first = begins (whole_lines p.read ++ q.before) h.0.0 (ap (λ ls. whole_lines p.read ++ ls) h.0.1 ∙ sym (append_assoc (whole_lines p.read) q.before h.0.0));
           entries = shown.entries;
@@ -181,6 +183,7 @@ module _ {K : Type 0} (cmp : K → K → Ordering) (matching : K → K → Bool)
           risen = risen-from wf0 wf wf' low h.2;
           read = read;
           taken = taken;
+          bounded = few;
           texts = whole_lines p.read ++ q.before;
           entries = shown.entries;
           transcript = shown.transcript;
@@ -197,11 +200,11 @@ module _ {K : Type 0} (cmp : K → K → Ordering) (matching : K → K → Bool)
 
     -- a piece wasn't carried out whole
     pub stopped : (left0 written0 left written left' written' : Option (List ℕ)) (s : Fabric K) (r : Report) (kept : List ℕ) (total rf0 rf wf0 wf wf' : ℕ) (e : RunError) (piece fed : List ℕ)
-        (p : SoFar left0 written0 left written s r kept total) → Consumes left left' piece → take most_bytes (p.read ++ piece) ≡ p.read ++ fed
+        (p : SoFar left0 written0 left written s r kept total) → Consumes left left' piece → total + length piece ≤ most_bytes + 1 → take most_bytes (p.read ++ piece) ≡ p.read ++ fed
         → StopsWriting cmp matching reading printed (whole_lines (kept ++ fed)) s (r.lines + 1) written written' wf wf' e → wf0 ≤ wf
         → Answers cmp matching reading printed (streams left0 rf0 written0 wf0) (streams left' rf written' wf') (Err e)
-    stopped left0 written0 left written left' written' s r kept total rf0 rf wf0 wf wf' e piece fed p given front q low =
-        stopped_at left0 written0 left written left' written' s r kept total rf0 rf wf0 wf wf' e p (p.read ++ piece) (Consumes-trans left0 left left' p.read piece p.taken given)
+    stopped left0 written0 left written left' written' s r kept total rf0 rf wf0 wf wf' e piece fed p given few front q low =
+        stopped_at left0 written0 left written left' written' s r kept total rf0 rf wf0 wf wf' e p (p.read ++ piece) (Consumes-trans left0 left left' p.read piece p.taken given) (omega (arith, few, p.size, length-append p.read piece))
         (whole_lines (kept ++ fed)) (λ texts others are. inl (others, ap whole_lines front ∙ sym (lines-grown p.read kept fed p.kept_is) ∙ are)) q low
 
     -- the end wasn't carried out whole
@@ -211,7 +214,7 @@ module _ {K : Type 0} (cmp : K → K → Ordering) (matching : K → K → Bool)
         → Answers cmp matching reading printed (streams left0 rf0 written0 wf0) (streams left rf written' wf') (Err e)
     ended_early left0 written0 left written written' s r kept total rf0 rf wf0 wf wf' e p at_end fits q low =
         let small : length p.read ≤ most_bytes = omega (arith, p.size, fits) in
-        stopped_at left0 written0 left written left written' s r kept total rf0 rf wf0 wf wf' e p p.read p.taken
+        stopped_at left0 written0 left written left written' s r kept total rf0 rf wf0 wf wf' e p p.read p.taken (omega (arith, small))
         (last_line (rest_of kept)) (λ texts others are. inr (others, at_end, small, lines-ended p.read kept p.kept_is ∙ are)) q low
 
     -- all lines were carried out
@@ -265,6 +268,7 @@ module _ {K : Type 0} (cmp : K → K → Ordering) (matching : K → K → Bool)
           risen = risen-from wf0 wf wf' low q.risen;
           read = p.read;
           taken = p.taken;
+          bounded = omega (arith, p.size, fits);
           texts = lines_of p.read;
           entries = all.entries;
           transcript = all.transcript;
@@ -299,10 +303,10 @@ module _ {K : Type 0} (cmp : K → K → Ordering) (matching : K → K → Bool)
 
     -- more was read than a script may have
     pub too_long : (left0 written0 left written left' written' : Option (List ℕ)) (s s' : Fabric K) (r r' : Report) (kept : List ℕ) (total rf0 rf wf0 wf' : ℕ) (piece fed : List ℕ)
-        (p : SoFar left0 written0 left written s r kept total) → Consumes left left' piece → take most_bytes (p.read ++ piece) ≡ p.read ++ fed → most_bytes < total + length piece
+        (p : SoFar left0 written0 left written s r kept total) → Consumes left left' piece → total + length piece ≤ most_bytes + 1 → take most_bytes (p.read ++ piece) ≡ p.read ++ fed → most_bytes < total + length piece
         → Writes cmp matching reading printed (whole_lines (kept ++ fed)) s r s' r' written written'
         → FoundTooMuch cmp matching reading printed (streams left0 rf0 written0 wf0) (streams left' rf written' wf')
-    too_long left0 written0 left written left' written' s s' r r' kept total rf0 rf wf0 wf' piece fed p given front more q =
+    too_long left0 written0 left written left' written' s s' r r' kept total rf0 rf wf0 wf' piece fed p given few front more q =
         let both = writes-then (whole_lines p.read) (whole_lines (kept ++ fed)) empty_fabric s s' no_totals r r' written0 written written' p.writes q in
         let lines : whole_lines p.read ++ whole_lines (kept ++ fed) ≡ whole_lines (take most_bytes (p.read ++ piece)) = lines-grown p.read kept fed p.kept_is ∙ ap whole_lines (sym front) in
         let all = subst (λ (ls : List (List ℕ)). Writes cmp matching reading printed ls empty_fabric no_totals s' r' written0 written') lines both in
@@ -311,6 +315,7 @@ module _ {K : Type 0} (cmp : K → K → Ordering) (matching : K → K → Bool)
         record {
           read = p.read ++ piece;
           taken = Consumes-trans left0 left left' p.read piece p.taken given;
+          bounded = omega (arith, few, p.size, length-append p.read piece);
           longer = omega (arith, more, p.size, length-append p.read piece);
           entries = shown.entries;
           transcript = shown.transcript;

@@ -70,6 +70,7 @@ module _ {K : Type 0} (cmp : K → K → Ordering) (matching : K → K → Bool)
   pub record FoundABadLine (old new : Streams) (number : ℕ) : Type 0 where
     pub read : List ℕ
     pub taken : Consumes old.left new.left read
+    pub bounded : length read ≤ most_bytes + 1
     pub before : List (List ℕ)
     pub bad : List ℕ
     pub first : BeginsWith new.left read (before ++ bad ∷ [])
@@ -84,6 +85,7 @@ module _ {K : Type 0} (cmp : K → K → Ordering) (matching : K → K → Bool)
   pub record FoundTooMuch (old new : Streams) : Type 0 where
     pub read : List ℕ
     pub taken : Consumes old.left new.left read
+    pub bounded : length read ≤ most_bytes + 1
     pub longer : most_bytes < length read
     pub entries : List (PlainEntry K)
     pub transcript : IsTranscript cmp matching reading (whole_lines (take most_bytes read)) entries
@@ -112,6 +114,7 @@ module _ {K : Type 0} (cmp : K → K → Ordering) (matching : K → K → Bool)
     pub risen : HasRisen old.write_faults new.write_faults
     pub read : List ℕ
     pub taken : Consumes old.left new.left read
+    pub bounded : length read ≤ most_bytes + 1
     pub texts : List (List ℕ)
     pub entries : List (PlainEntry K)
     pub transcript : IsTranscript cmp matching reading texts entries
@@ -124,6 +127,7 @@ module _ {K : Type 0} (cmp : K → K → Ordering) (matching : K → K → Bool)
   pub record LackedMemory (old new : Streams) : Type 0 where
     pub read : List ℕ
     pub taken : Consumes old.left new.left read
+    pub bounded : length read ≤ most_bytes + 1
     pub texts : List (List ℕ)
     pub first : BeginsWith new.left read texts
     pub entries : List (PlainEntry K)

@@ -60,7 +60,7 @@ returns-in-Err-clause-answers g c =
     c.loop-reads.run.fabric c.loop-reads.run.report c.loop-reads.feeder c.loop-reads.total
     (g.S.Source.faults c.args.source.now) (g.S.Source.faults c.read.new.self) (g.T.Sink.faults c.args.sink.now) (g.T.Sink.faults c.loop-reads.sink) (g.T.Sink.faults c.carry_piece.new.sink)
     c.in-Err.error (take c.in-Ok.count c.read.new.buf) (take n c.read.new.buf)
-    so_far c.in-Ok.ensures.given
+    so_far c.in-Ok.ensures.given (omega (arith, c.loop-reads.invariant.within, c.min.ensures, c.read.auto.buf, length-take c.min.result c.loop-reads.piece, c.in-Ok.ensures.fits, length-take c.in-Ok.count c.read.new.buf))
     (fed-front so_far.read c.read.new.buf c.in-Ok.count (1048576 - c.loop-reads.total) 1048576 n (omega (arith, so_far.size, c.loop-reads.invariant.within)) (omega (arith, so_far.size)) c.min-in-loop-reads.ensures)
     c.in-Err.ensures.err c.loop-reads.invariant.write_faults
 
@@ -74,7 +74,7 @@ returns-then-count-room-clause-answers g c =
     c.loop-reads.run.fabric c.carry_piece.new.run.fabric c.loop-reads.run.report c.carry_piece.new.run.report c.loop-reads.feeder c.loop-reads.total
     (g.S.Source.faults c.args.source.now) (g.S.Source.faults c.read.new.self) (g.T.Sink.faults c.args.sink.now) (g.T.Sink.faults c.carry_piece.new.sink)
     (take c.in-Ok.count c.read.new.buf) (take n c.read.new.buf)
-    so_far c.in-Ok.ensures.given
+    so_far c.in-Ok.ensures.given (omega (arith, c.loop-reads.invariant.within, c.min.ensures, c.read.auto.buf, length-take c.min.result c.loop-reads.piece, c.in-Ok.ensures.fits, length-take c.in-Ok.count c.read.new.buf))
     (fed-front so_far.read c.read.new.buf c.in-Ok.count (1048576 - c.loop-reads.total) 1048576 n (omega (arith, so_far.size, c.loop-reads.invariant.within)) (omega (arith, so_far.size)) c.min-in-loop-reads.ensures)
     (omega (arith, c.if-count-room.true, c.loop-reads.invariant.within, length-take c.in-Ok.count c.read.new.buf, c.in-Ok.ensures.fits))
     c.in_default-carry_piece.ensures.ok
