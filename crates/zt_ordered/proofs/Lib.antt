@@ -1,0 +1,4 @@
+pub mod Lent
+pub mod Items
+pub mod Filling
+pub mod Collecting

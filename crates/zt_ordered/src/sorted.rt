@@ -1,0 +1,154 @@
+// The body for few rows: a vector in the order of the keys.
+ghost use Rattle.std.specs.Prelude.{◌≡◌, ◌+◌, ◌<◌, ◌≤◌, [], length, None, IsOk, OnOk, OnErr, IfOk, IsTrue, map};
+ghost use Rattle.std.specs.Option.{option_copied};
+ghost use Rattle.std.specs.FinMap.Entries.{put, find, is_sorted};
+ghost use Rattle.std.specs.Map.{keys_of};
+ghost use Rattle.std.specs.Map.Iter.{deref_pair};
+ghost use Rattle.zt_ordered.specs.Rows.{without};
+
+use crate::collect::{ids_of, rows_of};
+use crate::search::place_of;
+use std::alloc::{AllocError, Global};
+use std::marker::Model;
+use std::mem::replace;
+
+// How many rows a vector holds at most, unless it has room for more.
+const FEW: usize = 128;
+
+#[derive(Drop)]
+pub(crate) struct SortedRows<P: Ord, X> {
+    rows: Vec<(P, X)>,
+}
+
+impl<P: Ord, X> Model for SortedRows<P, X> {
+    ghost use Rattle.std.specs.Prelude.{◌-◌, IsTrue, vec_len, vec_capacity};
+    ghost use Rattle.std.specs.FinMap.Entries.{is_sorted};
+    ghost use Rattle.zt_ordered.specs.Table.{Table, table_code};
+
+    ghost Value = { Table P X };
+
+    ghost coded = { table_code P.code X.code };
+
+    ghost view = { λ a. record { rows = a.rows.items; room = vec_capacity a.rows - vec_len a.rows } };
+
+    ghost invariant = { λ a. IsTrue (is_sorted P.cmp a.rows.items) };
+}
+
+impl<P: Ord, X> SortedRows<P, X> {
+    ghost use Rattle.std.specs.Borrow.{sem};
+    ghost use Rattle.std.specs.Option.{option_copied_mut};
+    ghost use Rattle.zt_ordered.specs.LendsSorted.{lends_sorted};
+
+    pub(crate) fn new(alloc: Global) -> Self
+        ensures rows { result.rows ≡ [] }
+    {
+        SortedRows {
+            rows: Vec::new(alloc),
+        }
+    }
+
+    pub(crate) fn len(&self) -> usize
+        ensures len { result ≡ length self.now.rows }
+        ensures in_order { IsTrue (is_sorted P.cmp self.now.rows) }
+    {
+        self.rows.len()
+    }
+
+    pub(crate) fn as_slice(&self) -> &[(P, X)]
+        ensures { result.now ≡ self.now.rows }
+    {
+        &self.rows
+    }
+
+    pub(crate) fn get(&self, key: &P) -> Option<&X>
+        ensures { option_copied result ≡ find P.cmp key.now self.now.rows }
+    {
+        match place_of(&self.rows, key) {
+            Ok(at) => Some(&self.rows[at].1),
+            Err(_) => None,
+        }
+    }
+
+    pub(crate) fn get_mut(&mut self, key: &P) -> Option<&mut X>
+        ensures* writes_back { sem 𝓛 (lends_sorted P.row X.row P.Ord self.entry key.now result) }
+        ensures value { option_copied_mut result ≡ find P.cmp key.now self.old.rows }
+    {
+        match place_of(&self.rows, key) {
+            Ok(at) => Some(&mut self.rows[at].1),
+            Err(_) => None,
+        }
+    }
+
+    pub(crate) fn reserve(&mut self, additional: usize) -> Result<(), AllocError>
+        ensures rows { self.new.rows ≡ self.old.rows }
+        ensures ok { OnOk result (additional ≤ self.new.room) }
+        ensures room { self.old.room ≤ self.new.room }
+        ensures succeeds { additional ≤ self.old.room → IsOk result }
+    {
+        self.rows.reserve(additional)
+    }
+}
+
+impl<P: Ord, X> SortedRows<P, X> {
+    pub(crate) fn in_order(&self, alloc: Global) -> Result<Vec<(&P, &X)>, AllocError>
+        ensures { IfOk result (λ v. map deref_pair v.items ≡ self.now.rows) }
+    {
+        rows_of(alloc, &self.rows)
+    }
+
+    // Whether a vector still suits the rows with so many more: where it has room for them already, and up to `FEW`.
+    pub(crate) fn suits(&self, additional: usize) -> bool
+        ensures { additional ≤ self.now.room → IsTrue result }
+    {
+        let len = self.rows.len();
+        additional <= self.rows.capacity() - len || (len <= FEW && additional <= FEW - len)
+    }
+
+    // The rows, which leave this container empty.
+    pub(crate) fn take_rows(&mut self, alloc: Global) -> Vec<(P, X)>
+        ensures rows { result.items ≡ self.old.rows }
+        ensures in_order { IsTrue (is_sorted P.cmp result.items) }
+        ensures left { self.new.rows ≡ [] }
+    {
+        replace(&mut self.rows, Vec::new(alloc))
+    }
+}
+
+impl<P: Ord + Copy, X> SortedRows<P, X> {
+    pub(crate) fn ids(&self, alloc: Global) -> Result<Vec<P>, AllocError>
+        ensures { IfOk result (λ v. v.items ≡ keys_of self.now.rows) }
+    {
+        ids_of(alloc, &self.rows)
+    }
+}
+
+impl<P: Ord + Drop, X> SortedRows<P, X> {
+    pub(crate) fn put(&mut self, key: P, value: X) -> Option<X>
+        requires { find P.cmp key self.old.rows ≡ None → 0 < self.old.room }
+        ensures rows { self.new.rows ≡ put P.cmp key value self.old.rows }
+        ensures was { result ≡ find P.cmp key self.old.rows }
+        ensures room { self.old.room ≤ self.new.room + 1 }
+    {
+        match place_of(&self.rows, &key) {
+            Ok(at) => Some(replace(&mut self.rows[at].1, value)),
+            Err(at) => match self.rows.insert(at, (key, value)) {
+                Ok(()) => None,
+                Err(_) => unreachable!(),
+            },
+        }
+    }
+
+    pub(crate) fn take(&mut self, key: &P) -> Option<X>
+        ensures rows { self.new.rows ≡ without P.cmp key.now self.old.rows }
+        ensures taken { result ≡ find P.cmp key.now self.old.rows }
+        ensures room { self.old.room ≤ self.new.room }
+    {
+        match place_of(&self.rows, key) {
+            Ok(at) => {
+                let (_, value) = self.rows.remove(at);
+                Some(value)
+            }
+            Err(_) => None,
+        }
+    }
+}
