@@ -1,5 +1,5 @@
 //! What the program does with its words.
-ghost use Rattle.std.specs.Prelude.{◌≡◌, ◌⊎◌, true, false, map, string_bytes, Result};
+ghost use Rattle.std.specs.Prelude.{◌≡◌, ◌⊎◌, ◌+◌, ◌≤◌, true, false, map, string_bytes, Result};
 ghost use Rattle.zt_protocol.specs.declared.entries.Report.{Report};
 ghost use Rattle.zt_protocol.specs.declared.errors.RunError.{RunError};
 ghost use Rattle.zt_fabric.specs.Transcripts.{Answers, GivesComplete, ask_to_run, status_of, streams};
@@ -25,6 +25,7 @@ pub fn tool<S: Source, T: Sink>(alloc: Global, words: &[String], source: &mut S,
     ensures complete { ask_to_run (map string_bytes words.now) ≡ true → GivesComplete ⟦<KeyExpr as Key>⟧.reading
         (streams (S.left source.old) (S.faults source.old) (T.written sink.old) (T.faults sink.old))
         (streams (S.left source.new) (S.faults source.new) (T.written sink.new) (T.faults sink.new)) → (result ≡ 0) ⊎ (result ≡ 5) }
+    ensures reads { S.reads source.new ≤ S.reads source.old + 1048577 }
     ensures unknown { ask_to_run (map string_bytes words.now) ≡ false → result ≡ 64 }
     ensures unread { ask_to_run (map string_bytes words.now) ≡ false → source.new ≡ source.old }
     ensures unwritten { ask_to_run (map string_bytes words.now) ≡ false → sink.new ≡ sink.old }

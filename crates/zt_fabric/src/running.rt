@@ -49,7 +49,7 @@ fn finish<K: Key, T: Sink>(
 
 /// Carries out a script of at most 2^20 bytes and writes its transcript, each line's entry as soon
 /// as the piece is read with which the line is whole. It reads to the end of the source, or until
-/// one byte too many is there, and keeps no more of the script than the unfinished line and one
+/// one byte too many is there, by at most 1,048,577 reads, and keeps no more of the script than the unfinished line and one
 /// piece of 4,096 bytes.
 ///
 /// A complete script, one of at most 2^20 bytes in which each line is of the grammar, is carried
@@ -68,6 +68,7 @@ pub fn run<K: Key, S: Source, T: Sink>(
     ensures complete { GivesComplete K.reading
         (streams (S.left source.old) (S.faults source.old) (T.written sink.old) (T.faults sink.old))
         (streams (S.left source.new) (S.faults source.new) (T.written sink.new) (T.faults sink.new)) → IsOkUnless result RunError.Alloc }
+    ensures reads { S.reads source.new ≤ S.reads source.old + MOST_READS }
 {
     let mut feeder = Feeder::new(alloc);
     let mut run = Progress {

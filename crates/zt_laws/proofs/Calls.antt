@@ -1,21 +1,25 @@
--- Each accepted call leaves the rows sound.
-use Rattle.std.proofs.Common.{◌≡◌, ℕ, Bool, true, false, ◌&&◌, ◌==◌, if◌then◌else◌, [], ◌∷◌, Option, Some, None, refl, sym, ap, ◌∙◌, subst}
+-- Each accepted call of a session leaves the rows sound.
+use Rattle.std.proofs.Common.{◌≡◌, ℕ, Bool, true, false, ◌&&◌, ◌==◌, not, [], ◌∷◌, Option, Some, None, refl, sym, ap, ◌∙◌, subst}
+use Rattle.std.proofs.lemmas.Bool.{and_parts}
 use Rattle.std.specs.Cmp.{IsTotalOrder}
 use Rattle.std.specs.declared.cmp.Ordering.{Ordering}
 use Rattle.std.specs.declared.cmp.Ordering.TheVariants.{Equal}
-use Rattle.zt_protocol.specs.Plain.{PlainCall, NewSession, DeclareToken, UndeclareToken, Interest}
+use Rattle.zt_region.specs.declared.region.Region.TheVariants.{Local}
+use Rattle.zt_protocol.specs.Plain.{PlainCall, DeclareToken, UndeclareToken, Interest}
 use Rattle.zt_protocol.specs.declared.errors.Refusal.{Refusal}
 use Rattle.zt_model.specs.Lists.{is_some_and}
-use Rattle.zt_model.specs.Refusals.{Causes, call_causes, first_cause, is_interest_id_in_use, is_token_id_in_use, on_face}
+use Rattle.zt_model.specs.Refusals.{Causes, adds_row, call_causes, first_cause, is_interest_id_in_use, is_token_id_in_use, on_face}
 use Rattle.zt_model.specs.Rows.{Face, Rows}
-use Rattle.zt_model.specs.Says.{altered_by, declaring, find_face, interesting, opened_session, parts_of, registers, row_of, said_by, undeclared, undeclaring}
-use Rattle.zt_laws.specs.Sound.{CallHasFirstIds, IsOrderly, RowsAreSound, rows_after_call}
+use Rattle.zt_model.specs.Says.{altered_by, declaring, find_face, interesting, is_routed, row_of, said_by, undeclared, undeclaring}
+use Rattle.zt_model.specs.Sessions.{is_session_call}
+use Rattle.zt_laws.specs.Sessions.{session_parts}
+use Rattle.zt_laws.specs.Sound.{IsOrderly, RowsAreSound, rows_after_call}
 use Rattle.zt_laws.proofs.Asking.{sound_interesting}
 use Rattle.zt_laws.proofs.Declaring.{sound_declaring}
 use Rattle.zt_laws.proofs.Faces.{carried}
 use Rattle.zt_laws.proofs.Hearing.{find_each, rows_heard_nothing}
-use Rattle.zt_laws.proofs.Lists.{by_test}
-use Rattle.zt_laws.proofs.Opening.{sound_opened}
+use Rattle.zt_laws.proofs.Lists.{never}
+use Rattle.zt_laws.proofs.SessionCalls.{after_session_call, session_is_unrouted}
 use Rattle.zt_laws.proofs.Undeclaring.{forgetting, sound_forgetting, undeclared_only}
 
 -- no cause holds: the first doesn't, nor a later one
@@ -33,24 +37,20 @@ module _ {K : Type 0} (cmp : K → K → Ordering) (matching : K → K → Bool)
   unfolding said_by altered_by
   carried_nothing g = rows_heard_nothing cmp g
 
-  pub carried_opened : (first : ℕ) (g : Rows K) → rows_after_call cmp matching (NewSession first) g ≡ opened_session first g
-  unfolding parts_of said_by altered_by
-  carried_opened first g = rows_heard_nothing cmp (opened_session first g)
-
   sound_nothing : (g : Rows K) → RowsAreSound cmp matching g → RowsAreSound cmp matching (carried cmp matching [] g)
   sound_nothing g sound = subst (RowsAreSound cmp matching) (sym (carried_nothing g)) sound
 
   module _ (total : IsTotalOrder cmp) (equal_is_same : (a b : K) → cmp a b ≡ Equal → a ≡ b) where
-    sound_declare : (n id : ℕ) (e : K) (interest : Option ℕ) (g : Rows K) → on_face n g (λ f. registers f interest && is_token_id_in_use cmp id e f) ≡ false → RowsAreSound cmp matching g
-        → RowsAreSound cmp matching (carried cmp matching (elim (find_face n g) [ None ↦ [] | Some f ↦ if registers f interest then declaring cmp matching n id e f else [] ]) g)
-    sound_declare n id e interest g free sound = cases (find_face n g) refl
+    sound_declare : (n id : ℕ) (e : K) (g : Rows K) → on_face n g (λ f. adds_row None g f && is_token_id_in_use cmp id e f) ≡ false → RowsAreSound cmp matching g
+        → RowsAreSound cmp matching (carried cmp matching (elim (find_face n g) [ None ↦ [] | Some f ↦ declaring cmp matching n id e f ]) g)
+    sound_declare n id e g free sound = cases (find_face n g) refl
       where
-        cases : (o : Option (Face K)) → find_face n g ≡ o → RowsAreSound cmp matching (carried cmp matching (elim o [ None ↦ [] | Some f ↦ if registers f interest then declaring cmp matching n id e f else [] ]) g)
+        cases : (o : Option (Face K)) → find_face n g ≡ o → RowsAreSound cmp matching (carried cmp matching (elim o [ None ↦ [] | Some f ↦ declaring cmp matching n id e f ]) g)
         cases None found = sound_nothing g sound
         cases (Some f) found =
-            by_test (registers f interest)
-            (λ here. rw here (sound_declaring cmp matching total equal_is_same n id e f g found (ap (λ b. b && is_token_id_in_use cmp id e f) (sym here) ∙ not_on_face n g (λ f. registers f interest && is_token_id_in_use cmp id e f) f found free) sound))
-            (λ here. rw here (sound_nothing g sound))
+            let plain : is_routed g f ≡ false = session_is_unrouted g f (find_each (λ f. f.region ≡ Local) (λ f. n == f.number) g.faces f sound.of_sessions.faces found) in
+            sound_declaring cmp matching total equal_is_same n id e f g found
+            (ap (λ b. not b && true && is_token_id_in_use cmp id e f) (sym plain) ∙ not_on_face n g (λ f. adds_row None g f && is_token_id_in_use cmp id e f) f found free) sound
 
     sound_undeclare : (n id : ℕ) (given : Option K) (g : Rows K) → RowsAreSound cmp matching g
         → RowsAreSound cmp matching (carried cmp matching (elim (find_face n g) [ None ↦ [] | Some f ↦ undeclaring cmp matching n id given f ]) g)
@@ -66,20 +66,19 @@ module _ {K : Type 0} (cmp : K → K → Ordering) (matching : K → K → Bool)
         cases None found = sound_nothing g sound
         cases (Some f) found = one f found (undeclared cmp matching id given f) refl
 
-    -- each accepted call leaves the rows sound
-    pub sound_after_call : (spent : Bool) (c : PlainCall K) (g : Rows K) → CallHasFirstIds c → first_cause (call_causes cmp matching spent c g) ≡ None → RowsAreSound cmp matching g → RowsAreSound cmp matching (rows_after_call cmp matching c g)
-    unfolding parts_of call_causes
-    sound_after_call spent (NewSession first) g real accepted sound =
-        subst (RowsAreSound cmp matching) (sym (carried_opened first g)) (sound_opened cmp matching first g real sound)
-    sound_after_call spent (DeclareToken n id e node interest) g real accepted sound =
+    sound_session_parts : (spent : Bool) (c : PlainCall K) (g : Rows K) → is_session_call c ≡ true → first_cause (call_causes cmp matching spent c g) ≡ None → RowsAreSound cmp matching g → RowsAreSound cmp matching (carried cmp matching (session_parts cmp matching c g) g)
+    unfolding call_causes
+    sound_session_parts spent (DeclareToken n id e node None) g built accepted sound =
         let one = no_cause _ _ _ accepted in
         let two = no_cause _ _ _ one.1 in
         let three = no_cause _ _ _ two.1 in
         let four = no_cause _ _ _ three.1 in
         let five = no_cause _ _ _ four.1 in
-        sound_declare n id e interest g five.0 sound
-    sound_after_call spent (UndeclareToken n id given node) g real accepted sound = sound_undeclare n id given g sound
-    sound_after_call spent (Interest n id mode options e) g real accepted sound =
+        let six = no_cause _ _ _ five.1 in
+        sound_declare n id e g six.0 sound
+    sound_session_parts spent (DeclareToken n id e node (Some interest)) g built accepted sound = never (and_parts (node == 0) false built).1 refl
+    sound_session_parts spent (UndeclareToken n id given node) g built accepted sound = sound_undeclare n id given g sound
+    sound_session_parts spent (Interest n id mode options e) g built accepted sound =
         let one = no_cause _ _ _ accepted in
         let two = no_cause _ _ _ one.1 in
         let three = no_cause _ _ _ two.1 in
@@ -90,4 +89,9 @@ module _ {K : Type 0} (cmp : K → K → Ordering) (matching : K → K → Bool)
         cases : (o : Option (Face K)) → find_face n g ≡ o → on_face n g (is_interest_id_in_use id mode) ≡ false → RowsAreSound cmp matching (carried cmp matching (elim o [ None ↦ [] | Some f ↦ interesting cmp matching n id (row_of cmp matching f mode options e) ]) g)
         cases None found free = sound_nothing g sound
         cases (Some f) found free = sound_interesting cmp matching n id (row_of cmp matching f mode options e) g total equal_is_same f found (not_on_face n g (is_interest_id_in_use id mode) f found free) sound
-    sound_after_call spent c g real accepted sound = sound_nothing g sound
+    sound_session_parts spent c g built accepted sound = never built refl
+
+    -- each accepted call of a session leaves the rows sound
+    pub sound_after_call : (spent : Bool) (c : PlainCall K) (g : Rows K) → is_session_call c ≡ true → first_cause (call_causes cmp matching spent c g) ≡ None → RowsAreSound cmp matching g → RowsAreSound cmp matching (rows_after_call cmp matching c g)
+    sound_after_call spent c g built accepted sound =
+        subst (RowsAreSound cmp matching) (sym (after_session_call cmp matching c g built sound.of_sessions)) (sound_session_parts spent c g built accepted sound)

@@ -1,25 +1,31 @@
 -- The ids that a call draws for a face are as many as the call needs for it.
 use Rattle.std.proofs.Common.{◌≡◌, ℕ, ◌+◌, Bool, true, false, if◌then◌else◌, ◌&&◌, ◌||◌, ◌==◌, [], map, length, Option, Some, None, refl, sym, ap, ◌∙◌, subst, arith}
+use Rattle.std.proofs.lemmas.Bool.{and_parts}
 use Rattle.std.specs.Cmp.{IsTotalOrder}
 use Rattle.std.specs.declared.cmp.Ordering.{Ordering}
 use Rattle.std.specs.declared.cmp.Ordering.TheVariants.{Equal}
+use Rattle.zt_region.specs.declared.region.Region.TheVariants.{Local}
 use Rattle.zt_protocol.specs.Interest.{is_future}
-use Rattle.zt_protocol.specs.Plain.{PlainCall, NewSession, DeclareToken, UndeclareToken, Interest}
+use Rattle.zt_protocol.specs.Plain.{PlainCall, DeclareToken, UndeclareToken, Interest}
 use Rattle.zt_protocol.specs.declared.interests.InterestMode.{InterestMode}
 use Rattle.zt_protocol.specs.declared.interests.InterestOptions.{InterestOptions}
-use Rattle.zt_model.specs.Refusals.{ids_for_interest, need}
+use Rattle.zt_model.specs.Refusals.{ids_for_interest, ids_for_target, is_answered_anew, need}
+use Rattle.zt_model.specs.Routing.{is_target}
 use Rattle.zt_model.specs.Rows.{Face, Rows}
-use Rattle.zt_model.specs.Says.{answered_expressions, declaring, find_face, interesting, is_routed, is_told, parts_of, registered, registers, row_of, undeclared, undeclaring, unregistered, with_face}
+use Rattle.zt_model.specs.Says.{answered_expressions, declaring, find_face, interesting, is_routed, is_told, registered, registers, row_of, undeclared, undeclaring, unregistered, with_face}
+use Rattle.zt_model.specs.Sessions.{is_session_call}
 use Rattle.zt_model.specs.Transcript.{Each}
 use Rattle.zt_model.specs.Visible.{is_visible}
 use Rattle.zt_laws.specs.Effects.{forgotten, next_after_answers, not_named, told_anew}
-use Rattle.zt_laws.specs.Sound.{IsOrderly, IsToldInOrder, RowsAreSound, opens_face, rows_after_call}
+use Rattle.zt_laws.specs.Sessions.{IsOfSessions, session_parts}
+use Rattle.zt_laws.specs.Sound.{IsOrderly, IsToldInOrder, RowsAreSound, rows_after_call}
 use Rattle.zt_laws.proofs.Asking.{asking_face, asking_next, carried_interesting}
 use Rattle.zt_laws.proofs.Calls.{carried_nothing}
 use Rattle.zt_laws.proofs.Faces.{carried, chosen_leaves}
 use Rattle.zt_laws.proofs.Hearing.{find_none, find_only}
 use Rattle.zt_laws.proofs.Lists.{by_test, each_always, each_both, each_weaker, map-map, map_alike, never}
 use Rattle.zt_laws.proofs.Phases.{after_declaring, after_forgetting, answers_alike, rows_after_declaring, rows_after_forgetting}
+use Rattle.zt_laws.proofs.SessionCalls.{after_session_call, session_is_no_target}
 use Rattle.zt_laws.proofs.Undeclaring.{forgetting}
 
 module _ {K : Type 0} (cmp : K → K → Ordering) (matching : K → K → Bool) where
@@ -95,21 +101,34 @@ module _ {K : Type 0} (cmp : K → K → Ordering) (matching : K → K → Bool)
         counted true k m = refl
         counted false k m = omega arith
 
-    -- The next id of each face rises by what the call needs for it.
-    pub drawn_is_need : (c : PlainCall K) (g : Rows K) → opens_face c ≡ false → RowsAreSound cmp matching g → HasDrawn (need cmp matching c g) g (rows_after_call cmp matching c g)
-    unfolding need parts_of
-    drawn_is_need (NewSession first) g closed sound = never refl closed
-    drawn_is_need (DeclareToken n id e node interest) g closed sound = cases (find_face n g) refl
+    same_count : (count other : Face K → ℕ) (g after : Rows K) → Each (λ f. count f ≡ other f) g.faces → HasDrawn count g after → HasDrawn other g after
+    same_count count other g after alike drawn =
+        drawn ∙ map_alike (λ f. f.next + count f) (λ f. f.next + other f) g.faces (each_weaker (λ f. count f ≡ other f) (λ f. f.next + count f ≡ f.next + other f) (λ f h. ap (λ k. f.next + k) h) g.faces alike)
+
+    -- no interest goes upstream, so none needs an id there
+    no_target : (n : ℕ) (mode : InterestMode) (g : Rows K) → IsOfSessions g → Each (λ f. ids_for_target cmp matching n mode g f ≡ 0) g.faces
+    no_target n mode g sessions = each_weaker (λ f. f.region ≡ Local) (λ f. ids_for_target cmp matching n mode g f ≡ 0) (λ f local. cases f local (find_face n g)) g.faces sessions.faces
+      where
+        cases : (f : Face K) → f.region ≡ Local → (o : Option (Face K)) → (let k : ℕ = elim o [ None ↦ 0 | Some from ↦ if is_target g from.region mode f then 1 else 0 ] in k) ≡ 0
+        cases f local None = refl
+        cases f local (Some from) = ap (λ b. if b then 1 else 0) (session_is_no_target g from.region mode f local)
+
+    or_nothing : (b : Bool) → (b || false) ≡ b
+    or_nothing true = refl
+    or_nothing false = refl
+
+    drawn_by_parts : (c : PlainCall K) (g : Rows K) → is_session_call c ≡ true → RowsAreSound cmp matching g → HasDrawn (need cmp matching c g) g (carried cmp matching (session_parts cmp matching c g) g)
+    unfolding need
+    drawn_by_parts (DeclareToken n id e node None) g built sound = cases (find_face n g) refl
       where
         cases : (o : Option (Face K)) → find_face n g ≡ o
-            → HasDrawn (λ f. elim o [ None ↦ 0 | Some from ↦ if registers from interest && is_told cmp matching g from.region e f then 1 else 0 ]) g
-            (carried cmp matching (elim o [ None ↦ [] | Some from ↦ if registers from interest then declaring cmp matching n id e from else [] ]) g)
+            → HasDrawn (λ f. elim o [ None ↦ 0 | Some from ↦ if registers from None && (is_told cmp matching g from.region e f || is_answered_anew cmp matching n None e from f) then 1 else 0 ]) g
+            (carried cmp matching (elim o [ None ↦ [] | Some from ↦ declaring cmp matching n id e from ]) g)
         cases None found = drawn_nothing g
         cases (Some from) found =
-            by_test (registers from interest)
-            (λ here. rw here (drawn_declaring n id e from g (λ f. if is_told cmp matching g from.region e f then 1 else 0) (λ f. refl) sound))
-            (λ here. rw here (drawn_nothing g))
-    drawn_is_need (UndeclareToken n id given node) g closed sound = cases (find_face n g)
+            drawn_declaring n id e from g (λ f. if is_told cmp matching g from.region e f || false then 1 else 0) (λ f. ap (λ b. if b then 1 else 0) (or_nothing (is_told cmp matching g from.region e f))) sound
+    drawn_by_parts (DeclareToken n id e node (Some interest)) g built sound = never (and_parts (node == 0) false built).1 refl
+    drawn_by_parts (UndeclareToken n id given node) g built sound = cases (find_face n g)
       where
         one : (f : Face K) (o : Option K) → HasDrawn (λ f. 0) g (carried cmp matching (elim o [ None ↦ [] | Some e ↦ forgetting cmp matching n id e f ]) g)
         one f None = drawn_nothing g
@@ -118,7 +137,10 @@ module _ {K : Type 0} (cmp : K → K → Ordering) (matching : K → K → Bool)
         cases : (o : Option (Face K)) → HasDrawn (λ f. 0) g (carried cmp matching (elim o [ None ↦ [] | Some f ↦ undeclaring cmp matching n id given f ]) g)
         cases None = drawn_nothing g
         cases (Some f) = one f (undeclared cmp matching id given f)
-    drawn_is_need (Interest n id mode options e) g closed sound = cases (find_face n g) refl
+    drawn_by_parts (Interest n id mode options e) g built sound =
+        same_count (ids_for_interest cmp matching n mode options e g) (λ f. ids_for_interest cmp matching n mode options e g f + ids_for_target cmp matching n mode g f) g (carried cmp matching (session_parts cmp matching (Interest n id mode options e) g) g)
+        (each_weaker (λ f. ids_for_target cmp matching n mode g f ≡ 0) (λ f. ids_for_interest cmp matching n mode options e g f ≡ ids_for_interest cmp matching n mode options e g f + ids_for_target cmp matching n mode g f) (λ f none_. omega arith) g.faces (no_target n mode g sound.of_sessions))
+        (cases (find_face n g) refl)
       where
         unknown : find_face n g ≡ None → HasDrawn (ids_for_interest cmp matching n mode options e g) g (carried cmp matching [] g)
         unknown found = drawn_none (ids_for_interest cmp matching n mode options e g) g (each_weaker (λ f. (n == f.number) ≡ false) (λ f. ids_for_interest cmp matching n mode options e g f ≡ 0) (λ f miss. rw miss refl) g.faces (find_none (λ f. n == f.number) g.faces found))
@@ -126,4 +148,8 @@ module _ {K : Type 0} (cmp : K → K → Ordering) (matching : K → K → Bool)
         cases : (o : Option (Face K)) → find_face n g ≡ o → HasDrawn (ids_for_interest cmp matching n mode options e g) g (carried cmp matching (elim o [ None ↦ [] | Some from ↦ interesting cmp matching n id (row_of cmp matching from mode options e) ]) g)
         cases None found = unknown found
         cases (Some from) found = drawn_asking n id mode options e from g found sound
-    drawn_is_need c g closed sound = drawn_nothing g
+    drawn_by_parts c g built sound = never built refl
+
+    -- The next id of each face rises by what a session's call needs for it.
+    pub drawn_is_need : (c : PlainCall K) (g : Rows K) → is_session_call c ≡ true → RowsAreSound cmp matching g → HasDrawn (need cmp matching c g) g (rows_after_call cmp matching c g)
+    drawn_is_need c g built sound = subst (HasDrawn (need cmp matching c g) g) (sym (after_session_call cmp matching c g built sound.of_sessions)) (drawn_by_parts c g built sound)

@@ -2,6 +2,7 @@
 use Rattle.std.proofs.Common.{◌≡◌, ℕ, ◌≤◌, Bool, true, false, cond, not, if◌then◌else◌, ◌&&◌, ◌==◌, List, map, refl, sym, ap, ◌∙◌, subst}
 use Rattle.std.specs.declared.cmp.Ordering.{Ordering}
 use Rattle.zt_region.specs.declared.region.Region.{Region}
+use Rattle.zt_region.specs.declared.region.Region.TheVariants.{Local}
 use Rattle.zt_region.specs.Admission.{admits}
 use Rattle.zt_model.specs.Hearing.{rows_heard}
 use Rattle.zt_model.specs.Rows.{Face, Rows}
@@ -50,6 +51,12 @@ module _ {K : Type 0} (cmp : K → K → Ordering) (matching : K → K → Bool)
       → ((f : Face K) → P f → IsOrderly cmp f → is_routed g f ≡ false → KeepsWhatItShould cmp matching g f → KeepsWhatItShould cmp matching (record g { faces = map change g.faces }) (change f))
       → Each P g.faces → RowsAreSound cmp matching g → RowsAreSound cmp matching (record g { faces = map change g.faces })
   sound_by P change g number_ region_ orderly_ keeps_ known sound = record {
+    of_sessions = record {
+      mode = sound.of_sessions.mode;
+      regions = sound.of_sessions.regions;
+      routed = sound.of_sessions.routed;
+      faces = each_map (λ f. f.region ≡ Local) change g.faces (each_weaker (λ f. f.region ≡ Local) (λ f. (change f).region ≡ Local) (λ f local. region_ f ∙ local) g.faces sound.of_sessions.faces);
+    };
     faces_rise = rise_map (λ f. f.number) 1 change g.faces number_ sound.faces_rise;
     faces_made = each_map (λ f. f.number ≤ g.made) change g.faces (each_weaker (λ f. f.number ≤ g.made) (λ f. (change f).number ≤ g.made) (λ f h. subst (λ n. n ≤ g.made) (sym (number_ f)) h) g.faces sound.faces_made);
     orderly = each_map (IsOrderly cmp) change g.faces (each_both P (IsOrderly cmp) (λ f. IsOrderly cmp (change f)) orderly_ g.faces known sound.orderly);

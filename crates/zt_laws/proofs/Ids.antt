@@ -8,21 +8,27 @@ use Rattle.std.specs.FinMap.Entries.{put, by_order}
 use Rattle.std.specs.declared.cmp.Ordering.{Ordering}
 use Rattle.std.specs.declared.cmp.Ordering.TheVariants.{Less, Equal, Greater}
 use Rattle.zt_region.specs.declared.region.Region.{Region}
+use Rattle.zt_region.specs.declared.region.Region.TheVariants.{Local}
 use Rattle.zt_region.specs.Admission.{admits}
 use Rattle.zt_protocol.specs.Interest.{is_current, is_future, has_tokens}
-use Rattle.zt_protocol.specs.Plain.{PlainCall, DeclareToken, Interest}
+use Rattle.zt_protocol.specs.Plain.{PlainCall, DeclareToken, UndeclareToken, Interest}
 use Rattle.zt_protocol.specs.declared.interests.InterestMode.{InterestMode}
 use Rattle.zt_protocol.specs.declared.interests.InterestOptions.{InterestOptions}
 use Rattle.zt_model.specs.Lists.{first_where, is_among, same}
-use Rattle.zt_model.specs.Refusals.{asks_upstream, could, could_spend_ids, ids_for_interest, left_ids, need, spends_ids}
+use Rattle.zt_model.specs.Refusals.{asks_upstream, can_draw, could, could_spend_ids, faces_with, ids_for_interest, ids_for_target, ids_for_token, is_answered_anew, left_ids, need, spends_ids}
+use Rattle.zt_model.specs.Routing.{is_target}
 use Rattle.zt_model.specs.Rows.{ById, Face, InterestRow, Rows}
-use Rattle.zt_model.specs.Says.{altered_by, answered_expressions, asked, declaring, find_face, interesting, is_routed, is_told, parts_of, registered, registers, row_of, with_face}
+use Rattle.zt_model.specs.Says.{altered_by, answered_expressions, asked, declaring, find_face, interesting, is_routed, is_told, registered, registers, row_of, with_face}
 use Rattle.zt_model.specs.Visible.{is_visible, keeps, routed_rows, rows_of_face, shows, visible_expressions}
 use Rattle.zt_model.specs.Wants.{is_about, seeks}
+use Rattle.zt_model.specs.Sessions.{is_session_call}
+use Rattle.zt_model.specs.Transcript.{Each}
+use Rattle.zt_laws.specs.Sessions.{IsOfSessions, session_parts}
 use Rattle.zt_laws.proofs.Faces.{chosen_leaves}
 use Rattle.zt_laws.proofs.Hearing.{find_passes}
 use Rattle.zt_laws.proofs.Keys.{among-filter, same_itself}
-use Rattle.zt_laws.proofs.Lists.{any-map, any_none, any_weaker, by_test, each_always, never}
+use Rattle.zt_laws.proofs.Lists.{any-map, any_none, by_test, each_always, never}
+use Rattle.zt_laws.proofs.SessionCalls.{session_call, session_is_no_target}
 use Rattle.zt_laws.proofs.Visible.{any_live_rows, among-visible_expressions, flat_map_map, visible_expressions_alike}
 
 -- what is found passes what it passes
@@ -86,29 +92,35 @@ module _ {K : Type 0} (cmp : K → K → Ordering) (matching : K → K → Bool)
       length (filter (λ e. not (keeps cmp f e)) (visible_expressions cmp after f.region))
       + (sum_by (λ x. length x.held) after.faces + sum_by (asks_upstream cmp matching) after.faces)
 
-  need_declare : (n id : ℕ) (e : K) (node : ℕ) (interest : Option ℕ) (g : Rows K) (f : Face K) → need cmp matching (DeclareToken n id e node interest) g f ≤ could cmp matching (DeclareToken n id e node interest) g f
-  unfolding need could parts_of altered_by
-  need_declare n id e node interest g f = cases (find_face n g) refl
+  or_nothing : (b : Bool) → (b || false) ≡ b
+  or_nothing true = refl
+  or_nothing false = refl
+
+  -- what a session's token needs, over the rows that its parts leave
+  need_declare : (n id : ℕ) (e : K) (g : Rows K) (f : Face K) → ids_for_token cmp matching n None e g f ≤ could_from (altered_by cmp matching (elim (find_face n g) [ None ↦ [] | Some from ↦ declaring cmp matching n id e from ]) g) f
+  unfolding altered_by
+  need_declare n id e g f = cases (find_face n g) refl
     where
       cases : (o : Option (Face K)) → find_face n g ≡ o
-          → elim o [ None ↦ 0 | Some from ↦ if registers from interest && is_told cmp matching g from.region e f then 1 else 0 ]
-          ≤ could_from (altered_by cmp matching (elim o [ None ↦ [] | Some from ↦ if registers from interest then declaring cmp matching n id e from else [] ]) g) f
+          → elim o [ None ↦ 0 | Some from ↦ if registers from None && (is_told cmp matching g from.region e f || is_answered_anew cmp matching n None e from f) then 1 else 0 ]
+          ≤ could_from (altered_by cmp matching (elim o [ None ↦ [] | Some from ↦ declaring cmp matching n id e from ]) g) f
       cases None found = omega arith
       cases (Some from) found =
-          by_test (registers from interest && is_told cmp matching g from.region e f)
+          subst (λ b. (if b then 1 else 0) ≤ could_from (with_face n (registered id e) g) f) (sym (or_nothing (is_told cmp matching g from.region e f)))
+          (by_test (is_told cmp matching g from.region e f)
           (λ here.
-          let parts = and_parts (registers from interest) (is_told cmp matching g from.region e f) here in
-          let whole = and_parts (not (is_routed g f)) (admits g.refused from.region f.region && shows f.region from.region && not (keeps cmp f e) && seeks matching f e) parts.1 in
+          let whole = and_parts (not (is_routed g f)) (admits g.refused from.region f.region && shows f.region from.region && not (keeps cmp f e) && seeks matching f e) here in
           let sought = and_parts (admits g.refused from.region f.region && shows f.region from.region && not (keeps cmp f e)) (seeks matching f e) whole.1 in
           let new_ = and_parts (admits g.refused from.region f.region && shows f.region from.region) (not (keeps cmp f e)) sought.0 in
           let shown = (and_parts (admits g.refused from.region f.region) (shows f.region from.region) new_.0).1 in
           let one : 1 ≤ length (filter (λ k. not (keeps cmp f k)) (visible_expressions cmp (with_face n (registered id e) g) f.region)) =
           one_could (with_face n (registered id e) g) f e (visible_new n id e from g f.region found shown) (not-true (keeps cmp f e) new_.1) in
-          rw here (rw parts.0 (omega arith)))
-          (λ here. rw here (omega arith))
+          rw here (omega arith))
+          (λ here. rw here (omega arith)))
 
-  need_interest : (n id : ℕ) (mode : InterestMode) (options : InterestOptions) (e : Option K) (g : Rows K) (f : Face K) → need cmp matching (Interest n id mode options e) g f ≤ could cmp matching (Interest n id mode options e) g f
-  unfolding need could parts_of altered_by
+  need_interest : (n id : ℕ) (mode : InterestMode) (options : InterestOptions) (e : Option K) (g : Rows K) (f : Face K)
+      → ids_for_interest cmp matching n mode options e g f ≤ could_from (altered_by cmp matching (elim (find_face n g) [ None ↦ [] | Some from ↦ interesting cmp matching n id (row_of cmp matching from mode options e) ]) g) f
+  unfolding altered_by
   need_interest n id mode options e g f = cases (find_face n g)
     where
       row : InterestRow K
@@ -131,24 +143,46 @@ module _ {K : Type 0} (cmp : K → K → Ordering) (matching : K → K → Bool)
           asked_alike : (interest : InterestRow K) → visible_expressions cmp (with_face n (asked id interest) g) f.region ≡ visible_expressions cmp g f.region
           asked_alike interest = unfold with_face in visible_expressions_alike cmp g (map (λ f. if n == f.number then asked id interest f else f) g.faces) f.region (flat_map_map rows_of_face (λ f. if n == f.number then asked id interest f else f) g.faces (each_always (λ f. rows_of_face (if n == f.number then asked id interest f else f) ≡ rows_of_face f) (λ f. chosen_leaves rows_of_face (asked id interest) (n == f.number) f refl) g.faces))
 
-  -- a call whose need is above the ids that are left could spend them
-  pub spends_could : (c : PlainCall K) (g : Rows K) → spends_ids cmp matching c g ≡ true → could_spend_ids cmp matching c g ≡ true
+  -- what a session's call needs is at most what it could draw
+  need_is_less : (c : PlainCall K) (g : Rows K) → is_session_call c ≡ true → IsOfSessions g → (f : Face K) → f.region ≡ Local → need cmp matching c g f ≤ could cmp matching c g f
+  unfolding need could
+  need_is_less (DeclareToken n id e node None) g built sessions f local =
+      subst (λ (after : Rows K). ids_for_token cmp matching n None e g f ≤ could_from after f) (sym (session_call cmp matching (DeclareToken n id e node None) g built sessions).1) (need_declare n id e g f)
+  need_is_less (DeclareToken n id e node (Some interest)) g built sessions f local = never (and_parts (node == 0) false built).1 refl
+  need_is_less (Interest n id mode options e) g built sessions f local =
+      subst (λ (after : Rows K). ids_for_interest cmp matching n mode options e g f + ids_for_target cmp matching n mode g f ≤ could_from after f) (sym (session_call cmp matching (Interest n id mode options e) g built sessions).1)
+      (subst (λ k. ids_for_interest cmp matching n mode options e g f + k ≤ could_from (altered_by cmp matching (session_parts cmp matching (Interest n id mode options e) g) g) f) (sym (untargeted (find_face n g)))
+      (let less = need_interest n id mode options e g f in omega arith))
+    where
+      untargeted : (o : Option (Face K)) → (let k : ℕ = elim o [ None ↦ 0 | Some from ↦ if is_target g from.region mode f then 1 else 0 ] in k) ≡ 0
+      untargeted None = refl
+      untargeted (Some from) = ap (λ b. if b then 1 else 0) (session_is_no_target g from.region mode f local)
+  need_is_less (UndeclareToken n id given node) g built sessions f local = omega arith
+  need_is_less c g built sessions f local = never built refl
+
+  any_weaker_of : (P : Face K → Type 0) (p q : Face K → Bool) → ((f : Face K) → P f → p f ≡ true → q f ≡ true) → (fs : List (Face K)) → Each P fs → list_any p fs ≡ true → list_any q fs ≡ true
+  any_weaker_of P p q h [] all some = some
+  any_weaker_of P p q h (f ∷ fs) all some =
+      by_test (p f) (λ here. or_left (q f) (list_any q fs) (h f all.0 here)) (λ here. or_right (q f) (list_any q fs) (any_weaker_of P p q h fs all.1 (rw here at some)))
+
+  -- a session's call whose need is above the ids that are left could spend them
+  pub spends_could : (c : PlainCall K) (g : Rows K) → is_session_call c ≡ true → IsOfSessions g → spends_ids cmp matching c g ≡ true → could_spend_ids cmp matching c g ≡ true
   unfolding spends_ids could_spend_ids need
-  spends_could (DeclareToken n id e node interest) g h =
-      any_weaker (λ f. not (is_routed g f) && nat_lt (left_ids f) (need cmp matching (DeclareToken n id e node interest) g f)) (λ f. not (is_routed g f) && nat_lt (left_ids f) (could cmp matching (DeclareToken n id e node interest) g f))
-      (λ f both. more f (need cmp matching (DeclareToken n id e node interest) g f) (could cmp matching (DeclareToken n id e node interest) g f) (need_declare n id e node interest g f) both)
-      g.faces h
+  spends_could c g built sessions h = by_kind c built h
     where
-      more : (f : Face K) (a b : ℕ) → a ≤ b → (not (is_routed g f) && nat_lt (left_ids f) a) ≡ true → (not (is_routed g f) && nat_lt (left_ids f) b) ≡ true
-      more f a b le both = let parts = and_parts (not (is_routed g f)) (nat_lt (left_ids f) a) both in and_from (not (is_routed g f)) (nat_lt (left_ids f) b) parts.0 (less_with (left_ids f) a b le parts.1)
-  spends_could (Interest n id mode options e) g h =
-      any_weaker (λ f. not (is_routed g f) && nat_lt (left_ids f) (need cmp matching (Interest n id mode options e) g f)) (λ f. not (is_routed g f) && nat_lt (left_ids f) (could cmp matching (Interest n id mode options e) g f))
-      (λ f both. more f (need cmp matching (Interest n id mode options e) g f) (could cmp matching (Interest n id mode options e) g f) (need_interest n id mode options e g f) both)
-      g.faces h
-    where
-      more : (f : Face K) (a b : ℕ) → a ≤ b → (not (is_routed g f) && nat_lt (left_ids f) a) ≡ true → (not (is_routed g f) && nat_lt (left_ids f) b) ≡ true
-      more f a b le both = let parts = and_parts (not (is_routed g f)) (nat_lt (left_ids f) a) both in and_from (not (is_routed g f)) (nat_lt (left_ids f) b) parts.0 (less_with (left_ids f) a b le parts.1)
-  spends_could c g h = absurd (none_spent g.faces h)
-    where
+      more : (c : PlainCall K) → is_session_call c ≡ true → list_any (λ f. not (is_routed g f) && nat_lt (left_ids f) (need cmp matching c g f)) g.faces ≡ true → list_any (λ f. not (is_routed g f) && nat_lt (left_ids f) (could cmp matching c g f)) g.faces ≡ true
+      more c built h =
+          any_weaker_of (λ f. f.region ≡ Local) (λ f. not (is_routed g f) && nat_lt (left_ids f) (need cmp matching c g f)) (λ f. not (is_routed g f) && nat_lt (left_ids f) (could cmp matching c g f))
+          (λ f local both.
+          let parts = and_parts (not (is_routed g f)) (nat_lt (left_ids f) (need cmp matching c g f)) both in
+          and_from (not (is_routed g f)) (nat_lt (left_ids f) (could cmp matching c g f)) parts.0 (less_with (left_ids f) (need cmp matching c g f) (could cmp matching c g f) (need_is_less c g built sessions f local) parts.1))
+          g.faces sessions.faces h
+
       none_spent : (fs : List (Face K)) → list_any (λ f. not (is_routed g f) && nat_lt (left_ids f) 0) fs ≡ true → ⊥
       none_spent fs some = never some (any_none (λ f. not (is_routed g f) && nat_lt (left_ids f) 0) fs (each_always (λ f. (not (is_routed g f) && nat_lt (left_ids f) 0) ≡ false) (λ f. and_right (not (is_routed g f)) (nat_lt (left_ids f) 0) (le-ltb (left_ids f) 0 (omega arith))) fs))
+
+      by_kind : (c : PlainCall K) → is_session_call c ≡ true → list_any (λ f. not (is_routed g f) && nat_lt (left_ids f) (need cmp matching c g f)) (faces_with cmp matching c g) ≡ true → (can_draw cmp matching c && list_any (λ f. not (is_routed g f) && nat_lt (left_ids f) (could cmp matching c g f)) (faces_with cmp matching c g)) ≡ true
+      by_kind (DeclareToken n id e node interest) built h = more (DeclareToken n id e node interest) built h
+      by_kind (Interest n id mode options e) built h = more (Interest n id mode options e) built h
+      by_kind (UndeclareToken n id given node) built h = absurd (none_spent g.faces h)
+      by_kind c built h = never built refl

@@ -7,10 +7,12 @@ pub mod Telling
 pub mod Forgetting
 pub mod Interests
 pub mod Faces
+pub mod SessionCalls
 pub mod Declaring
 pub mod Undeclaring
 pub mod Asking
 pub mod Opening
+pub mod Acting
 pub mod Calls
 pub mod Ids
 pub mod Refusing
@@ -23,5 +25,4 @@ pub mod Lines
 pub mod Faithful
 pub mod Asks
 pub mod Phases
-pub mod Steps
 pub mod Drawn

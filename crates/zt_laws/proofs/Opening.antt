@@ -43,6 +43,12 @@ module _ {K : Type 0} (cmp : K → K → Ordering) (matching : K → K → Bool)
 
   pub sound_opened : (first : ℕ) (g : Rows K) → 1 ≤ first → RowsAreSound cmp matching g → RowsAreSound cmp matching (opened_session first g)
   sound_opened first g real sound = record {
+    of_sessions = record {
+      mode = sound.of_sessions.mode;
+      regions = sound.of_sessions.regions;
+      routed = sound.of_sessions.routed;
+      faces = each_append (λ f. f.region ≡ Local) g.faces (new_ ∷ []) sound.of_sessions.faces (refl, tt);
+    };
     faces_rise = rise_push (λ f. f.number) 1 g.faces new_ (omega arith) (each_weaker (λ f. f.number ≤ g.made) (λ f. f.number < g.made + 1) (λ f h. omega arith) g.faces sound.faces_made) sound.faces_rise;
     faces_made = each_append (λ f. f.number ≤ g.made + 1) g.faces (new_ ∷ []) (each_weaker (λ f. f.number ≤ g.made) (λ f. f.number ≤ g.made + 1) (λ f h. omega arith) g.faces sound.faces_made) (omega arith, tt);
     orderly = each_append (IsOrderly cmp) g.faces (new_ ∷ []) sound.orderly (orderly_new (g.made + 1) Local first g real, tt);

@@ -1,18 +1,24 @@
 -- A line is refused by its cause, as the transcript shows it.
-use Rattle.std.proofs.Common.{◌≡◌, ◌⊎◌, Bool, true, false, [], ◌∷◌, Option, Some, None, refl, sym, subst, inl, inr, ⊎_elim}
+use Rattle.std.proofs.Common.{◌≡◌, ◌⊎◌, Bool, true, false, ◌&&◌, not, nat_lt, List, [], ◌∷◌, Option, Some, None, refl, sym, ◌∙◌, subst, inl, inr, ⊎_elim, arith, le-ltb}
+use Rattle.std.proofs.lemmas.Bool.{and_right}
+use Rattle.std.specs.List.{list_any}
 use Rattle.std.specs.Cmp.{IsTotalOrder}
 use Rattle.std.specs.declared.cmp.Ordering.{Ordering}
 use Rattle.std.specs.declared.cmp.Ordering.TheVariants.{Equal}
-use Rattle.zt_protocol.specs.Plain.{PlainCall, DeclareToken, Interest, PlainLine, Speak, Moment}
+use Rattle.zt_protocol.specs.Plain.{PlainCall, NewSession, DeclareToken, UndeclareToken, Interest, PlainLine, Gateway, Session, Speak}
 use Rattle.zt_protocol.specs.declared.errors.Refusal.{Refusal}
 use Rattle.zt_protocol.specs.declared.errors.Refusal.TheVariants as refusal
-use Rattle.zt_model.specs.Fabric.{CallAt, Fabric, built_causes, call_of, causes_of_call, entry_by, entry_of, line_causes, line_could_spend_ids, line_spends_ids, said_at, sorted_by_face}
-use Rattle.zt_model.specs.Lists.{is_some_and}
-use Rattle.zt_model.specs.Refusals.{Causes, call_causes, could_spend_ids, first_cause, spends_ids}
-use Rattle.zt_model.specs.Rows.{Rows}
+use Rattle.zt_model.specs.Fabric.{CallAt, Fabric, Node, built_causes, call_of, causes_of_call, entry_by, entry_of, line_causes, line_could_spend_ids, line_spends_ids, said_by_line, sorted_by_face}
+use Rattle.zt_model.specs.Lists.{is_some_and, nth}
+use Rattle.zt_model.specs.Refusals.{Causes, call_causes, could_spend_ids, first_cause, left_ids, need, spends_ids}
+use Rattle.zt_model.specs.Rows.{Face, Rows}
+use Rattle.zt_model.specs.Says.{is_routed}
+use Rattle.zt_model.specs.Sessions.{is_session_call, is_session_line}
 use Rattle.zt_model.specs.Transcript.{IsRefusedByCause}
+use Rattle.zt_laws.specs.Sound.{FabricIsSound}
 use Rattle.zt_laws.proofs.Ids.{spends_could}
-use Rattle.zt_laws.proofs.Lists.{by_test}
+use Rattle.zt_laws.proofs.Lines.{gateway_is_sound, speaking}
+use Rattle.zt_laws.proofs.Lists.{any_none, by_test, each_always, never}
 
 -- the answers of causes that differ at too few ids alone: they are the same, or the second is that
 abbrev pub OnlyIds : Option Refusal → Option Refusal → Type 0
@@ -28,54 +34,71 @@ unfolding first_cause
 ids_last = inr refl
 
 module _ {K : Type 0} (cmp : K → K → Ordering) (matching : K → K → Bool) where
-  call_only_ids : (c : PlainCall K) (g : Rows K) → OnlyIds (first_cause (call_causes cmp matching false c g)) (first_cause (call_causes cmp matching true c g))
+  call_only_ids : (c : PlainCall K) (g : Rows K) → is_session_call c ≡ true → OnlyIds (first_cause (call_causes cmp matching false c g)) (first_cause (call_causes cmp matching true c g))
   unfolding call_causes
-  call_only_ids (DeclareToken n id e node interest) g =
-      cause_first _ _ _ _ (cause_first _ _ _ _ (cause_first _ _ _ _ (cause_first _ _ _ _ (cause_first _ _ _ _ ids_last))))
-  call_only_ids (Interest n id mode options e) g =
-      cause_first _ _ _ _ (cause_first _ _ _ _ (cause_first _ _ _ _ (cause_first _ _ _ _ (cause_first _ _ _ _ ids_last))))
-  call_only_ids c g = inl refl
+  call_only_ids (DeclareToken n id e node interest) g built =
+      cause_first _ _ _ _ (cause_first _ _ _ _ (cause_first _ _ _ _ (cause_first _ _ _ _ (cause_first _ _ _ _ (cause_first _ _ _ _ ids_last)))))
+  call_only_ids (UndeclareToken n id given node) g built = inl refl
+  call_only_ids (Interest n id mode options e) g built =
+      cause_first _ _ _ _ (cause_first _ _ _ _ (cause_first _ _ _ _ (cause_first _ _ _ _ (cause_first _ _ _ _ (cause_first _ _ _ _ ids_last)))))
+  call_only_ids c g built = never built refl
 
-  call_at_only_ids : (at : Option (CallAt K)) → OnlyIds (first_cause (causes_of_call cmp matching false at)) (first_cause (causes_of_call cmp matching true at))
-  call_at_only_ids None = inl refl
-  call_at_only_ids (Some at) = call_only_ids at.call at.rows
-
-  built_only_ids : (line : PlainLine K) (s : Fabric K) → OnlyIds (first_cause (built_causes cmp matching false line s)) (first_cause (built_causes cmp matching true line s))
-  unfolding built_causes
-  built_only_ids (Speak call) s = cause_first _ _ _ _ (cause_first _ _ _ _ (call_at_only_ids (call_of (Speak call) s)))
-  built_only_ids (Moment gateway now) s = cause_first _ _ _ _ (call_at_only_ids (call_of (Moment gateway now) s))
-  built_only_ids line s = inl refl
-
-  line_only_ids : (is_built : PlainLine K → Bool) (line : PlainLine K) (s : Fabric K) → OnlyIds (first_cause (line_causes cmp matching is_built false line s)) (first_cause (line_causes cmp matching is_built true line s))
-  line_only_ids is_built line s = cause_first _ _ _ _ (built_only_ids line s)
+  -- the causes of a line of sessions that is built
+  built_only_ids : (line : PlainLine K) (s : Fabric K) → is_session_line line ≡ true → OnlyIds (first_cause (built_causes cmp matching false line s)) (first_cause (built_causes cmp matching true line s))
+  unfolding built_causes is_session_line
+  built_only_ids (Gateway mode zid regions south name timeout refused) s built = inl refl
+  built_only_ids (Session gateway first) s built = inl refl
+  built_only_ids (Speak call) s built =
+      cause_first _ _ _ _
+      (cause_first _ _ _ _
+      (speaking (λ at. OnlyIds (first_cause (causes_of_call cmp matching false at)) (first_cause (causes_of_call cmp matching true at))) call s built (inl refl) (λ n node c at_ built_. call_only_ids c node.rows built_)))
+  built_only_ids line s built = never built refl
 
   module _ (total : IsTotalOrder cmp) (equal_is_same : (a b : K) → cmp a b ≡ Equal → a ≡ b) where
-    pub line_spends_could : (line : PlainLine K) (s : Fabric K) → line_spends_ids cmp matching line s ≡ true → line_could_spend_ids cmp matching line s ≡ true
-    line_spends_could line s = cases (call_of line s)
+    pub line_spends_could : (line : PlainLine K) (s : Fabric K) → is_session_line line ≡ true → FabricIsSound cmp matching s → line_spends_ids cmp matching line s ≡ true → line_could_spend_ids cmp matching line s ≡ true
+    unfolding is_session_line call_of spends_ids need
+    line_spends_could (Gateway mode zid regions south name timeout refused) s built sound h = never h refl
+    line_spends_could (Session n first) s built sound h = absurd (silent (nth n s.gateways) h)
       where
-        cases : (o : Option (CallAt K)) → is_some_and o (λ at. spends_ids cmp matching at.call at.rows) ≡ true → is_some_and o (λ at. could_spend_ids cmp matching at.call at.rows) ≡ true
-        cases None h = h
-        cases (Some at) h = spends_could cmp matching total equal_is_same at.call at.rows h
+        none_spent : (g : Rows K) (fs : List (Face K)) → list_any (λ f. not (is_routed g f) && nat_lt (left_ids f) 0) fs ≡ true → ⊥
+        none_spent g fs some = never some (any_none (λ f. not (is_routed g f) && nat_lt (left_ids f) 0) fs (each_always (λ f. (not (is_routed g f) && nat_lt (left_ids f) 0) ≡ false) (λ f. and_right (not (is_routed g f)) (nat_lt (left_ids f) 0) (le-ltb (left_ids f) 0 (omega arith))) fs))
+
+        silent : (o : Option (Node K)) → is_some_and (elim o [ None ↦ None | Some node ↦ let at : Option (CallAt K) = Some (record { gateway = n; rows = node.rows; call = NewSession first }) in at ]) (λ at. spends_ids cmp matching at.call at.rows) ≡ true → ⊥
+        silent None h = never h refl
+        silent (Some node) h = none_spent node.rows node.rows.faces h
+    line_spends_could (Speak c) s built sound h =
+        speaking (λ at. is_some_and at (λ at. spends_ids cmp matching at.call at.rows) ≡ true → is_some_and at (λ at. could_spend_ids cmp matching at.call at.rows) ≡ true) c s built (λ h. h)
+        (λ n node call at_ built_ spent. spends_could cmp matching total equal_is_same call node.rows built_ (gateway_is_sound cmp matching s n node at_ sound).rows.of_sessions spent) h
+    line_spends_could line s built sound h = never built refl
 
     -- The machine's entry is a refusal exactly by the first cause of its line.
-    pub refused_by_cause : (is_built : PlainLine K → Bool) (line : PlainLine K) (s : Fabric K) → IsRefusedByCause cmp matching is_built line (entry_of cmp matching is_built line s) s
-    unfolding entry_of
-    refused_by_cause is_built line s = by_test (line_spends_ids cmp matching line s) spent enough
+    pub refused_by_cause : (line : PlainLine K) (s : Fabric K) → FabricIsSound cmp matching s → IsRefusedByCause cmp matching is_session_line line (entry_of cmp matching is_session_line line s) s
+    unfolding entry_of first_cause
+    refused_by_cause line s sound =
+        by_test (is_session_line line)
+        (λ built. rw built (by_test (line_spends_ids cmp matching line s) (spent built) (enough built)))
+        (λ unbuilt. rw unbuilt (inl (rw unbuilt refl)))
       where
+        causes : Bool → Option Refusal
+        causes b = first_cause (built_causes cmp matching b line s)
+
         Right : Option Refusal → Type 0
-        Right o = IsRefusedByCause cmp matching is_built line (entry_by cmp matching o (sorted_by_face (said_at cmp matching s (call_of line s)))) s
+        Right o = IsRefusedByCause cmp matching is_session_line line (entry_by cmp matching o (sorted_by_face (said_by_line cmp matching line s))) s
 
-        by_first : (o : Option Refusal) → first_cause (line_causes cmp matching is_built false line s) ≡ o → Right o
-        by_first None is = is
-        by_first (Some r) is = inl is
+        of_built : is_session_line line ≡ true → (b : Bool) → first_cause (line_causes cmp matching is_session_line b line s) ≡ causes b
+        of_built built b = rw built refl
 
-        enough : line_spends_ids cmp matching line s ≡ false → Right (first_cause (line_causes cmp matching is_built (line_spends_ids cmp matching line s) line s))
-        enough h = subst (λ b. Right (first_cause (line_causes cmp matching is_built b line s))) (sym h) (by_first (first_cause (line_causes cmp matching is_built false line s)) refl)
+        by_first : is_session_line line ≡ true → (o : Option Refusal) → causes false ≡ o → Right o
+        by_first built None is = of_built built false ∙ is
+        by_first built (Some r) is = inl (of_built built false ∙ is)
 
-        spent : line_spends_ids cmp matching line s ≡ true → Right (first_cause (line_causes cmp matching is_built (line_spends_ids cmp matching line s) line s))
-        spent h =
-            subst (λ b. Right (first_cause (line_causes cmp matching is_built b line s))) (sym h)
+        enough : is_session_line line ≡ true → line_spends_ids cmp matching line s ≡ false → Right (causes (line_spends_ids cmp matching line s))
+        enough built h = subst (λ b. Right (causes b)) (sym h) (by_first built (causes false) refl)
+
+        spent : is_session_line line ≡ true → line_spends_ids cmp matching line s ≡ true → Right (causes (line_spends_ids cmp matching line s))
+        spent built h =
+            subst (λ b. Right (causes b)) (sym h)
             (⊎_elim
-            (λ same_. by_first (first_cause (line_causes cmp matching is_built true line s)) (sym same_))
-            (λ ids. subst Right (sym ids) (inr (refl, ids, line_spends_could line s h)))
-            (line_only_ids is_built line s))
+            (λ same_. by_first built (causes true) (sym same_))
+            (λ ids. subst Right (sym ids) (inr (refl, of_built built true ∙ ids, line_spends_could line s built sound h)))
+            (built_only_ids line s built))

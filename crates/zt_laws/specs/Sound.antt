@@ -1,4 +1,4 @@
--- What stays true of a fabric while the lines of a script are carried out.
+-- What stays true of a fabric while the lines of a script of sessions are carried out.
 use Rattle.std.specs.Prelude.{◌≡◌, ℕ, ◌+◌, ◌≤◌, ◌<◌, Bool, true, false, ◌==◌, ◌&&◌, List, [], ◌∷◌, length, filter}
 use Rattle.std.specs.List.{list_any}
 use Rattle.std.specs.declared.cmp.Ordering.{Ordering}
@@ -9,6 +9,7 @@ use Rattle.zt_model.specs.Lists.{same}
 use Rattle.zt_model.specs.Rows.{ById, Face, Rows}
 use Rattle.zt_model.specs.Says.{altered, said}
 use Rattle.zt_model.specs.Transcript.{Each, FacesKeepWhatTheyShould}
+use Rattle.zt_laws.specs.Sessions.{IsOfSessions}
 
 -- the first ids that a line names are at least 1: with the id 0 nothing is told
 abbrev pub HasFirstIds : {K : Type 0} → PlainLine K → Type 0
@@ -70,8 +71,9 @@ module _ {K : Type 0} (cmp : K → K → Ordering) (matching : K → K → Bool)
   abbrev pub rows_after_call : PlainCall K → Rows K → Rows K
   rows_after_call c g = rows_heard cmp (said cmp matching c g) (altered cmp matching c g)
 
-  -- the faces stand in order of number, each is orderly and keeps what it should
+  -- the faces are sessions and stand in order of number, and each is orderly and keeps what it should
   pub record RowsAreSound (g : Rows K) : Type 0 where
+    pub of_sessions : IsOfSessions g
     pub faces_rise : RiseFrom (λ f. f.number) 1 g.faces
     pub faces_made : Each (λ f. f.number ≤ g.made) g.faces
     pub orderly : Each (IsOrderly cmp) g.faces
@@ -84,7 +86,9 @@ module _ {K : Type 0} (cmp : K → K → Ordering) (matching : K → K → Bool)
     pub places_rise : RiseFrom (λ p. p.face) 1 (places_of n places)
     pub places_made : Each (λ p. p.face ≤ g.made) (places_of n places)
 
-  -- each gateway is sound, and no place is at a gateway that isn't there
+  -- each gateway is sound, no place is at a gateway that isn't there, and there are no links
   pub record FabricIsSound (s : Fabric K) : Type 0 where
     pub gateways : EachFrom (λ n (node : Node K). GatewayIsSound s.faces n node.rows) 1 s.gateways
     pub places_exist : Each (λ p. p.gateway ≤ length s.gateways) s.faces
+    pub no_links : s.links ≡ []
+    pub none_waits : s.waiting ≡ []

@@ -7,18 +7,22 @@ ghost use Rattle.zt_region.specs.declared.region.Region.{Region};
 ghost use Rattle.zt_protocol.specs.Plain.{PlainCall, PlainLine};
 ghost use Rattle.zt_protocol.specs.declared.interests.InterestMode.{InterestMode};
 ghost use Rattle.zt_protocol.specs.declared.messages.Message.{Message};
-ghost use Rattle.zt_model.specs.Fabric.{Fabric, Node, after_hearing, call_of, empty_fabric, entries_from, entry_of, fabric_after, printed_message, said_at, sorted_by_face, with_rows};
+ghost use Rattle.zt_model.specs.Fabric.{Fabric, Node, after_hearing, call_of, empty_fabric, entries_from, entry_of, fabric_after, printed_message, said_at, said_by_line, sorted_by_face, with_rows};
 ghost use Rattle.zt_model.specs.Hearing.{heard_all, rows_heard};
 ghost use Rattle.zt_model.specs.Lists.{nth};
 ghost use Rattle.zt_model.specs.Refusals.{call_causes, could_spend_ids, first_cause, need, spends_ids};
 ghost use Rattle.zt_model.specs.Rows.{Face, Rows};
-ghost use Rattle.zt_model.specs.Says.{altered, answers_from, forget_to, is_routed, is_told, said, tell_to, to_each, to_face, with_face};
-ghost use Rattle.zt_model.specs.Sessions.{is_session_line};
+ghost use Rattle.zt_model.specs.Says.{altered, altered_by, answers_from, forget_to, is_routed, is_told, said, said_by, tell_to, to_each, to_face, with_face};
+ghost use Rattle.zt_model.specs.Sessions.{is_session_call, is_session_line};
 ghost use Rattle.zt_model.specs.Transcript.{Each, IsFaithfulFrom};
 ghost use Rattle.zt_model.specs.Visible.{is_visible};
 ghost use Rattle.zt_laws.specs.Effects.{forgotten, told_after_answers, told_anew};
-ghost use Rattle.zt_laws.specs.Sound.{CallHasFirstIds, FabricIsSound, HasFirstIds, IsToldInOrder, RiseFrom, RowsAreSound, opens_face, rows_after_call};
+ghost use Rattle.zt_laws.specs.Sessions.{IsOfSessions, session_parts};
+ghost use Rattle.zt_laws.specs.Sound.{FabricIsSound, HasFirstIds, IsToldInOrder, RiseFrom, RowsAreSound, rows_after_call};
 
+mod acts;
+
+pub use acts::changes_are_heard;
 use zt_keys::Key;
 
 /// The transcript theorem for scripts of sessions: to any lines, the machine's entries are faithful. Each is a
@@ -29,27 +33,36 @@ pub fn scripts_are_faithful<K: Key>()
         → IsFaithfulFrom K.cmp K.matching is_session_line lines (entries_from K.cmp K.matching is_session_line lines empty_fabric) empty_fabric }
 {}
 
-/// What stays true while a script is carried out, whichever lines are built: the empty fabric is sound, and each
-/// line leaves a sound fabric sound, be it accepted or refused.
+/// What stays true while a script of sessions is carried out: the empty fabric is sound, and each line leaves a
+/// sound fabric sound, be it accepted or refused.
 pub fn fabrics_stay_sound<K: Key>()
     ensures start { FabricIsSound K.cmp K.matching empty_fabric }
-    ensures step { (is_built : PlainLine K → Bool) (line : PlainLine K) (s : Fabric K) → HasFirstIds line → FabricIsSound K.cmp K.matching s
-        → FabricIsSound K.cmp K.matching (fabric_after K.cmp K.matching line (entry_of K.cmp K.matching is_built line s) s) }
+    ensures step { (line : PlainLine K) (s : Fabric K) → HasFirstIds line → FabricIsSound K.cmp K.matching s
+        → FabricIsSound K.cmp K.matching (fabric_after K.cmp K.matching line (entry_of K.cmp K.matching is_session_line line s) s) }
 {}
 
-/// What a line says in a sound fabric stands in order of face before it is sorted.
+/// What a line of sessions says in a sound fabric stands in order of face before it is sorted.
 pub fn messages_stand_in_order<K: Key>()
-    ensures { (line : PlainLine K) (s : Fabric K) → FabricIsSound K.cmp K.matching s
-        → sorted_by_face (said_at K.cmp K.matching s (call_of line s)) ≡ said_at K.cmp K.matching s (call_of line s) }
+    ensures { (line : PlainLine K) (s : Fabric K) → is_session_line line ≡ true → FabricIsSound K.cmp K.matching s
+        → sorted_by_face (said_by_line K.cmp K.matching line s) ≡ said_at K.cmp K.matching s (call_of line s) }
 {}
 
-/// The printed messages of a call, sorted by face or not, leave at its gateway the rows after the call, and change
+/// Where all faces are sessions, a session's call says and changes what its token or interest does at the sessions:
+/// nothing goes upstream, along a tree or into a dictionary.
+pub fn sessions_call_each_other<K: Key>()
+    ensures says { (c : PlainCall K) (g : Rows K) → is_session_call c ≡ true → IsOfSessions g
+        → said K.cmp K.matching c g ≡ said_by K.cmp K.matching (session_parts K.cmp K.matching c g) g }
+    ensures changes { (c : PlainCall K) (g : Rows K) → is_session_call c ≡ true → IsOfSessions g
+        → altered K.cmp K.matching c g ≡ altered_by K.cmp K.matching (session_parts K.cmp K.matching c g) g }
+{}
+
+/// The printed messages of a session's call, sorted by face or not, leave at its gateway the rows after the call, and change
 /// no other gateway.
 pub fn messages_change_their_gateway<K: Key>()
-    ensures sorted { (n : ℕ) (node : Node K) (c : PlainCall K) (s : Fabric K) → nth n s.gateways ≡ Some node → opens_face c ≡ false → FabricIsSound K.cmp K.matching s
+    ensures sorted { (n : ℕ) (node : Node K) (c : PlainCall K) (s : Fabric K) → nth n s.gateways ≡ Some node → is_session_call c ≡ true → FabricIsSound K.cmp K.matching s
         → after_hearing K.cmp (sorted_by_face (map (printed_message s n) (said K.cmp K.matching c node.rows))) (with_rows n (altered K.cmp K.matching c) s)
         ≡ with_rows n (rows_after_call K.cmp K.matching c) s }
-    ensures unsorted { (n : ℕ) (node : Node K) (c : PlainCall K) (s : Fabric K) → nth n s.gateways ≡ Some node → opens_face c ≡ false → FabricIsSound K.cmp K.matching s
+    ensures unsorted { (n : ℕ) (node : Node K) (c : PlainCall K) (s : Fabric K) → nth n s.gateways ≡ Some node → is_session_call c ≡ true → FabricIsSound K.cmp K.matching s
         → after_hearing K.cmp (map (printed_message s n) (said K.cmp K.matching c node.rows)) (with_rows n (altered K.cmp K.matching c) s)
         ≡ with_rows n (rows_after_call K.cmp K.matching c) s }
 {}
@@ -75,20 +88,20 @@ pub fn phases_change_told_rows<K: Key>()
         → (heard_all K.cmp now (answers_from K.cmp K.matching f.next f.told mode id es) f).told ≡ told_after_answers K.cmp K.matching mode es f }
 {}
 
-/// An accepted call leaves the rows of a gateway sound: faces in order, told ids that rise below the next one, one
+/// An accepted call of a session leaves the rows of a gateway sound: faces in order, told ids that rise below the next one, one
 /// for an expression, and faces that keep what they should.
 pub fn calls_leave_rows_sound<K: Key>()
-    ensures { (c : PlainCall K) (g : Rows K) → CallHasFirstIds c → first_cause (call_causes K.cmp K.matching (spends_ids K.cmp K.matching c g) c g) ≡ None
+    ensures { (c : PlainCall K) (g : Rows K) → is_session_call c ≡ true → first_cause (call_causes K.cmp K.matching (spends_ids K.cmp K.matching c g) c g) ≡ None
         → RowsAreSound K.cmp K.matching g → RowsAreSound K.cmp K.matching (rows_after_call K.cmp K.matching c g) }
 {}
 
-/// A call that needs more ids than are left is one that could, as the transcript shows it, spend them.
+/// A session's call that needs more ids than are left is one that could, as the transcript shows it, spend them.
 pub fn need_is_within_could<K: Key>()
-    ensures { (c : PlainCall K) (g : Rows K) → spends_ids K.cmp K.matching c g ≡ true → could_spend_ids K.cmp K.matching c g ≡ true }
+    ensures { (c : PlainCall K) (g : Rows K) → is_session_call c ≡ true → IsOfSessions g → spends_ids K.cmp K.matching c g ≡ true → could_spend_ids K.cmp K.matching c g ≡ true }
 {}
 
-/// A call that is carried out draws for each face as many ids as it needs for it.
+/// A session's call that is carried out draws for each face as many ids as it needs for it.
 pub fn calls_draw_what_they_need<K: Key>()
-    ensures { (c : PlainCall K) (g : Rows K) → opens_face c ≡ false → RowsAreSound K.cmp K.matching g
+    ensures { (c : PlainCall K) (g : Rows K) → is_session_call c ≡ true → RowsAreSound K.cmp K.matching g
         → map (λ f. f.next) (rows_after_call K.cmp K.matching c g).faces ≡ map (λ f. f.next + need K.cmp K.matching c g f) g.faces }
 {}

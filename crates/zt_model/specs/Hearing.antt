@@ -7,12 +7,10 @@ use Rattle.std.specs.Ordering.{nat_cmp}
 use Rattle.std.specs.declared.cmp.Ordering.{Ordering}
 use Rattle.std.specs.FinMap.Entries.{put}
 use Rattle.zt_protocol.specs.Interest.{is_current, is_future}
-use Rattle.zt_protocol.specs.declared.interests.InterestMode.{InterestMode}
-use Rattle.zt_protocol.specs.declared.interests.InterestOptions.{InterestOptions}
 use Rattle.zt_protocol.specs.declared.messages.Message.{Message}
 use Rattle.zt_protocol.specs.declared.messages.Message.TheVariants.{DeclareToken, UndeclareToken, DeclareFinal, Interest, InterestFinal, DeclareSubscriber, DeclareQueryable}
 use Rattle.zt_model.specs.Lists.{same, is_among, without_id}
-use Rattle.zt_model.specs.Rows.{Ask, ById, Face, InterestRow, Pending, Rows}
+use Rattle.zt_model.specs.Rows.{Ask, ById, Face, Rows}
 
 -- the next id after one was sent
 abbrev pub next_after : ℕ → ℕ → ℕ

@@ -1,6 +1,6 @@
 -- Small words on lists of rows.
-use Rattle.std.specs.Prelude.{ℕ, Bool, true, false, ◌==◌, ◌||◌, ◌-◌, not, if◌then◌else◌, List, [], ◌∷◌, ◌++◌, Option, Some, None, map, filter}
-use Rattle.std.specs.List.{list_any, flat_map}
+use Rattle.std.specs.Prelude.{ℕ, Bool, false, ◌==◌, ◌-◌, not, if◌then◌else◌, List, [], ◌∷◌, Option, Some, None, filter}
+use Rattle.std.specs.List.{list_any}
 use Rattle.std.specs.Ordering.{is_eq}
 use Rattle.std.specs.declared.cmp.Ordering.{Ordering}
 use Rattle.std.specs.FinMap.Entries.{by_order}
@@ -9,6 +9,15 @@ use Rattle.std.specs.FinMap.Entries.{by_order}
 abbrev pub first_where : {A : Type 0} → (A → Bool) → List A → Option A
 first_where p [] = None
 first_where p (x ∷ xs) = if p x then Some x else first_where p xs
+
+-- the first of a list, and the others
+abbrev pub first_of : {A : Type 0} → List A → Option A
+first_of [] = None
+first_of (x ∷ xs) = Some x
+
+abbrev pub rest_of : {A : Type 0} → List A → List A
+rest_of [] = []
+rest_of (x ∷ xs) = xs
 
 -- the row under an id
 abbrev pub at_id : {A : Type 0} → ℕ → List (ℕ × A) → Option A

@@ -1,20 +1,25 @@
 -- Why a call is refused: the causes that apply to it, in the order in which they are tried.
-use Rattle.std.specs.Prelude.{ℕ, Bool, true, false, ◌+◌, ◌-◌, ◌==◌, ◌&&◌, ◌||◌, not, nat_lt, if◌then◌else◌, List, [], ◌∷◌, ◌++◌, length, sum_by, Option, Some, None, is_some, is_none, map, filter}
+use Rattle.std.specs.Prelude.{ℕ, Bool, true, false, ◌+◌, ◌-◌, ◌==◌, ◌&&◌, ◌||◌, not, nat_lt, nat_le, if◌then◌else◌, List, [], ◌∷◌, length, sum_by, Option, Some, None, is_some, is_none, filter}
 use Rattle.std.specs.List.{list_any}
 use Rattle.std.specs.declared.cmp.Ordering.{Ordering}
-use Rattle.zt_region.specs.declared.region.WhatAmI.{WhatAmI}
-use Rattle.zt_region.specs.declared.region.WhatAmI.TheVariants.{Router, Peer}
+use Rattle.zt_region.specs.declared.region.Region.{Region}
+use Rattle.zt_region.specs.declared.region.WhatAmI.TheVariants.{Router, Peer, Client}
 use Rattle.zt_region.specs.Region.{is_north, whatami_eq}
 use Rattle.zt_protocol.specs.Interest.{is_current, is_future, has_queryables, has_subscribers, has_tokens}
-use Rattle.zt_protocol.specs.Plain.{PlainCall, NewSession, DeclareToken, UndeclareToken, Interest, InterestFinal, DeclareFinal, CloseFace, Expire}
+use Rattle.zt_protocol.specs.Plain.{PlainCall, NewSession, NewTransport, DeclareToken, UndeclareToken, Interest, InterestFinal, DeclareFinal, CloseFace, Expire, SetTrees, SetEntities, Trees}
 use Rattle.zt_protocol.specs.declared.errors.Refusal.{Refusal}
 use Rattle.zt_protocol.specs.declared.errors.Refusal.TheVariants as refusal
 use Rattle.zt_protocol.specs.declared.interests.InterestMode.{InterestMode}
 use Rattle.zt_protocol.specs.declared.interests.InterestOptions.{InterestOptions}
+use Rattle.zt_model.specs.Entities.{entity_expressions, numbered_by, numbered_with}
 use Rattle.zt_model.specs.Lists.{same, at_id, has_id, is_some_and}
-use Rattle.zt_model.specs.Rows.{Face, InterestRow, Rows}
+use Rattle.zt_model.specs.Routing.{is_target, opened, opening_interests, opening_tokens}
+use Rattle.zt_model.specs.Rows.{Face, Rows}
 use Rattle.zt_model.specs.Says.{answered_expressions, find_face, is_routed, is_told, registers, row_of, altered}
-use Rattle.zt_model.specs.Visible.{is_visible, keeps, visible_expressions}
+use Rattle.zt_model.specs.Strategy.{fits, is_region_of, is_router_hat, strategy_of}
+use Rattle.zt_model.specs.Telling.{is_answered_by}
+use Rattle.zt_model.specs.Trees.{counted_table, is_listed, source_of}
+use Rattle.zt_model.specs.Visible.{keeps, visible_expressions}
 
 -- causes with the tests that say whether they hold
 abbrev pub Causes : Type 0
@@ -25,7 +30,7 @@ unfoldable pub first_cause : Causes → Option Refusal
 first_cause [] = None
 first_cause (cause ∷ causes) = if cause.0 then Some cause.1 else first_cause causes
 
--- the greatest number that a gateway, link or face, and the greatest id that a token can have
+-- all numbers of gateways, links or faces are given out
 abbrev pub GREATEST_NUMBER : ℕ
 GREATEST_NUMBER = 4294967295
 
@@ -61,6 +66,35 @@ abbrev pub answers_nothing : {K : Type 0} → ℕ → Option ℕ → Face K → 
 answers_nothing id None f = false
 answers_nothing id (Some interest) f = (id == 0) && names_nothing interest f
 
+-- an answer names an interest: in a router region there is none, and a token that is none itself must name one
+abbrev pub is_unknown_ask : {K : Type 0} → ℕ → Option ℕ → Rows K → Face K → Bool
+is_unknown_ask id interest g f = if is_routed g f then is_some interest else answers_nothing id interest f
+
+-- in a router region, a node id by which the face means no other router
+abbrev pub is_unknown_router : {K : Type 0} → ℕ → Rows K → Face K → Bool
+is_unknown_router node g f = is_routed g f && is_none (source_of g f node)
+
+-- a declaration of a face outside router regions that adds a live row
+abbrev pub adds_row : {K : Type 0} → Option ℕ → Rows K → Face K → Bool
+adds_row interest g f = not (is_routed g f) && registers f interest
+
+-- a client gateway has one face to the north
+abbrev pub is_north_taken : {K : Type 0} → Region → Rows K → Bool
+is_north_taken region g = whatami_eq g.mode Client && (is_north region && list_any (λ f. is_north f.region) g.faces)
+
+-- a new face would get a number above the greatest
+abbrev pub are_numbers_spent : {K : Type 0} → Rows K → Bool
+are_numbers_spent g = nat_le GREATEST_NUMBER g.made
+
+-- a table names in its links or children a router that it doesn't list, or doesn't list the gateway
+abbrev pub names_unlisted : {K : Type 0} → Trees → Rows K → Bool
+names_unlisted t g =
+    not (is_listed g.zid t) || list_any (λ l. not (is_listed l.2 t)) t.links || list_any (λ c. not (is_listed c.0 t) || not (is_listed c.1 t)) t.children
+
+-- a dictionary has at most so many expressions
+abbrev pub GREATEST_DICTIONARY : ℕ
+GREATEST_DICTIONARY = 65535
+
 module _ {K : Type 0} (cmp : K → K → Ordering) where
   -- the id is live with another expression
   abbrev pub is_token_id_in_use : ℕ → K → Face K → Bool
@@ -73,9 +107,27 @@ is_unknown_token id given f = is_none given && not (has_id id f.live)
 module _ {K : Type 0} (cmp : K → K → Ordering) (matching : K → K → Bool) where
   -- ---- ids
 
+  -- The token answers an ask of the face that asked for what comes later too, and the face doesn't keep it.
+  abbrev pub is_answered_anew : ℕ → Option ℕ → K → Face K → Face K → Bool
+  is_answered_anew n None e from f = false
+  is_answered_anew n (Some id) e from f =
+      has_id id from.pendings && (not (keeps cmp f e) && list_any (λ row. is_future row.1.interest.mode && is_answered_by cmp matching n id e row.1) f.asks)
+
   -- Whether a face that is open outside router regions is told the expression by the call: one id.
   abbrev pub ids_for_token : ℕ → Option ℕ → K → Rows K → Face K → ℕ
-  ids_for_token n interest e g f = elim (find_face n g) [ None ↦ 0 | Some from ↦ if registers from interest && is_told cmp matching g from.region e f then 1 else 0 ]
+  ids_for_token n interest e g f =
+      elim (find_face n g) [
+        | None ↦ 0
+        | Some from ↦ if registers from interest && (is_told cmp matching g from.region e f || is_answered_anew n interest e from f) then 1 else 0
+      ]
+
+  -- an id for a face that an interest is sent to
+  abbrev pub ids_for_target : ℕ → InterestMode → Rows K → Face K → ℕ
+  ids_for_target n mode g f = elim (find_face n g) [ None ↦ 0 | Some from ↦ if is_target g from.region mode f then 1 else 0 ]
+
+  -- a new face is sent interests and tokens, each with an id
+  abbrev pub ids_for_opening : Rows K → Face K → ℕ
+  ids_for_opening g f = if f.number == g.made + 1 then length (opening_interests cmp matching g f) + length (opening_tokens cmp matching g f) else 0
 
   -- an id for each expression that the face is answered now, is to hear of later too, and doesn't keep
   abbrev pub ids_for_interest : ℕ → InterestMode → InterestOptions → Option K → Rows K → Face K → ℕ
@@ -87,27 +139,49 @@ module _ {K : Type 0} (cmp : K → K → Ordering) (matching : K → K → Bool)
   -- how many ids the call draws for a face
   unfoldable pub need : PlainCall K → Rows K → Face K → ℕ
   need (DeclareToken n id e node interest) g f = ids_for_token n interest e g f
-  need (Interest n id mode options e) g f = ids_for_interest n mode options e g f
+  need (Interest n id mode options e) g f = ids_for_interest n mode options e g f + ids_for_target n mode g f
+  need (NewTransport zid whatami region bound first) g f = ids_for_opening g f
   need _ g f = 0
+
+  -- the open faces, with the one that the call opens
+  abbrev pub faces_with : PlainCall K → Rows K → List (Face K)
+  faces_with (NewTransport zid whatami region bound first) g = (opened zid whatami region bound first g).faces
+  faces_with _ g = g.faces
 
   -- for some face the call would draw more ids than are left
   unfoldable pub spends_ids : PlainCall K → Rows K → Bool
-  spends_ids c g = list_any (λ f. not (is_routed g f) && nat_lt (left_ids f) (need c g f)) g.faces
+  spends_ids c g = list_any (λ f. not (is_routed g f) && nat_lt (left_ids f) (need c g f)) (faces_with c g)
+
+  -- ---- the dictionary
+
+  -- the dictionary would hold too many expressions
+  abbrev pub fills_dictionary : List K → Rows K → Bool
+  fills_dictionary es g = nat_lt GREATEST_DICTIONARY (length (numbered_with cmp matching es g.dictionary))
 
   -- ---- the causes of each call
 
   -- `spent` says whether a face has too few ids left
   unfoldable pub call_causes : Bool → PlainCall K → Rows K → Causes
+  call_causes spent (NewSession first) g = (are_numbers_spent g, refusal.NumbersSpent) ∷ []
+  call_causes spent (NewTransport zid whatami region bound first) g =
+      (not (is_region_of g.regions region), refusal.NoSuchRegion)
+      ∷ (not (fits g.mode region whatami bound), refusal.RegionConflict)
+      ∷ (is_north_taken region g, refusal.NorthTaken)
+      ∷ (spent, refusal.IdsSpent)
+      ∷ (are_numbers_spent g, refusal.NumbersSpent)
+      ∷ []
   call_causes spent (DeclareToken n id e node interest) g =
       (is_unknown_face n g, refusal.UnknownFace)
       ∷ (on_face n g (λ f. is_some interest && not (is_north f.region)), refusal.AnswerFromSouth)
-      ∷ (on_face n g (λ f. answers_nothing id interest f), refusal.UnknownAsk)
-      ∷ (on_face n g (λ f. registers f interest && id == 0), refusal.TokenIdZero)
-      ∷ (on_face n g (λ f. registers f interest && is_token_id_in_use cmp id e f), refusal.TokenIdInUse)
+      ∷ (on_face n g (is_unknown_ask id interest g), refusal.UnknownAsk)
+      ∷ (on_face n g (is_unknown_router node g), refusal.UnknownRouter)
+      ∷ (on_face n g (λ f. adds_row interest g f && id == 0), refusal.TokenIdZero)
+      ∷ (on_face n g (λ f. adds_row interest g f && is_token_id_in_use cmp id e f), refusal.TokenIdInUse)
       ∷ (spent, refusal.IdsSpent)
       ∷ []
   call_causes spent (UndeclareToken n id given node) g =
       (is_unknown_face n g, refusal.UnknownFace)
+      ∷ (on_face n g (is_unknown_router node g), refusal.UnknownRouter)
       ∷ (on_face n g (is_unknown_token id given), refusal.UnknownToken)
       ∷ []
   call_causes spent (Interest n id mode options e) g =
@@ -116,6 +190,7 @@ module _ {K : Type 0} (cmp : K → K → Ordering) (matching : K → K → Bool)
       ∷ (on_face n g (asks_from_north g), refusal.InterestFromNorth)
       ∷ (is_illegal_current mode options, refusal.IllegalCurrent)
       ∷ (on_face n g (is_interest_id_in_use id mode), refusal.InterestIdInUse)
+      ∷ (on_face n g (λ f. fills_dictionary (numbered_by cmp matching (row_of cmp matching f mode options e)) g), refusal.DictionaryFull)
       ∷ (spent, refusal.IdsSpent)
       ∷ []
   call_causes spent (InterestFinal n id) g =
@@ -129,7 +204,16 @@ module _ {K : Type 0} (cmp : K → K → Ordering) (matching : K → K → Bool)
       ∷ []
   call_causes spent (CloseFace n) g = (is_unknown_face n g, refusal.UnknownFace) ∷ []
   call_causes spent (Expire now) g = (nat_lt now g.moment, refusal.MomentBack) ∷ []
-  call_causes spent _ g = []
+  call_causes spent (SetTrees region table) g =
+      let counted = counted_table table in
+      (list_any (λ l. is_unknown_face l.0 g) counted.links, refusal.UnknownFace)
+      ∷ (not (is_region_of g.regions region) || not (is_router_hat (strategy_of g.mode region)), refusal.NoSuchRegion)
+      ∷ (names_unlisted counted g, refusal.UnknownRouter)
+      ∷ []
+  call_causes spent (SetEntities n subscribers queryables) g =
+      (is_unknown_face n g, refusal.UnknownFace)
+      ∷ (fills_dictionary (entity_expressions cmp matching subscribers queryables) g, refusal.DictionaryFull)
+      ∷ []
 
   -- ---- what a transcript shows of ids
 
@@ -149,8 +233,9 @@ module _ {K : Type 0} (cmp : K → K → Ordering) (matching : K → K → Bool)
   abbrev pub can_draw : PlainCall K → Bool
   can_draw (DeclareToken n id e node interest) = true
   can_draw (Interest n id mode options e) = true
+  can_draw (NewTransport zid whatami region bound first) = true
   can_draw _ = false
 
   -- for some face the call could draw more ids than are left
   unfoldable pub could_spend_ids : PlainCall K → Rows K → Bool
-  could_spend_ids c g = can_draw c && list_any (λ f. not (is_routed g f) && nat_lt (left_ids f) (could c g f)) g.faces
+  could_spend_ids c g = can_draw c && list_any (λ f. not (is_routed g f) && nat_lt (left_ids f) (could c g f)) (faces_with c g)

@@ -1,10 +1,9 @@
 -- What a transcript means: relations of a script's lines and the entries printed for them. They are read off
 -- the lines and the printed messages, from the empty fabric on.
-use Rattle.std.specs.Prelude.{◌≡◌, ◌⊎◌, ℕ, Bool, true, false, ◌+◌, not, List, [], ◌∷◌, length, sum_by, Option, Some, None, Result, Ok, Err}
+use Rattle.std.specs.Prelude.{◌≡◌, ◌⊎◌, ℕ, Bool, true, false, List, [], ◌∷◌, length, sum_by, Some, None, Ok, Err}
 use Rattle.std.specs.declared.cmp.Ordering.{Ordering}
 use Rattle.zt_protocol.specs.Plain.{PlainEntry, PlainLine}
 use Rattle.zt_protocol.specs.declared.entries.Report.{Report}
-use Rattle.zt_protocol.specs.declared.errors.Refusal.{Refusal}
 use Rattle.zt_protocol.specs.declared.errors.Refusal.TheVariants.{IdsSpent}
 use Rattle.zt_model.specs.Fabric.{Fabric, Node, fabric_after, line_causes, line_could_spend_ids}
 use Rattle.zt_model.specs.Refusals.{first_cause}

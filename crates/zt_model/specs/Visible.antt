@@ -1,12 +1,12 @@
 -- Which tokens a face may know of.
-use Rattle.std.specs.Prelude.{ℕ, Bool, true, false, ◌&&◌, ◌||◌, not, List, [], ◌∷◌, ◌++◌, map, filter}
+use Rattle.std.specs.Prelude.{Bool, ◌&&◌, ◌||◌, not, List, ◌++◌, map, filter}
 use Rattle.std.specs.List.{list_any, flat_map}
 use Rattle.std.specs.declared.cmp.Ordering.{Ordering}
 use Rattle.zt_region.specs.declared.region.Region.{Region}
 use Rattle.zt_region.specs.Region.{region_eq, zid_eq}
 use Rattle.zt_region.specs.Admission.{admits}
 use Rattle.zt_model.specs.Lists.{same, in_key_order}
-use Rattle.zt_model.specs.Rows.{Face, RoutedRow, Rows}
+use Rattle.zt_model.specs.Rows.{Face, Rows}
 use Rattle.zt_model.specs.Strategy.{is_broker}
 
 -- the tokens that a face declares, under its region

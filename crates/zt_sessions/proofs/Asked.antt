@@ -13,17 +13,21 @@ use Rattle.zt_protocol.specs.declared.errors.Refusal.TheVariants as refusal
 use Rattle.zt_protocol.specs.declared.interests.InterestMode.TheVariants.{CurrentFuture}
 use Rattle.zt_protocol.specs.declared.messages.Message.{Message}
 use Rattle.zt_protocol.specs.declared.messages.Message.TheVariants.{DeclareFinal}
+use Rattle.zt_model.specs.Entities.{numbered_with}
 use Rattle.zt_model.specs.Lists.{first_where, has_id, in_key_order}
-use Rattle.zt_model.specs.Refusals.{call_causes, first_cause, ids_for_interest, is_interest_id_in_use, need, spends_ids}
+use Rattle.zt_model.specs.Refusals.{call_causes, first_cause, ids_for_interest, ids_for_target, is_interest_id_in_use, need, spends_ids}
+use Rattle.zt_model.specs.Routing.{is_target}
 use Rattle.zt_model.specs.Rows.{ById, Face, InterestRow, Rows}
-use Rattle.zt_model.specs.Says.{answered_expressions, answers_from, find_face, interesting, is_routed, parts_of, said, said_by, with_face}
+use Rattle.zt_model.specs.Says.{answered_expressions, answers_from, find_face, interesting, is_routed, said, said_by, with_face}
 use Rattle.zt_model.specs.Transcript.{Each}
 use Rattle.zt_model.specs.Wants.{is_about}
 use Rattle.zt_laws.specs.Effects.{answered_now, not_named, numbered}
+use Rattle.zt_laws.specs.Sessions.{session_parts}
 use Rattle.zt_laws.specs.Sound.{IsOrderly, IsToldInOrder, RiseFrom, RowsAreSound}
 use Rattle.zt_laws.proofs.Faces.{carried}
-use Rattle.zt_laws.proofs.Lists.{each_weaker, map-map}
+use Rattle.zt_laws.proofs.Lists.{any_alike, each_weaker, map-map}
 use Rattle.zt_laws.proofs.Phases.{rows_after_asking, said_asking}
+use Rattle.zt_laws.proofs.SessionCalls.{after_session_call, session_call, session_is_no_target}
 use Rattle.zt_sessions.proofs.Answered.{answered_is, answers_are, count_is, held_put, told_is, told_other}
 use Rattle.zt_sessions.proofs.Bridge.{map_by, told_of-append}
 use Rattle.zt_sessions.proofs.Changes.{alike-changed}
@@ -116,10 +120,10 @@ module _ {K : Type 0} (cmp : K → K → Ordering) (matching : K → K → Bool)
   in_use_is : (zid : Zid) (told : List (ToldRow K)) (row : FaceRow K) → is_interest_id_in_use id CurrentFuture (face_of zid told row) ≡ has_id id row.held.items
   in_use_is zid told row = or_false (has_id id (map held_row row.held.items)) ∙ list_any-map (λ held. id == held.0) held_row row.held.items
 
-  ask_cause_is : (spent : Bool) (zid : Zid) (told : List (ToldRow K)) (row : FaceRow K) (g : Rows K) → find_face n g ≡ Some (face_of zid told row)
+  ask_cause_is : (spent : Bool) (zid : Zid) (told : List (ToldRow K)) (row : FaceRow K) (g : Rows K) → find_face n g ≡ Some (face_of zid told row) → g.dictionary ≡ []
       → first_cause (call_causes cmp matching spent (asking_call n id expr) g) ≡ ask_cause (is_interest_id_in_use id CurrentFuture (face_of zid told row)) spent
-  unfolding first_cause call_causes
-  ask_cause_is spent zid told row g found = rw found refl
+  unfolding first_cause call_causes numbered_with
+  ask_cause_is spent zid told row g found unnumbered = rw (found, unnumbered) refl
 
   -- no face is found: it is unknown
   ask_unknown : (spent : Bool) (g : Rows K) → find_face n g ≡ None → first_cause (call_causes cmp matching spent (asking_call n id expr) g) ≡ Some refusal.UnknownFace
@@ -145,11 +149,28 @@ module _ {K : Type 0} (cmp : K → K → Ordering) (matching : K → K → Bool)
       (ap (λ es. nat_lt (4294967295 - row.next) (length (not_named cmp (told_of row.number g.told.items) es))) (answered_is cmp matching g g.told.items expr row)
       ∙ ap (nat_lt (4294967295 - row.next)) (count_is cmp matching g.told.items row.number expr (keys_of cmp g)))
 
+  -- no interest is sent on, so none needs an id for that
+  untargeted : (g : GatewayRow K) (row : FaceRow K) → ids_for_target cmp matching n CurrentFuture (rows_of g) (face_of g.zid g.told.items row) ≡ 0
+  untargeted g row = cases (find_face n (rows_of g))
+    where
+      cases : (o : Option (Face K)) → (let k : ℕ = elim o [ None ↦ 0 | Some from ↦ if is_target (rows_of g) from.region CurrentFuture (face_of g.zid g.told.items row) then 1 else 0 ] in k) ≡ 0
+      cases None = refl
+      cases (Some from) = ap (λ b. if b then 1 else 0) (session_is_no_target (rows_of g) from.region CurrentFuture (face_of g.zid g.told.items row) refl)
+
+  spends_alike : (g : GatewayRow K) (row : FaceRow K)
+      → (let f : Face K = face_of g.zid g.told.items row in nat_lt (4294967295 - row.next) (ids_for_interest cmp matching n CurrentFuture (record { 0 = 8 }) expr (rows_of g) f + ids_for_target cmp matching n CurrentFuture (rows_of g) f)) ≡ spends_at g row
+  spends_alike g row =
+      let f : Face K = face_of g.zid g.told.items row in
+      let none_ : ids_for_target cmp matching n CurrentFuture (rows_of g) f ≡ 0 = untargeted g row in
+      let count : ids_for_interest cmp matching n CurrentFuture (record { 0 = 8 }) expr (rows_of g) f + ids_for_target cmp matching n CurrentFuture (rows_of g) f ≡ ids_for_interest cmp matching n CurrentFuture (record { 0 = 8 }) expr (rows_of g) f = omega arith in
+      ap (nat_lt (4294967295 - row.next)) count
+
   ask_spends : (g : GatewayRow K) (place : ℕ) (d : FaceRow K) → RiseFrom (λ row. row.number) 1 g.faces.items → place < length g.faces.items → (get_or g.faces.items place d).number ≡ n
       → spends_ids cmp matching (asking_call n id expr) (rows_of g) ≡ is_spent_at cmp matching expr g (get_or g.faces.items place d)
   unfolding spends_ids need
   ask_spends g place d rises lt is =
-      list_any-map (λ f. not (is_routed (rows_of g) f) && nat_lt (4294967295 - f.next) (ids_for_interest cmp matching n CurrentFuture (record { 0 = 8 }) expr (rows_of g) f)) (face_of g.zid g.told.items) g.faces.items
+      list_any-map (λ f. not (is_routed (rows_of g) f) && nat_lt (4294967295 - f.next) (ids_for_interest cmp matching n CurrentFuture (record { 0 = 8 }) expr (rows_of g) f + ids_for_target cmp matching n CurrentFuture (rows_of g) f)) (face_of g.zid g.told.items) g.faces.items
+      ∙ any_alike (λ row. let f : Face K = face_of g.zid g.told.items row in nat_lt (4294967295 - row.next) (ids_for_interest cmp matching n CurrentFuture (record { 0 = 8 }) expr (rows_of g) f + ids_for_target cmp matching n CurrentFuture (rows_of g) f)) (spends_at g) (spends_alike g) g.faces.items
       ∙ any_at n 1 place d (spends_at g) g.faces.items (spends_only g) rises lt is
       ∙ spends_own g (get_or g.faces.items place d) is
 
@@ -159,12 +180,11 @@ module _ {K : Type 0} (cmp : K → K → Ordering) (matching : K → K → Bool)
   ask_cause_at g place row sound lt is at =
       let rises : RiseFrom (λ row. row.number) 1 g.faces.items = rise_rows g.zid g.told.items 1 g.faces.items sound.faces_rise in
       let found : find_face n (rows_of g) ≡ Some (face_of g.zid g.told.items row) = find_at g.zid g.told.items n 1 place row g.faces.items rises lt is ∙ ap (λ r. Some (face_of g.zid g.told.items r)) (sym at) in
-      ask_cause_is (spends_ids cmp matching (asking_call n id expr) (rows_of g)) g.zid g.told.items row (rows_of g) found
+      ask_cause_is (spends_ids cmp matching (asking_call n id expr) (rows_of g)) g.zid g.told.items row (rows_of g) found refl
       ∙ ap₂ ask_cause (in_use_is g.zid g.told.items row) (ask_spends g place row rises lt is ∙ ap (is_spent_at cmp matching expr g) (sym at))
 
-  parts_are : (g : Rows K) (zid : Zid) (told : List (ToldRow K)) (row : FaceRow K) → find_face n g ≡ Some (face_of zid told row) → parts_of cmp matching (asking_call n id expr) g ≡ interesting cmp matching n id (held_interest expr)
-  unfolding parts_of
-  parts_are g zid told row found = rw (found, parts_of) refl
+  parts_are : (g : Rows K) (zid : Zid) (told : List (ToldRow K)) (row : FaceRow K) → find_face n g ≡ Some (face_of zid told row) → session_parts cmp matching (asking_call n id expr) g ≡ interesting cmp matching n id (held_interest expr)
+  parts_are g zid told row found = rw (found, session_parts) refl
 
   -- the session that asks
   held_face : (zid : Zid) (told news : List (ToldRow K)) (keys : List K) (row r : FaceRow K) → news ≡ answered_rows cmp matching told row.number expr row.next keys
@@ -240,7 +260,8 @@ module _ {K : Type 0} (cmp : K → K → Ordering) (matching : K → K → Bool)
       ap (answers_from cmp matching row.next (told_of row.number told) CurrentFuture id) (answered_is cmp matching old told expr row ∙ ap (filter (is_about matching expr)) (sym keys_))
       ∙ answers_are cmp matching told row.number id expr row.next keys in
       let said_ : said cmp matching (asking_call n id expr) g ≡ map (λ m. (n, m)) heard =
-      ap (λ ps. said_by cmp matching ps g) parts
+      (session_call cmp matching (asking_call n id expr) g refl sound.of_sessions).0
+      ∙ ap (λ ps. said_by cmp matching ps g) parts
       ∙ said_asking cmp matching n id (held_interest expr) from g refl found refl sound.faces_rise
       ∙ ap (λ ms. map (λ m. (n, m)) (ms ++ DeclareFinal id ∷ [])) messages in
       record {
@@ -252,6 +273,6 @@ module _ {K : Type 0} (cmp : K → K → Ordering) (matching : K → K → Bool)
             ∙ sym (map-map print (λ m. (n, m)) heard)
             ∙ ap (map print) (sym said_);
         rows = rows_asked gateway place keys row old new sent rises lt is at keys_ made
-            ∙ sym (ap (λ ps. carried cmp matching ps g) parts ∙ rows_after_asking cmp matching n id (held_interest expr) from g refl found refl sound.faces_rise ordered);
+            ∙ sym (after_session_call cmp matching (asking_call n id expr) g refl sound.of_sessions ∙ ap (λ ps. carried cmp matching ps g) parts ∙ rows_after_asking cmp matching n id (held_interest expr) from g refl found refl sound.faces_rise ordered);
         numbers = numbers_held (row.next + new_count cmp matching told row.number expr keys) place old.faces.items new.faces.items made.faces;
       }

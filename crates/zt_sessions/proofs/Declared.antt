@@ -13,14 +13,16 @@ use Rattle.zt_protocol.specs.declared.entries.Sent.{Sent}
 use Rattle.zt_protocol.specs.declared.errors.Refusal.{Refusal}
 use Rattle.zt_protocol.specs.declared.errors.Refusal.TheVariants as refusal
 use Rattle.zt_model.specs.Lists.{first_where}
-use Rattle.zt_model.specs.Refusals.{call_causes, first_cause, is_token_id_in_use, need, spends_ids}
+use Rattle.zt_model.specs.Refusals.{call_causes, first_cause, is_answered_anew, is_token_id_in_use, need, spends_ids}
 use Rattle.zt_model.specs.Rows.{Face, Rows}
-use Rattle.zt_model.specs.Says.{declaring, find_face, is_routed, is_told, parts_of, registered, registers, said_by, tell_to}
+use Rattle.zt_model.specs.Says.{declaring, find_face, is_routed, is_told, registered, registers, said_by, tell_to}
 use Rattle.zt_model.specs.Wants.{seeks, wants}
+use Rattle.zt_laws.specs.Sessions.{session_parts}
 use Rattle.zt_laws.specs.Sound.{IsOrderly, IsToldInOrder, RiseFrom, RowsAreSound}
 use Rattle.zt_laws.proofs.Faces.{carried, chosen_leaves}
 use Rattle.zt_laws.proofs.Lists.{each_weaker, map-map}
 use Rattle.zt_laws.proofs.Phases.{after_declaring, rows_after_declaring, said_declaring}
+use Rattle.zt_laws.proofs.SessionCalls.{after_session_call, session_call}
 use Rattle.zt_laws.proofs.Telling.{told_anew}
 use Rattle.zt_sessions.proofs.AfterTelling.{faces_after_telling}
 use Rattle.zt_sessions.proofs.Bridge.{is_told_is, map_by, print_each}
@@ -38,10 +40,14 @@ use Rattle.zt_sessions.specs.declared.rows.ToldRow.{ToldRow}
 abbrev pub declare_cause : Bool → Bool → Bool → Option Refusal
 declare_cause zero_id in_use spent = if zero_id then Some refusal.TokenIdZero else if in_use then Some refusal.TokenIdInUse else if spent then Some refusal.IdsSpent else None
 
+or_false : (b : Bool) → (b || false) ≡ b
+or_false true = refl
+or_false false = refl
+
 module _ {K : Type 0} (cmp : K → K → Ordering) (matching : K → K → Bool) (n id : ℕ) (e : K) where
-  pub declare_cause_is : (spent : Bool) (f : Face K) (g : Rows K) → find_face n g ≡ Some f → first_cause (call_causes cmp matching spent (DeclareToken n id e 0 None) g) ≡ declare_cause (id == 0) (is_token_id_in_use cmp id e f) spent
+  pub declare_cause_is : (spent : Bool) (f : Face K) (g : Rows K) → find_face n g ≡ Some f → is_routed g f ≡ false → first_cause (call_causes cmp matching spent (DeclareToken n id e 0 None) g) ≡ declare_cause (id == 0) (is_token_id_in_use cmp id e f) spent
   unfolding first_cause call_causes
-  declare_cause_is spent f g found = rw found refl
+  declare_cause_is spent f g found plain = rw (found, plain) refl
 
   -- no face is found: it is unknown
   pub declare_unknown : (spent : Bool) (g : Rows K) → find_face n g ≡ None → first_cause (call_causes cmp matching spent (DeclareToken n id e 0 None) g) ≡ Some refusal.UnknownFace
@@ -53,15 +59,15 @@ module _ {K : Type 0} (cmp : K → K → Ordering) (matching : K → K → Bool)
   one_id false next = grind (arith, nat_tests)
 
   spends_each : (g : GatewayRow K) (told : List (ToldRow K)) (rows : List (FaceRow K))
-      → list_any (λ f. not (is_routed (rows_of g) f) && nat_lt (4294967295 - f.next) (if is_told cmp matching (rows_of g) Local e f then 1 else 0)) (map (face_of g.zid told) rows)
+      → list_any (λ f. not (is_routed (rows_of g) f) && nat_lt (4294967295 - f.next) (if is_told cmp matching (rows_of g) Local e f || false then 1 else 0)) (map (face_of g.zid told) rows)
       ≡ list_any (λ row. hears cmp matching told e row && nat_le 4294967295 row.next) rows
   spends_each g told [] = refl
   spends_each g told (row ∷ rows) =
-      ap₂ (λ (a b : Bool). a || b) (ap (λ (b : Bool). nat_lt (4294967295 - row.next) (if b then 1 else 0)) (is_told_is cmp matching g told e row) ∙ one_id (hears cmp matching told e row) row.next) (spends_each g told rows)
+      ap₂ (λ (a b : Bool). a || b) (ap (λ (b : Bool). nat_lt (4294967295 - row.next) (if b then 1 else 0)) (or_false (is_told cmp matching (rows_of g) Local e (face_of g.zid told row)) ∙ is_told_is cmp matching g told e row) ∙ one_id (hears cmp matching told e row) row.next) (spends_each g told rows)
 
   -- the ids that a face draws, by the face that declares
   ids_by : Option (Face K) → Rows K → Face K → ℕ
-  ids_by o g f = elim o [ None ↦ 0 | Some from ↦ if registers from None && is_told cmp matching g from.region e f then 1 else 0 ]
+  ids_by o g f = elim o [ None ↦ 0 | Some from ↦ if registers from None && (is_told cmp matching g from.region e f || is_answered_anew cmp matching n None e from f) then 1 else 0 ]
 
   spends_by : Option (Face K) → GatewayRow K → Bool
   spends_by o g = list_any (λ f. not (is_routed (rows_of g) f) && nat_lt (4294967295 - f.next) (ids_by o (rows_of g) f)) (rows_of g).faces
@@ -84,15 +90,14 @@ module _ {K : Type 0} (cmp : K → K → Ordering) (matching : K → K → Bool)
       let from : Face K = face_of g.zid g.told.items (get_or g.faces.items place d) in
       let rises : RiseFrom (λ row. row.number) 1 g.faces.items = rise_rows g.zid g.told.items 1 g.faces.items sound.faces_rise in
       let found : find_face n (rows_of g) ≡ Some from = find_at g.zid g.told.items n 1 place d g.faces.items rises lt is in
-      declare_cause_is (spends_ids cmp matching (DeclareToken n id e 0 None) (rows_of g)) from (rows_of g) found
+      declare_cause_is (spends_ids cmp matching (DeclareToken n id e 0 None) (rows_of g)) from (rows_of g) found refl
       ∙ ap (declare_cause (id == 0) (is_token_id_in_use cmp id e from)) (declare_spends g from found refl)
 
   pub declare_nobody : (g : GatewayRow K) → first_where (λ row. n == row.number) g.faces.items ≡ None → cause_of cmp matching (DeclareToken n id e 0 None) g ≡ Some refusal.UnknownFace
   declare_nobody g none = declare_unknown (spends_ids cmp matching (DeclareToken n id e 0 None) (rows_of g)) (rows_of g) (find_nobody g.zid g.told.items n g.faces.items none)
 
-  pub parts_are : (f : Face K) (g : Rows K) → find_face n g ≡ Some f → parts_of cmp matching (DeclareToken n id e 0 None) g ≡ declaring cmp matching n id e f
-  unfolding parts_of
-  parts_are f g found = rw (found, parts_of) refl
+  parts_are : (f : Face K) (g : Rows K) → find_face n g ≡ Some f → session_parts cmp matching (DeclareToken n id e 0 None) g ≡ declaring cmp matching n id e f
+  parts_are f g found = rw (found, session_parts) refl
 
   -- the messages of one session
   tell_to_is : (g : GatewayRow K) (told : List (ToldRow K)) (row : FaceRow K) → tell_to cmp matching (rows_of g) Local e (face_of g.zid told row) ≡ hearing cmp matching told e row
@@ -165,12 +170,12 @@ module _ {K : Type 0} (cmp : K → K → Ordering) (matching : K → K → Bool)
       let ordered = each_weaker (IsOrderly cmp) (λ f. IsToldInOrder cmp f.told f.next) (λ f o. o.told) g.faces sound.orderly in
       let spends : spends_ids cmp matching (DeclareToken n id e 0 None) g ≡ false = declare_spends old from found refl ∙ unspent in
       record {
-        accepted = declare_cause_is (spends_ids cmp matching (DeclareToken n id e 0 None) g) from g found ∙ rw (real, free, spends) refl;
+        accepted = declare_cause_is (spends_ids cmp matching (DeclareToken n id e 0 None) g) from g found refl ∙ rw (real, free, spends) refl;
         sends = λ print prints.
             sent_is
             ∙ sym (print_each gateway print view (tell_to cmp matching g Local e) (hearing cmp matching old.told.items e) old.faces.items (λ row. refl) (tell_to_is old old.told.items) prints)
-            ∙ ap (map print) (sym (ap (λ ps. said_by cmp matching ps g) parts ∙ said_declaring cmp matching n id e from g));
-        rows = rows_declared place d from old new rises lt is made ∙ sym (ap (λ ps. carried cmp matching ps g) parts ∙ rows_after_declaring cmp matching n id total equal_is_same e from g sound.faces_rise ordered);
+            ∙ ap (map print) (sym ((session_call cmp matching (DeclareToken n id e 0 None) g refl sound.of_sessions).0 ∙ ap (λ ps. said_by cmp matching ps g) parts ∙ said_declaring cmp matching n id e from g));
+        rows = rows_declared place d from old new rises lt is made ∙ sym (after_session_call cmp matching (DeclareToken n id e 0 None) g refl sound.of_sessions ∙ ap (λ ps. carried cmp matching ps g) parts ∙ rows_after_declaring cmp matching n id total equal_is_same e from g sound.faces_rise ordered);
         numbers = ap (map numbers_of) made.faces
             ∙ map-map numbers_of (after_hearing cmp matching old.told.items e) made.registered
             ∙ map_by (λ row. numbers_of (after_hearing cmp matching old.told.items e row)) numbers_of (λ row. elim (hears cmp matching old.told.items e row) as (λ b. numbers_of (cond b (record row { next = row.next + 1 }) row) ≡ numbers_of row) [ true ↦ refl | false ↦ refl ]) made.registered

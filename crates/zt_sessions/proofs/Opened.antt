@@ -11,7 +11,7 @@ use Rattle.zt_region.specs.declared.region.Zid.{Zid}
 use Rattle.zt_protocol.specs.Plain.{Gateway, NewSession, PlainEntry, Session}
 use Rattle.zt_protocol.specs.declared.entries.Sent.{Sent}
 use Rattle.zt_protocol.specs.declared.errors.Refusal.TheVariants as refusal
-use Rattle.zt_model.specs.Fabric.{CallAt, Fabric, Node, Place, altered_by_line, at_nth, built_causes, call_of, entry_of, fabric_after, new_rows, next_face, number_from, said_at, sorted_by_face, with_gateway, with_session}
+use Rattle.zt_model.specs.Fabric.{CallAt, Fabric, Node, Place, altered_by_line, at_nth, built_causes, call_of, entry_of, fabric_after, new_rows, next_face, number_from, said_at, said_by_line, sorted_by_face, with_gateway, with_session}
 use Rattle.zt_model.specs.Lists.{nth}
 use Rattle.zt_model.specs.Refusals.{first_cause}
 use Rattle.zt_model.specs.Rows.{Face, Rows}
@@ -136,10 +136,10 @@ module _ {K : Type 0} (cmp : K → K → Ordering) (matching : K → K → Bool)
     unfolding entry_of built_causes is_session_line first_cause
     gateway_full full numbered =
         let many : nat_le 4294967295 (length (map node_of gs)) ≡ true = rw (length-map gs node_of) (grind (nat_tests, arith)) in
-        refused cmp matching (Gateway Client zid [] None None 10000 []) refusal.NumbersSpent gs gs ps ps (rw many refl) (still gs ps numbered)
+        refused cmp matching (Gateway Client zid [] None None 10000 []) refusal.NumbersSpent gs gs ps ps (rw many refl) refl (still gs ps numbered)
 
     pub gateway_made : (row : GatewayRow K) (gs' : List (GatewayRow K)) → length gs < 4294967295 → row.zid ≡ zid → row.faces.items ≡ [] → gs' ≡ gs ++ row ∷ [] → AreNumbered gs ps → CarriesOut cmp matching (Gateway Client zid [] None None 10000 []) gs ps (Ok []) gs' ps
-    unfolding entry_of built_causes is_session_line first_cause call_of sorted_by_face fabric_after altered_by_line
+    unfolding entry_of built_causes is_session_line first_cause call_of said_by_line sorted_by_face fabric_after altered_by_line
     gateway_made row gs' free zid_ none is numbered =
         let s : Fabric K = fabric_of gs ps in
         let few : nat_le 4294967295 (length (map node_of gs)) ≡ false = rw (length-map gs node_of) (grind (nat_tests, arith)) in
@@ -163,13 +163,13 @@ module _ {K : Type 0} (cmp : K → K → Ordering) (matching : K → K → Bool)
   module _ (n first : ℕ) (gs : List (GatewayRow K)) (ps : List PlaceRow) where
     pub session_unknown : nth n gs ≡ None → AreNumbered gs ps → CarriesOut cmp matching (Session n first) gs ps (Err refusal.UnknownGateway) gs ps
     unfolding entry_of built_causes is_session_line first_cause
-    session_unknown none numbered = refused cmp matching (Session n first) refusal.UnknownGateway gs gs ps ps (rw (nth_map_none node_of n gs none) refl) (still gs ps numbered)
+    session_unknown none numbered = refused cmp matching (Session n first) refusal.UnknownGateway gs gs ps ps (rw (nth_map_none node_of n gs none) refl) refl (still gs ps numbered)
 
     full_at : (row : GatewayRow K) → nth n gs ≡ Some row → 4294967295 ≤ length ps → AreNumbered gs ps → CarriesOut cmp matching (Session n first) gs ps (Err refusal.NumbersSpent) gs ps
     unfolding entry_of built_causes is_session_line first_cause
     full_at row there full numbered =
         let many : nat_le 4294967295 (length (map place_of ps)) ≡ true = rw (length-map ps place_of) (grind (nat_tests, arith)) in
-        refused cmp matching (Session n first) refusal.NumbersSpent gs gs ps ps (rw (nth_map node_of n gs row there, many) refl) (still gs ps numbered)
+        refused cmp matching (Session n first) refusal.NumbersSpent gs gs ps ps (rw (nth_map node_of n gs row there, many) refl) refl (still gs ps numbered)
 
     pub session_full : (at : ℕ) → at < length gs → ((member : GatewayRow K) → nth n gs ≡ Some (get_or gs at member)) → 4294967295 ≤ length ps → AreNumbered gs ps → CarriesOut cmp matching (Session n first) gs ps (Err refusal.NumbersSpent) gs ps
     session_full at lt found full numbered = with_member at gs lt (λ d. full_at (get_or gs at d) (found d) full numbered)
@@ -183,7 +183,7 @@ module _ {K : Type 0} (cmp : K → K → Ordering) (matching : K → K → Bool)
         cases (Some node) = refl
 
     session_entry : (row : GatewayRow K) → nth n gs ≡ Some row → length ps < 4294967295 → entry_of cmp matching is_session_line (Session n first) (fabric_of gs ps) ≡ Ok []
-    unfolding entry_of built_causes is_session_line first_cause
+    unfolding entry_of built_causes said_by_line is_session_line first_cause
     session_entry row there free =
         let few : nat_le 4294967295 (length (map place_of ps)) ≡ false = rw (length-map ps place_of) (grind (nat_tests, arith)) in
         rw (nth_map node_of n gs row there, few) (ap (λ (ms : List (Sent K)). let e : PlainEntry K = Ok ms in e) silent)

@@ -9,15 +9,15 @@ use Rattle.zt_protocol.specs.declared.entries.Entry.{Entry}
 use Rattle.zt_protocol.specs.declared.entries.Sent.{Sent}
 use Rattle.zt_protocol.specs.declared.errors.Refusal.{Refusal}
 use Rattle.zt_protocol.specs.declared.errors.Refusal.TheVariants as refusal
-use Rattle.zt_model.specs.Fabric.{CallAt, Fabric, Node, altered_by_line, at_nth, built_causes, call_face, call_of, entry_by, entry_of, fabric_after, line_spends_ids, number_from, printed_message, sorted_by_face, with_call_face}
+use Rattle.zt_model.specs.Fabric.{CallAt, Fabric, Node, after_refusal, altered_by_line, at_nth, built_causes, call_face, call_of, entry_by, entry_of, fabric_after, line_spends_ids, number_from, printed_message, said_by_line, sorted_by_face, with_call_face}
 use Rattle.zt_model.specs.Lists.{is_some_and, nth}
 use Rattle.zt_model.specs.Refusals.{first_cause, spends_ids, call_causes}
 use Rattle.zt_model.specs.Says.{said}
 use Rattle.zt_model.specs.Sessions.{is_session_call, is_session_line}
 use Rattle.zt_model.specs.Transcript.{Each}
 use Rattle.zt_laws.specs.Sound.{FabricIsSound, HasFirstIds, RowsAreSound, is_placed, rows_after_call}
-use Rattle.zt_laws.proofs.Faithful.{said_in_order, sound_after}
-use Rattle.zt_laws.proofs.Lines.{fabric_after_call, gateway_is_sound, speaking_is_closed}
+use Rattle.zt_laws.proofs.Faithful.{said_in_order, sound_after, unbuilt_is_still}
+use Rattle.zt_laws.proofs.Lines.{fabric_after_call, gateway_is_sound, spoken_is_session_call}
 use Rattle.zt_sessions.proofs.Members.{each_from_at_place, each_from_set, map_set, map_set_alike, nth_at, nth_map, nth_map_none}
 use Rattle.zt_sessions.specs.Calls.{LeavesAlone, Makes, PrintsBy, cause_of, numbers_of}
 use Rattle.zt_sessions.specs.Rows.{rows_of}
@@ -44,14 +44,14 @@ alone_still gs ps at row new lt at_ alone numbered = record {
 
 module _ {K : Type 0} (cmp : K → K → Ordering) (matching : K → K → Bool) where
   -- a line is refused, and the lists read as they did
-  pub refused : (line : PlainLine K) (r : Refusal) (gs gs' : List (GatewayRow K)) (ps ps' : List PlaceRow) → entry_of cmp matching is_session_line line (fabric_of gs ps) ≡ Err r → StandsStill gs ps gs' ps' → CarriesOut cmp matching line gs ps (Err r) gs' ps'
+  pub refused : (line : PlainLine K) (r : Refusal) (gs gs' : List (GatewayRow K)) (ps ps' : List PlaceRow) → entry_of cmp matching is_session_line line (fabric_of gs ps) ≡ Err r → after_refusal cmp matching line r (fabric_of gs ps) ≡ fabric_of gs ps → StandsStill gs ps gs' ps' → CarriesOut cmp matching line gs ps (Err r) gs' ps'
   unfolding fabric_after
-  refused line r gs gs' ps ps' is stands = record { entry_is = sym is; view = stands.view; numbered = stands.numbered }
+  refused line r gs gs' ps ps' is unchanged stands = record { entry_is = sym is; view = stands.view ∙ sym unchanged; numbered = stands.numbered }
 
   -- lines that aren't built
   pub not_built : (line : PlainLine K) (gs : List (GatewayRow K)) (ps : List PlaceRow) → is_session_line line ≡ false → AreNumbered gs ps → CarriesOut cmp matching line gs ps (Err refusal.NotBuilt) gs ps
   unfolding entry_of first_cause
-  not_built line gs ps unbuilt numbered = refused line refusal.NotBuilt gs gs ps ps (rw unbuilt refl) (still gs ps numbered)
+  not_built line gs ps unbuilt numbered = refused line refusal.NotBuilt gs gs ps ps (rw unbuilt refl) (unbuilt_is_still cmp matching line (fabric_of gs ps)) (still gs ps numbered)
 
   -- the fabric after a line is sound again
   carried_on : (total : IsTotalOrder cmp) (equal_is_same : (a b : K) → cmp a b ≡ Equal → a ≡ b) (line : PlainLine K) (gs gs' : List (GatewayRow K)) (ps ps' : List PlaceRow) (entry : PlainEntry K)
@@ -59,7 +59,7 @@ module _ {K : Type 0} (cmp : K → K → Ordering) (matching : K → K → Bool)
   carried_on total equal_is_same line gs gs' ps ps' entry real fabric out =
       let s = fabric_of gs ps in
       record {
-        sound = subst (FabricIsSound cmp matching) (sym (out.view ∙ ap (λ e. fabric_after cmp matching line e s) out.entry_is)) (sound_after cmp matching total equal_is_same is_session_line line s real fabric.sound);
+        sound = subst (FabricIsSound cmp matching) (sym (out.view ∙ ap (λ e. fabric_after cmp matching line e s) out.entry_is)) (sound_after cmp matching total equal_is_same line s real fabric.sound);
         numbered = out.numbered;
       }
 
@@ -96,12 +96,12 @@ module _ {K : Type 0} (cmp : K → K → Ordering) (matching : K → K → Bool)
     -- nobody has the number
     pub unknown_face : AreNumbered gs ps → is_session_call c ≡ true → call_of (Speak c) (fabric_of gs ps) ≡ None → CarriesOut cmp matching (Speak c) gs ps (Err refusal.UnknownFace) gs ps
     unfolding entry_of built_causes is_session_line first_cause
-    unknown_face numbered built none = refused (Speak c) refusal.UnknownFace gs gs ps ps (rw (built, none) refl) (still gs ps numbered)
+    unknown_face numbered built none = refused (Speak c) refusal.UnknownFace gs gs ps ps (rw (built, none) refl) refl (still gs ps numbered)
 
     entry_of_call : (face : ℕ) (at : CallAt K) → is_session_call c ≡ true → call_face c ≡ Some face → call_of (Speak c) (fabric_of gs ps) ≡ Some at
         → entry_of cmp matching is_session_line (Speak c) (fabric_of gs ps)
         ≡ entry_by cmp matching (first_cause (call_causes cmp matching (spends_ids cmp matching at.call at.rows) at.call at.rows)) (sorted_by_face (map (printed_message (fabric_of gs ps) at.gateway) (said cmp matching at.call at.rows)))
-    unfolding entry_of built_causes is_session_line first_cause
+    unfolding entry_of built_causes said_by_line is_session_line first_cause
     entry_of_call face at built is made =
         let s : Fabric K = fabric_of gs ps in
         let spent : line_spends_ids cmp matching (Speak c) s ≡ spends_ids cmp matching at.call at.rows = ap (λ (o : Option (CallAt K)). is_some_and o (λ a. spends_ids cmp matching a.call a.rows)) made in
@@ -115,6 +115,7 @@ module _ {K : Type 0} (cmp : K → K → Ordering) (matching : K → K → Bool)
         let nth_row : nth p.gateway gs ≡ Some row = rw spot (nth_at at gs row lt ∙ ap (λ x. Some x) (sym at_)) in
         refused (Speak c) r gs (set gs at new) ps ps
         (entry_of_call face (record { gateway = p.gateway; rows = rows_of row; call = with_call_face p.face c }) built is (call_of_is face p row is there nth_row) ∙ rw cause refl)
+        refl
         (alone_still gs ps at row new lt at_ alone fabric.numbered)
 
     prints : (at : ℕ) (p : PlaceRow) (row : GatewayRow K) → p.gateway ≡ 1 + at → HavePlaces ps (1 + at) (map numbers_of row.faces.items) → Each (PrintsBy p.gateway (printed_message (fabric_of gs ps) p.gateway)) row.faces.items
@@ -129,7 +130,7 @@ module _ {K : Type 0} (cmp : K → K → Ordering) (matching : K → K → Bool)
     spoken_out :
         (face at : ℕ) (p : PlaceRow) (row new : GatewayRow K) (sent : List (Sent K)) → call_face c ≡ Some face → nth face ps ≡ Some p → p.gateway ≡ at + 1 → at < length gs → row ≡ get_or gs at row → is_session_call c ≡ true → IsFabric cmp matching gs ps
         → Makes cmp matching p.gateway (with_call_face p.face c) row new sent → CarriesOut cmp matching (Speak c) gs ps (Ok sent) (set gs at new) ps
-    unfolding fabric_after altered_by_line
+    unfolding fabric_after altered_by_line said_by_line is_session_line
     spoken_out face at p row new sent is there spot lt at_ built fabric makes =
         let s : Fabric K = fabric_of gs ps in
         let call : PlainCall K = with_call_face p.face c in
@@ -140,7 +141,7 @@ module _ {K : Type 0} (cmp : K → K → Ordering) (matching : K → K → Bool)
         let have : HavePlaces ps (1 + at) (map numbers_of row.faces.items) = each_from_at_place (λ n (row : GatewayRow K). HavePlaces ps n (map numbers_of row.faces.items)) 1 at gs row lt at_ fabric.numbered in
         let says : sent ≡ map (printed_message s p.gateway) (said cmp matching call (rows_of row)) = makes.sends (printed_message s p.gateway) (prints at p row spot_ have) in
         let in_order : sorted_by_face (map (printed_message s p.gateway) (said cmp matching call (rows_of row))) ≡ map (printed_message s p.gateway) (said cmp matching call (rows_of row)) =
-        rw made at (said_in_order cmp matching (Speak c) s fabric.sound) in
+        rw made at (said_in_order cmp matching (Speak c) s built fabric.sound) in
         let sent_is : sent ≡ sorted_by_face (map (printed_message s p.gateway) (said cmp matching call (rows_of row))) = says ∙ sym in_order in
         let nodes : map node_of (set gs at new) ≡ at_nth p.gateway (λ (node : Node K). record node { rows = rows_after_call cmp matching call node.rows }) s.gateways =
         rw spot (map_set node_of (λ (node : Node K). record node { rows = rows_after_call cmp matching call node.rows }) at gs row new lt at_ (ap (λ rows. record { rows = rows; south = None; name = None }) makes.rows)) in
@@ -148,7 +149,7 @@ module _ {K : Type 0} (cmp : K → K → Ordering) (matching : K → K → Bool)
           entry_is = ap (λ (ms : List (Sent K)). let e : PlainEntry K = Ok ms in e) sent_is
               ∙ sym (entry_of_call face (record { gateway = p.gateway; rows = rows_of row; call = call }) built is made ∙ rw makes.accepted refl);
           view = ap (λ (gs' : List (Node K)). record s { gateways = gs' }) nodes
-              ∙ sym (rw (made, sent_is) (fabric_after_call cmp matching p.gateway (node_of row) call s nth_node (speaking_is_closed p.face face c is) fabric.sound));
+              ∙ sym (rw (made, sent_is) (fabric_after_call cmp matching p.gateway (node_of row) call s nth_node (spoken_is_session_call p.face c built) fabric.sound));
           numbered = numbered_still gs ps at row new lt at_ makes.numbers fabric.numbered;
         }
 

@@ -17,14 +17,16 @@ use Rattle.zt_protocol.specs.declared.messages.Message.TheVariants as message
 use Rattle.zt_model.specs.Lists.{at_id, first_where, has_id, same, without_id}
 use Rattle.zt_model.specs.Refusals.{call_causes, first_cause, spends_ids}
 use Rattle.zt_model.specs.Rows.{ById, Face, Rows}
-use Rattle.zt_model.specs.Says.{Part, find_face, forget_to, forget_untold, parts_of, said_by, told_id, unregistered, with_face}
+use Rattle.zt_model.specs.Says.{Part, find_face, forget_to, forget_untold, is_routed, said_by, told_id, unregistered, with_face}
 use Rattle.zt_model.specs.Visible.{is_visible, rows_of_face, shows}
 use Rattle.zt_model.specs.Wants.{wants}
 use Rattle.zt_laws.specs.Effects.{forgotten, without_key}
+use Rattle.zt_laws.specs.Sessions.{session_parts}
 use Rattle.zt_laws.specs.Sound.{IsOrderly, IsToldInOrder, RiseFrom, RowsAreSound}
 use Rattle.zt_laws.proofs.Faces.{carried}
 use Rattle.zt_laws.proofs.Lists.{by_test, each_weaker}
 use Rattle.zt_laws.proofs.Phases.{after_forgetting, rows_after_forgetting, said_forgetting}
+use Rattle.zt_laws.proofs.SessionCalls.{after_session_call, session_call}
 use Rattle.zt_laws.proofs.Undeclaring.{forgetting as forgetting_parts}
 use Rattle.zt_sessions.proofs.Bridge.{print_each, told_id_is}
 use Rattle.zt_sessions.proofs.Changes.{alike-changed}
@@ -113,9 +115,9 @@ module _ {K : Type 0} (cmp : K → K → Ordering) where
       ∙ seen_each g.zid g.told.items n id e g.faces.items
 
 module _ {K : Type 0} (cmp : K → K → Ordering) (matching : K → K → Bool) (n id : ℕ) where
-  undeclare_cause_is : (spent : Bool) (f : Face K) (g : Rows K) → find_face n g ≡ Some f → first_cause (call_causes cmp matching spent (UndeclareToken n id None 0) g) ≡ (if has_id id f.live then None else Some refusal.UnknownToken)
+  undeclare_cause_is : (spent : Bool) (f : Face K) (g : Rows K) → find_face n g ≡ Some f → is_routed g f ≡ false → first_cause (call_causes cmp matching spent (UndeclareToken n id None 0) g) ≡ (if has_id id f.live then None else Some refusal.UnknownToken)
   unfolding first_cause call_causes
-  undeclare_cause_is spent f g found = by_test (has_id id f.live) (λ here. rw (found, here) refl) (λ here. rw (found, here) refl)
+  undeclare_cause_is spent f g found plain = by_test (has_id id f.live) (λ here. rw (found, plain, here) refl) (λ here. rw (found, plain, here) refl)
 
   undeclare_unknown : (spent : Bool) (g : Rows K) → find_face n g ≡ None → first_cause (call_causes cmp matching spent (UndeclareToken n id None 0) g) ≡ Some refusal.UnknownFace
   unfolding first_cause call_causes
@@ -129,15 +131,14 @@ module _ {K : Type 0} (cmp : K → K → Ordering) (matching : K → K → Bool)
       let from : Face K = face_of g.zid g.told.items (get_or g.faces.items place d) in
       let rises : RiseFrom (λ row. row.number) 1 g.faces.items = rise_rows g.zid g.told.items 1 g.faces.items sound.faces_rise in
       let found : find_face n (rows_of g) ≡ Some from = find_at g.zid g.told.items n 1 place d g.faces.items rises lt is in
-      undeclare_cause_is (spends_ids cmp matching (UndeclareToken n id None 0) (rows_of g)) from (rows_of g) found
+      undeclare_cause_is (spends_ids cmp matching (UndeclareToken n id None 0) (rows_of g)) from (rows_of g) found refl
 
   pub undeclare_nobody : (g : GatewayRow K) → first_where (λ row. n == row.number) g.faces.items ≡ None → cause_of cmp matching (UndeclareToken n id None 0) g ≡ Some refusal.UnknownFace
   undeclare_nobody g none = undeclare_unknown (spends_ids cmp matching (UndeclareToken n id None 0) (rows_of g)) (rows_of g) (find_nobody g.zid g.told.items n g.faces.items none)
 
-  parts_are : (e : K) (f : Face K) (g : Rows K) → find_face n g ≡ Some f → at_id id f.live ≡ Some e → parts_of cmp matching (UndeclareToken n id None 0) g ≡ forgetting_parts cmp matching n id e f
-  unfolding parts_of
+  parts_are : (e : K) (f : Face K) (g : Rows K) → find_face n g ≡ Some f → at_id id f.live ≡ Some e → session_parts cmp matching (UndeclareToken n id None 0) g ≡ forgetting_parts cmp matching n id e f
   parts_are e f g found at_ =
-      rw (found, parts_of) (ap (λ (o : Option K). let parts : List (Part K) = elim (elim o as (λ _. Option K) [ None ↦ None | Some x ↦ Some x ]) [ None ↦ [] | Some x ↦ forgetting_parts cmp matching n id x f ] in parts) at_)
+      rw (found, session_parts) (ap (λ (o : Option K). let parts : List (Part K) = elim (elim o as (λ _. Option K) [ None ↦ None | Some x ↦ Some x ]) [ None ↦ [] | Some x ↦ forgetting_parts cmp matching n id x f ] in parts) at_)
 
   -- what one session hears
   hears_forgetting : Bool → List (ToldRow K) → K → FaceRow K → List (Message K)
@@ -224,7 +225,7 @@ module _ {K : Type 0} (cmp : K → K → Ordering) (matching : K → K → Bool)
             sent_is
             ∙ sym (sent_forgetting gateway e old)
             ∙ sym (print_each gateway print view (forget_to cmp matching (with_face n (unregistered id) g) Local e) (hears_forgetting (is_declared_else cmp n id e old.faces.items) old.told.items e) old.faces.items (λ row. refl) (forget_to_is e old) prints)
-            ∙ ap (map print) (sym (ap (λ ps. said_by cmp matching ps g) parts ∙ said_forgetting cmp matching n id e from g));
-        rows = rows_undeclared e place d old new rises lt is made ∙ sym (ap (λ ps. carried cmp matching ps g) parts ∙ rows_after_forgetting cmp matching n id total equal_is_same e from g sound.faces_rise ordered);
+            ∙ ap (map print) (sym ((session_call cmp matching (UndeclareToken n id None 0) g refl sound.of_sessions).0 ∙ ap (λ ps. said_by cmp matching ps g) parts ∙ said_forgetting cmp matching n id e from g));
+        rows = rows_undeclared e place d old new rises lt is made ∙ sym (after_session_call cmp matching (UndeclareToken n id None 0) g refl sound.of_sessions ∙ ap (λ ps. carried cmp matching ps g) parts ∙ rows_after_forgetting cmp matching n id total equal_is_same e from g sound.faces_rise ordered);
         numbers = alike-changed numbers_of (Unregisters id) (λ x y r. ap₂ (λ (a b : ℕ). (a, b)) r.like.number r.like.script_number) place old.faces.items new.faces.items made.unregisters;
       }

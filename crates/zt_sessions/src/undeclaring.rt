@@ -15,7 +15,7 @@ use std::alloc::Global;
 use zt_keys::{Key, Memory};
 use zt_protocol::{Refusal, Sent, TokenId};
 
-fn is_other_token<K: Key>(token: &(u32, K), is_own: bool, id: TokenId, expr: &K) -> bool
+fn is_declared_apart<K: Key>(token: &(u32, K), is_own: bool, id: TokenId, expr: &K) -> bool
     ensures { result ≡ (same K.cmp expr.now token.now.1 && not (is_own && id == token.now.0)) }
 {
     is_same(expr, &token.1) && !(is_own && id == token.0)
@@ -27,7 +27,7 @@ fn declares_otherwise<K: Key>(row: &FaceRow<K>, face: u32, id: TokenId, expr: &K
     let is_own = face == row.number;
     row.live
         .iter()
-        .any(|token| is_other_token(token, is_own, id, expr))
+        .any(|token| is_declared_apart(token, is_own, id, expr))
 }
 
 /// Whether an expression is declared otherwise than under an id of a session.

@@ -59,6 +59,8 @@ impl Source for MemorySource {
 
     ghost faults = { λ s. s.faults };
 
+    ghost reads = { λ s. s.calls };
+
     fn read(&mut self, buf: &mut [u8]) -> Result<usize, Failed>
         requires { 0 < length buf.old }
         ensures fails { is_err result ≡ is_listed self.old.failing self.old.calls }
@@ -72,6 +74,7 @@ impl Source for MemorySource {
         ensures kept { OnErr result (Keeps (Some self.old.left) (Some self.new.left)) }
         ensures fault { OnErr result (HasRisen self.old.faults self.new.faults) }
         ensures count { self.old.faults ≤ self.new.faults }
+        ensures once { self.new.calls ≤ self.old.calls + 1 }
     {
         let call = self.calls;
         self.calls = self.calls.saturating_add(1);

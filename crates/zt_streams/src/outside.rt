@@ -1,5 +1,5 @@
 //! The two traits through which bytes come in and go out.
-ghost use Rattle.std.specs.Prelude.{◌≡◌, ℕ, ◌<◌, ◌≤◌, List, Option, take, length, IfOk, OnOk, OnErr};
+ghost use Rattle.std.specs.Prelude.{◌≡◌, ℕ, ◌+◌, ◌<◌, ◌≤◌, List, Option, take, length, IfOk, OnOk, OnErr};
 ghost use Rattle.std.specs.Io.KnownBytes.{Appends, Consumes, IsAtEnd, Keeps};
 ghost use Rattle.zt_streams.specs.Streams.{HasRisen, AppendsPart};
 
@@ -15,6 +15,9 @@ pub trait Source {
     /// How many faults there were.
     ghost faults: { Self → ℕ };
 
+    /// How often it was read, where the source counts that.
+    ghost reads: { Self → ℕ };
+
     /// Puts the next bytes that are left into the front of `buf`, and answers how many. The rest of
     /// `buf` may then be anything. 0 is the end. `Failed` comes only where the count of faults rose,
     /// and leaves what is left as it was.
@@ -25,7 +28,8 @@ pub trait Source {
         ensures end { IfOk result (λ n. n ≡ 0 → IsAtEnd (left self.new)) }
         ensures kept { OnErr result (Keeps (left self.old) (left self.new)) }
         ensures fault { OnErr result (HasRisen (faults self.old) (faults self.new)) }
-        ensures count { faults self.old ≤ faults self.new };
+        ensures count { faults self.old ≤ faults self.new }
+        ensures once { reads self.new ≤ reads self.old + 1 };
 }
 
 /// Where bytes go.

@@ -30,7 +30,8 @@ pub enum ScriptError {
 }
 
 /// Reads a script to its end, or until it is known to be longer than `SCRIPT_BYTES`. `Fault` comes
-/// only where the source's count of faults rose. After an error what was read is lost.
+/// only where the source's count of faults rose. After an error what was read is lost. The source
+/// is read at most 1,048,577 times.
 pub fn read_script<S: Source>(alloc: Global, source: &mut S) -> Result<Script, ScriptError>
     // Where the source tells its bytes.
     ensures text { IfOk result (λ script. IfSome (S.left source.old) (λ text.
@@ -45,6 +46,7 @@ pub fn read_script<S: Source>(alloc: Global, source: &mut S) -> Result<Script, S
     ensures full { IfOk result (λ script. IsTrue script.longer → vec_len script.bytes ≡ SCRIPT_BYTES) }
     ensures fault { result ≡ Err ScriptError.Fault → HasRisen (S.faults source.old) (S.faults source.new) }
     ensures count { S.faults source.old ≤ S.faults source.new }
+    ensures reads { S.reads source.new ≤ S.reads source.old + (SCRIPT_BYTES + 1) }
 {
     let mut bytes = Vec::new(alloc);
     let mut piece = [0u8; PIECE_BYTES];

@@ -39,6 +39,8 @@ impl<R: Input> Source for StdSource<R> {
 
     ghost faults = { λ s. s };
 
+    ghost reads = { λ _. 0 };
+
     fn read(&mut self, buf: &mut [u8]) -> Result<usize, Failed>
         requires { 0 < length buf.old }
         ensures after { MatchResult result (λ _. self.new ≡ self.old) (λ _. self.new ≡ next_count self.old) }

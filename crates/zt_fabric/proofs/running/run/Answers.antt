@@ -5,7 +5,6 @@ use Rattle.zt_laws.proofs.Faithful.{faithful_from, sound_empty}
 use Rattle.zt_streams.specs.Lines.{whole_lines}
 use Rattle.zt_streams.proofs.LineLemmas.{whole_lines-rest_of}
 use Rattle.zt_model.specs.Fabric.{empty_fabric}
-use Rattle.zt_model.specs.Sessions.{is_session_line}
 use Rattle.zt_protocol.specs.declared.errors.RunError.TheVariants as errors
 use Rattle.zt_fabric.specs.Transcripts.{streams}
 use Rattle.zt_fabric.proofs.CompleteLemmas.{complete}
@@ -18,6 +17,7 @@ loop-reads-init g c = record {
   empty = c.new-2.ensures.bytes;
   within = omega arith;
   reads = omega arith;
+  read_so_far = omega arith;
   lines = omega (arith, ap length c.new-feeder.ensures);
   range = record { messages_fit = omega arith; refusals_fit = omega arith };
   read_faults = omega arith;
@@ -27,7 +27,7 @@ loop-reads-init g c = record {
 pub returns-in_default-clause-answers : goal.returns-in_default-clause-answers
 returns-in_default-clause-answers g c =
     read_failed g.K.Ord.cmp g.K.Key.matching g.K.Key.reading g.K.Key.printed
-    (λ lines real. faithful_from g.K.Ord.cmp g.K.Key.matching g.met.K.Ord.total g.met.K.Key.laws.equal_is_same is_session_line lines empty_fabric real (sound_empty g.K.Ord.cmp g.K.Key.matching))
+    (λ lines real. faithful_from g.K.Ord.cmp g.K.Key.matching g.met.K.Ord.total g.met.K.Key.laws.equal_is_same lines empty_fabric real (sound_empty g.K.Ord.cmp g.K.Key.matching))
     (g.S.Source.left c.args.source.now) (g.T.Sink.written c.args.sink.now) (g.S.Source.left c.loop-reads.source) (g.T.Sink.written c.loop-reads.sink) (g.S.Source.left c.read.new.self)
     c.loop-reads.run.fabric c.loop-reads.run.report c.loop-reads.feeder c.loop-reads.total
     (g.S.Source.faults c.args.source.now) (g.S.Source.faults c.loop-reads.source) (g.S.Source.faults c.read.new.self) (g.T.Sink.faults c.args.sink.now) (g.T.Sink.faults c.loop-reads.sink)
@@ -40,7 +40,7 @@ finish-requires-clause-whole g c =
 pub returns-then-count-eq0-clause-answers : goal.returns-then-count-eq0-clause-answers
 returns-then-count-eq0-clause-answers g c =
     finished g.K.Ord.cmp g.K.Key.matching g.K.Key.reading g.K.Key.printed
-    (λ lines real. faithful_from g.K.Ord.cmp g.K.Key.matching g.met.K.Ord.total g.met.K.Key.laws.equal_is_same is_session_line lines empty_fabric real (sound_empty g.K.Ord.cmp g.K.Key.matching))
+    (λ lines real. faithful_from g.K.Ord.cmp g.K.Key.matching g.met.K.Ord.total g.met.K.Key.laws.equal_is_same lines empty_fabric real (sound_empty g.K.Ord.cmp g.K.Key.matching))
     (g.S.Source.left c.args.source.now) (g.T.Sink.written c.args.sink.now) (g.S.Source.left c.read.new.self) (g.T.Sink.written c.loop-reads.sink) (g.T.Sink.written c.finish.new.sink)
     c.loop-reads.run.fabric c.loop-reads.run.report c.loop-reads.feeder c.loop-reads.total
     (g.S.Source.faults c.args.source.now) (g.S.Source.faults c.read.new.self) (g.T.Sink.faults c.args.sink.now) (g.T.Sink.faults c.loop-reads.sink) (g.T.Sink.faults c.finish.new.sink) c.finish.result
@@ -55,7 +55,7 @@ returns-in-Err-clause-answers g c =
     let so_far = c.loop-reads.invariant.so_far in
     let n = c.min-in-loop-reads.result in
     stopped g.K.Ord.cmp g.K.Key.matching g.K.Key.reading g.K.Key.printed
-    (λ lines real. faithful_from g.K.Ord.cmp g.K.Key.matching g.met.K.Ord.total g.met.K.Key.laws.equal_is_same is_session_line lines empty_fabric real (sound_empty g.K.Ord.cmp g.K.Key.matching))
+    (λ lines real. faithful_from g.K.Ord.cmp g.K.Key.matching g.met.K.Ord.total g.met.K.Key.laws.equal_is_same lines empty_fabric real (sound_empty g.K.Ord.cmp g.K.Key.matching))
     (g.S.Source.left c.args.source.now) (g.T.Sink.written c.args.sink.now) (g.S.Source.left c.loop-reads.source) (g.T.Sink.written c.loop-reads.sink) (g.S.Source.left c.read.new.self) (g.T.Sink.written c.carry_piece.new.sink)
     c.loop-reads.run.fabric c.loop-reads.run.report c.loop-reads.feeder c.loop-reads.total
     (g.S.Source.faults c.args.source.now) (g.S.Source.faults c.read.new.self) (g.T.Sink.faults c.args.sink.now) (g.T.Sink.faults c.loop-reads.sink) (g.T.Sink.faults c.carry_piece.new.sink)
@@ -69,7 +69,7 @@ returns-then-count-room-clause-answers g c =
     let so_far = c.loop-reads.invariant.so_far in
     let n = c.min-in-loop-reads.result in
     too_long g.K.Ord.cmp g.K.Key.matching g.K.Key.reading g.K.Key.printed
-    (λ lines real. faithful_from g.K.Ord.cmp g.K.Key.matching g.met.K.Ord.total g.met.K.Key.laws.equal_is_same is_session_line lines empty_fabric real (sound_empty g.K.Ord.cmp g.K.Key.matching))
+    (λ lines real. faithful_from g.K.Ord.cmp g.K.Key.matching g.met.K.Ord.total g.met.K.Key.laws.equal_is_same lines empty_fabric real (sound_empty g.K.Ord.cmp g.K.Key.matching))
     (g.S.Source.left c.args.source.now) (g.T.Sink.written c.args.sink.now) (g.S.Source.left c.loop-reads.source) (g.T.Sink.written c.loop-reads.sink) (g.S.Source.left c.read.new.self) (g.T.Sink.written c.carry_piece.new.sink)
     c.loop-reads.run.fabric c.carry_piece.new.run.fabric c.loop-reads.run.report c.carry_piece.new.run.report c.loop-reads.feeder c.loop-reads.total
     (g.S.Source.faults c.args.source.now) (g.S.Source.faults c.read.new.self) (g.T.Sink.faults c.args.sink.now) (g.T.Sink.faults c.carry_piece.new.sink)
@@ -94,6 +94,7 @@ loop-reads-preserved g c =
       empty = c.in_default-carry_piece.ensures.empty;
       within = omega (arith, c.if-count-room.false, c.loop-reads.invariant.within);
       reads = omega (arith, c.if-prove.false);
+      read_so_far = omega (arith, c.loop-reads.invariant.read_so_far, c.read.ensures.once);
       lines = omega (arith, c.in_default-carry_piece.ensures.lines, c.loop-reads.invariant.lines, size);
       range = c.in_default-carry_piece.ensures.range;
       read_faults = omega (arith, c.loop-reads.invariant.read_faults, c.read.ensures.count);

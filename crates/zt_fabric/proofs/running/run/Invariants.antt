@@ -14,6 +14,7 @@ invariant-loop-reads g l =
       empty : string_bytes l.run.text ≡ [];
       within : l.total ≤ 1048576;
       reads : l.reads ≤ l.total;
+      read_so_far : g.S.Source.reads l.source ≤ g.S.Source.reads l.fn.source + l.reads;
       lines : l.run.report.lines + length l.feeder ≤ l.total;
       range : IsInRange l.run.report;
       read_faults : g.S.Source.faults l.fn.source ≤ g.S.Source.faults l.source;

@@ -1,4 +1,5 @@
 use Rattle.std.proofs.Common.{arith}
+use Rattle.std.proofs.lemmas.List.{length-take}
 use Rattle.std.proofs.KnownBytes.{Consumes-trans}
 use Rattle.zt_streams.proofs.ScriptLemmas.{front-longer, longer-read, front-whole}
 use Rattle.zt_streams.proofs.reading.read_script.Goals as goal
@@ -29,4 +30,5 @@ loop-count-preserved g c = record {
   room = c.in-Ok-take_piece.ensures.bound;
   read = rw (c.in-Ok-take_piece.ensures.whole c.if-longer.false) (Consumes-trans _ _ _ _ _ c.loop-count.invariant.read c.in-Ok.ensures.given);
   count = omega (arith, c.loop-count.invariant.count, c.read.ensures.count);
+  reads = omega (arith, c.loop-count.invariant.reads, c.read.ensures.once, c.in-Ok-take_piece.ensures.grown c.if-longer.false, length-take c.in-Ok.count c.read.new.buf, c.in-Ok.ensures.fits, c.if-count-eq0.false);
 }

@@ -1,4 +1,4 @@
-use Rattle.std.proofs.Common.{◌-◌, ◌≤◌, vec_len}
+use Rattle.std.proofs.Common.{◌+◌, ◌-◌, ◌≤◌, vec_len}
 use Rattle.std.specs.Io.KnownBytes.{Consumes}
 use Rattle.zt_streams.proofs.reading.read_script.Given as goal
 
@@ -11,6 +11,7 @@ invariant-loop-count g l =
       room : vec_len l.bytes ≤ 1048576;
       read : Consumes (left l.fn.source) (left l.source) l.bytes.items;
       count : faults l.fn.source ≤ faults l.source;
+      reads : g.S.Source.reads l.source ≤ g.S.Source.reads l.fn.source + vec_len l.bytes;
     }
 
 abbrev pub decreases-loop-count : goal.decreases-loop-count

@@ -1,0 +1,357 @@
+-- What a transcript promises, as relations of its lines and entries: what faces keep, which tokens they are told,
+-- what asks get and when they end, and what goes upstream. They are read off the lines and the printed messages,
+-- from the empty fabric on, and know nothing of what a call says.
+use Rattle.std.specs.Prelude.{◌≡◌, ℕ, Bool, true, false, ◌+◌, ◌==◌, ◌&&◌, ◌||◌, not, nat_le, nat_lt, if◌then◌else◌, List, [], ◌∷◌, ◌++◌, length, Option, Some, None, is_some, Ok, Err, filter}
+use Rattle.std.specs.List.{list_any, list_all, flat_map}
+use Rattle.std.specs.Option.{option_to_list}
+use Rattle.std.specs.declared.cmp.Ordering.{Ordering}
+use Rattle.zt_region.specs.declared.region.Bound.TheVariants.{South as SouthBound}
+use Rattle.zt_region.specs.declared.region.Region.{Region}
+use Rattle.zt_region.specs.declared.region.WhatAmI.{WhatAmI}
+use Rattle.zt_region.specs.declared.region.WhatAmI.TheVariants.{Router, Peer, Client}
+use Rattle.zt_region.specs.Admission.{admits}
+use Rattle.zt_region.specs.Region.{bound_eq, is_north}
+use Rattle.zt_protocol.specs.Interest.{is_current, is_future, has_tokens}
+use Rattle.zt_protocol.specs.Plain.{NewTransport, DeclareToken, Interest, InterestFinal, PlainEntry, PlainLine, Link as LinkLine, Unlink}
+use Rattle.zt_protocol.specs.declared.entries.Sent.{Sent}
+use Rattle.zt_protocol.specs.declared.messages.Message.{Message}
+use Rattle.zt_protocol.specs.declared.messages.Message.TheVariants as message
+use Rattle.zt_model.specs.Fabric.{CallAt, Fabric, Node, altered_by_line, call_of, closing_call, both_ends, fabric_after, number_of_place, opening_calls, printed_for}
+use Rattle.zt_model.specs.Hearing.{heard}
+use Rattle.zt_model.specs.Linking.{link_ends}
+use Rattle.zt_model.specs.Lists.{at_id, has_id, is_among, is_some_and, nth, same}
+use Rattle.zt_model.specs.Parts.{find_face, is_routed}
+use Rattle.zt_model.specs.Routing.{asks_same, interests_from, is_held_south, opening_interests, route_to, stands}
+use Rattle.zt_model.specs.Rows.{Ask, Face, InterestRow, Rows}
+use Rattle.zt_model.specs.Says.{row_of}
+use Rattle.zt_model.specs.Telling.{registers, was_sent_as}
+use Rattle.zt_model.specs.Transcript.{Each}
+use Rattle.zt_model.specs.Visible.{is_admitted, is_visible, keeps, shows}
+use Rattle.zt_model.specs.Wants.{asks_token, covers, is_about, seeks, wants}
+
+-- ---- turns
+
+-- a line with its entry, and the fabric before and after it
+pub record Turn (K : Type 0) : Type 0 where
+  pub line : PlainLine K
+  pub entry : PlainEntry K
+  pub before : Fabric K
+  pub after : Fabric K
+
+-- a face of a fabric, at its gateway
+pub record FaceAt (K : Type 0) : Type 0 where
+  pub gateway : ℕ
+  pub rows : Rows K
+  pub face : Face K
+
+-- an open face by its number in scripts
+unfoldable pub face_numbered : {K : Type 0} → Fabric K → ℕ → Option (FaceAt K)
+face_numbered s n =
+    elim (nth n s.faces) [
+      | None ↦ None
+      | Some p ↦
+          elim (nth p.gateway s.gateways) [
+            | None ↦ None
+            | Some node ↦ elim (find_face p.face node.rows) [ None ↦ None | Some f ↦ Some (record { gateway = p.gateway; rows = node.rows; face = f }) ]
+          ]
+    ]
+
+abbrev pub is_open_face : {K : Type 0} → Fabric K → ℕ → Bool
+is_open_face s n = is_some (face_numbered s n)
+
+-- what a turn prints; a refused line prints nothing
+abbrev pub printed : {K : Type 0} → Turn K → List (Sent K)
+printed t = elim t.entry [ Ok ms ↦ ms | Err refusal ↦ [] ]
+
+abbrev pub is_accepted : {K : Type 0} → PlainEntry K → Bool
+is_accepted (Ok ms) = true
+is_accepted (Err refusal) = false
+
+-- what a turn prints for a face
+abbrev pub printed_to : {K : Type 0} → Turn K → ℕ → Face K → List (Message K)
+printed_to t gateway f = printed_for (number_of_place t.after gateway f.number) (printed t)
+
+-- a fact of each gateway with its number, counted from n
+abbrev pub EachGateway : {K : Type 0} → (ℕ → Node K → Type 0) → ℕ → List (Node K) → Type 0
+EachGateway P n [] = Unit {0}
+EachGateway P n (node ∷ nodes) = P n node × EachGateway P (n + 1) nodes
+
+-- a fact of each open face of a fabric, with its gateway's number and rows
+abbrev pub EachFace : {K : Type 0} → (ℕ → Rows K → Face K → Type 0) → Fabric K → Type 0
+EachFace {K} P s = EachGateway (λ n (node : Node K). Each (P n node.rows) node.rows.faces) 1 s.gateways
+
+-- ---- messages
+
+-- the message answers an interest of this id
+abbrev pub answers_interest : {K : Type 0} → ℕ → Message K → Bool
+answers_interest id (message.DeclareToken token e (Some interest) node) = id == interest
+answers_interest id (message.DeclareSubscriber number e interest) = id == interest
+answers_interest id (message.DeclareQueryable number e info interest) = id == interest
+answers_interest id _ = false
+
+abbrev pub is_final_of : {K : Type 0} → ℕ → Message K → Bool
+is_final_of id (message.DeclareFinal interest) = id == interest
+is_final_of id _ = false
+
+abbrev pub is_interest : {K : Type 0} → Message K → Bool
+is_interest (message.Interest id mode options e) = true
+is_interest _ = false
+
+-- the expression of a token that answers an interest of this id
+abbrev pub answered_by : {K : Type 0} → ℕ → Message K → List K
+answered_by id (message.DeclareToken token e (Some interest) node) = if id == interest then e ∷ [] else []
+answered_by id _ = []
+
+-- the expressions that an ask is answered, in order
+abbrev pub answers_in : {K : Type 0} → ℕ → List (Message K) → List K
+answers_in id ms = flat_map (answered_by id) ms
+
+abbrev pub finals_in : {K : Type 0} → ℕ → List (Message K) → ℕ
+finals_in id ms = length (filter (is_final_of id) ms)
+
+-- after a final nothing answers its id
+abbrev pub NothingFollowsFinals : {K : Type 0} → List (Message K) → Type 0
+NothingFollowsFinals [] = Unit {0}
+NothingFollowsFinals (message.DeclareFinal id ∷ ms) = (list_any (answers_interest id) ms ≡ false) × NothingFollowsFinals ms
+NothingFollowsFinals (m ∷ ms) = NothingFollowsFinals ms
+
+-- in order of face
+abbrev pub StandInOrderOfFace : {K : Type 0} → List (Sent K) → Type 0
+StandInOrderOfFace [] = Unit {0}
+StandInOrderOfFace (m ∷ ms) = (list_all (λ x. nat_le m.face x.face) ms ≡ true) × StandInOrderOfFace ms
+
+-- interests are printed with the five named options alone
+abbrev pub has_named_options : {K : Type 0} → Message K → Bool
+has_named_options (message.Interest id mode options e) = nat_lt options.0 32
+has_named_options _ = true
+
+module _ {K : Type 0} (cmp : K → K → Ordering) (matching : K → K → Bool) where
+  -- the turns of a transcript, from a fabric on
+  unfoldable pub turns_from : List (PlainLine K) → List (PlainEntry K) → Fabric K → List (Turn K)
+  turns_from [] entries s = []
+  turns_from (line ∷ lines) [] s = []
+  turns_from (line ∷ lines) (entry ∷ entries) s =
+      let after = fabric_after cmp matching line entry s in
+      record { line = line; entry = entry; before = s; after = after } ∷ turns_from lines entries after
+
+  -- the calls of a turn, where its line is accepted: a link opens two faces, and closes them
+  unfoldable pub calls_in : Turn K → List (CallAt K)
+  calls_in t = if is_accepted t.entry then calls_by t.line t.before else []
+    where
+      calls_by : PlainLine K → Fabric K → List (CallAt K)
+      calls_by (LinkLine one two first back) s = opening_calls cmp matching (link_ends s one two first back) s
+      calls_by (Unlink link) s = flat_map (λ face. option_to_list (closing_call s face)) (both_ends cmp matching s link)
+      calls_by line s = option_to_list (call_of line s)
+
+  -- the fabric with what an accepted line itself changes, before its messages are heard: the asks that stood before
+  -- and those that the line makes stand in it
+  abbrev pub with_line : Turn K → Fabric K
+  with_line t = if is_accepted t.entry then altered_by_line cmp matching t.line t.before else t.before
+
+  -- ---- what makes a transcript
+
+  -- An entry is a refusal, or messages in order of face, each for an open face of its gateway.
+  abbrev pub NamesOpenFace : Turn K → Sent K → Type 0
+  NamesOpenFace t m = is_some_and (face_numbered t.after m.face) (λ x. m.gateway == x.gateway) ≡ true
+
+  pub record IsEntry (t : Turn K) : Type 0 where
+    pub in_order : StandInOrderOfFace (printed t)
+    pub open_faces : Each (NamesOpenFace t) (printed t)
+    pub named_options : list_all (λ m. has_named_options m.message) (printed t) ≡ true
+
+  -- ---- equality
+
+  -- Where an admission table refuses no pair, a face keeps of what it covers exactly what is visible.
+  abbrev pub KeepsExactly : Turn K → Type 0
+  KeepsExactly t = EachFace (λ n g f. is_routed g f ≡ false → g.refused ≡ [] → (e : K) → covers matching f e ≡ true → keeps cmp f e ≡ is_visible cmp g f.region e) t.after
+
+  -- ---- sparing
+
+  -- A token that answers nobody is printed for a face outside router regions only with a real id, only if the face
+  -- seeks it then, and, but where the face is new, only if it is admitted. An answer is printed only for a token ask
+  -- of its id that stood or was made, and that it matches.
+  abbrev pub SparesMessage : Turn K → ℕ → Message K → Option (FaceAt K) → Type 0
+  SparesMessage t n (message.DeclareToken id e None node) (Some x) =
+      is_routed x.rows x.face ≡ false →
+      (nat_lt 0 id ≡ true) × (seeks matching x.face e ≡ true) × (is_open_face t.before n ≡ true → is_admitted cmp x.rows x.face.region e ≡ true)
+  SparesMessage t n (message.DeclareToken id e (Some interest) node) at =
+      is_some_and (face_numbered (with_line t) n) (λ x. is_some_and (at_id interest x.face.asks) (λ ask. asks_token matching ask.interest e)) ≡ true
+  SparesMessage t n _ at = Unit {0}
+
+  abbrev pub IsSparing : Turn K → Type 0
+  IsSparing t = Each (λ m. SparesMessage t m.face m.message (face_numbered t.after m.face)) (printed t)
+
+  -- ---- the future
+
+  -- After an accepted declaration that registers or is made in a router region, each face outside router regions
+  -- keeps the expression that wants it, to which the pair of regions is admitted and the region shown.
+  abbrev pub TellsWhoWants : Region → K → Rows K → Type 0
+  TellsWhoWants source e g =
+      Each (λ f. is_routed g f ≡ false → wants matching f e ≡ true → admits g.refused source f.region ≡ true → shows f.region source ≡ true → keeps cmp f e ≡ true) g.faces
+
+  abbrev pub TellsAfter : Fabric K → CallAt K → Type 0
+  TellsAfter after at = elim at.call [
+    | DeclareToken n id e node interest ↦
+        elim (find_face n at.rows) [
+          | None ↦ Unit {0}
+          | Some from ↦
+              (is_routed at.rows from || registers from interest) ≡ true →
+              elim (nth at.gateway after.gateways) [ None ↦ Unit {0} | Some node ↦ TellsWhoWants from.region e node.rows ]
+        ]
+    | _ ↦ Unit {0}
+  ]
+
+  abbrev pub TellsTheFuture : Turn K → Type 0
+  TellsTheFuture t = Each (TellsAfter t.after) (calls_in t)
+
+  -- ---- asks
+
+  -- the call asks by this id, at this face
+  abbrev pub is_asking : ℕ → ℕ → ℕ → CallAt K → Bool
+  is_asking gateway n id at = elim at.call [
+    | Interest face interest mode options e ↦ (gateway == at.gateway) && ((n == face) && ((id == interest) && is_current mode))
+    | _ ↦ false
+  ]
+
+  -- the call declares the expression, and names a pending of the ask that stands
+  abbrev pub is_answering : ℕ → Ask K → K → CallAt K → Bool
+  is_answering gateway ask e at = elim at.call [
+    | DeclareToken n id k node interest ↦
+        (gateway == at.gateway) && (same cmp e k && is_some_and interest (λ pending. was_sent_as n pending ask && stands at.rows (n, pending)))
+    | _ ↦ false
+  ]
+
+  -- each expression once, and none that was there before
+  abbrev pub are_new : List K → List K → Bool
+  are_new known [] = true
+  are_new known (e ∷ es) = not (is_among cmp e known) && are_new (e ∷ known) es
+
+  -- A token ask is answered in its own entry exactly the matching expressions visible to its face. Later it is
+  -- answered an expression only where that is declared under one of its pendings, and then it is, once.
+  pub record IsAnswered (t : Turn K) (gateway : ℕ) (g : Rows K) (f : Face K) (id : ℕ) (ask : Ask K) : Type 0 where
+    pub at_once : list_any (is_asking gateway f.number id) (calls_in t) ≡ true → (e : K) → is_among cmp e (answers_in id (printed_to t gateway f)) ≡ (is_about matching ask.interest.expr e && is_visible cmp g f.region e)
+    pub only_declared : list_any (is_asking gateway f.number id) (calls_in t) ≡ false → (e : K) → is_among cmp e (answers_in id (printed_to t gateway f)) ≡ true → list_any (is_answering gateway ask e) (calls_in t) ≡ true
+    pub each_declared : (e : K) → is_about matching ask.interest.expr e ≡ true → list_any (is_answering gateway ask e) (calls_in t) ≡ true → is_among cmp e (ask.answered ++ answers_in id (printed_to t gateway f)) ≡ true
+    pub once : are_new ask.answered (answers_in id (printed_to t gateway f)) ≡ true
+
+  abbrev pub AnswersAsks : Turn K → Type 0
+  AnswersAsks t = EachFace (λ n g f. Each (λ row. has_tokens row.1.interest.options ≡ true → IsAnswered t n g f row.0 row.1) f.asks) (with_line t)
+
+  -- ---- finals
+
+  abbrev pub is_finalising : ℕ → ℕ → ℕ → CallAt K → Bool
+  is_finalising gateway n id at = elim at.call [
+    | InterestFinal face interest ↦ (gateway == at.gateway) && ((n == face) && (id == interest))
+    | _ ↦ false
+  ]
+
+  -- none of the ask's pendings stands at its gateway
+  abbrev pub has_no_pending : Fabric K → ℕ → Ask K → Bool
+  has_no_pending s gateway ask = is_some_and (nth gateway s.gateways) (λ node. not (list_any (stands node.rows) ask.pendings))
+
+  -- the turn ends the ask: its last pending ends, or its interest, where it asked for both
+  abbrev pub ends_ask : Turn K → ℕ → Face K → ℕ → Ask K → Bool
+  ends_ask t gateway f id ask =
+      has_no_pending t.after gateway ask || (is_future ask.interest.mode && list_any (is_finalising gateway f.number id) (calls_in t))
+
+  -- each ask gets one final in the turn that ends it, and in no other
+  abbrev pub FinishesAsks : Turn K → Type 0
+  FinishesAsks t = EachFace (λ n g f. Each (λ row. finals_in row.0 (printed_to t n f) ≡ (if ends_ask t n f row.0 row.1 then 1 else 0)) f.asks) (with_line t)
+
+  -- a new mutual peer gets one final of its initial interest
+  abbrev pub FinishesInitial : Turn K → Type 0
+  FinishesInitial t =
+      EachFace (λ n g f. is_open_face t.before (number_of_place t.after n f.number) ≡ false → finals_in 0 (printed_to t n f) ≡ (if is_some f.initial then 1 else 0)) t.after
+
+  -- a final is that of an ask, or that of a new mutual peer
+  abbrev pub IsFinalOfSome : Turn K → ℕ → Message K → Type 0
+  IsFinalOfSome t n (message.DeclareFinal id) =
+      is_some_and (face_numbered (with_line t) n) (λ x. has_id id x.face.asks || ((id == 0) && (is_some x.face.initial && not (is_open_face t.before n)))) ≡ true
+  IsFinalOfSome t n _ = Unit {0}
+
+  pub record SendsFinals (t : Turn K) : Type 0 where
+    pub asks : FinishesAsks t
+    pub initial : FinishesInitial t
+    pub no_others : Each (λ m. IsFinalOfSome t m.face m.message) (printed t)
+    pub come_last : EachFace (λ n g f. NothingFollowsFinals (printed_to t n f)) t.after
+
+  -- ---- upstream
+
+  -- The interests that a call sends to a face: its own to each of its targets, and to a new face to the north what
+  -- south-bound faces hold.
+  abbrev pub interests_due : ℕ → Face K → CallAt K → List (Message K)
+  interests_due gateway f at =
+      if not (gateway == at.gateway) then []
+      else elim at.call [
+        | Interest n id mode options e ↦
+            elim (find_face n at.rows) [
+              | None ↦ []
+              | Some from ↦
+                  elim (find_face f.number at.rows) [
+                    | None ↦ []
+                    | Some target ↦ route_to at.rows from.region (row_of cmp matching from mode options e) target
+                  ]
+            ]
+        | NewTransport zid whatami region bound first ↦ if f.number == at.rows.made + 1 then interests_from first (opening_interests cmp matching at.rows f) else []
+        | _ ↦ []
+      ]
+
+  -- no other interest is printed
+  abbrev pub SendsUpstream : Turn K → Type 0
+  SendsUpstream t = EachFace (λ n g f. filter is_interest (printed_to t n f) ≡ flat_map (interests_due n f) (calls_in t)) t.after
+
+  -- a client's face to the north, and a peer's faces to the north with remote bound South, are sent all interests
+  abbrev pub is_sent_all : WhatAmI → Face K → Bool
+  is_sent_all Client f = is_north f.region
+  is_sent_all Peer f = is_north f.region && bound_eq f.bound SouthBound
+  is_sent_all Router f = false
+
+  -- their locals are, as pairs of expression and options, what open south-bound faces hold
+  abbrev pub EndsUpstream : Turn K → Type 0
+  EndsUpstream t = EachFace (λ n g f. is_sent_all g.mode f ≡ true → (i : InterestRow K) → list_any (λ row. asks_same cmp matching i row.1) f.locals ≡ is_held_south cmp matching g i) t.after
+
+  -- ---- undeclarations
+
+  -- Outside router regions an undeclaration by expression is printed only where the expression isn't visible, and
+  -- one by id only where the face kept a pair of the id.
+  abbrev pub IsGone : Turn K → ℕ → Message K → Option (FaceAt K) → Type 0
+  IsGone t n (message.UndeclareToken id (Some e) node) (Some x) = is_routed x.rows x.face ≡ false → is_visible cmp x.rows x.face.region e ≡ false
+  IsGone t n (message.UndeclareToken id None node) (Some x) =
+      is_routed x.rows x.face ≡ false → is_some_and (face_numbered t.before n) (λ y. has_id id y.face.told) ≡ true
+  IsGone t n _ at = Unit {0}
+
+  abbrev pub UndeclaresWhatIsGone : Turn K → Type 0
+  UndeclaresWhatIsGone t = Each (λ m. IsGone t m.face m.message (face_numbered t.after m.face)) (printed t)
+
+  -- ---- ids
+
+  -- A token's real id is the face's next one, or that under which the face keeps it; an interest's is the next one.
+  abbrev pub has_next_id : Message K → Face K → Bool
+  has_next_id (message.DeclareToken id e interest node) f = (id == 0) || ((id == f.next) || list_any (λ row. (id == row.0) && same cmp e row.1) f.told)
+  has_next_id (message.Interest id mode options e) f = id == f.next
+  has_next_id _ f = true
+
+  abbrev pub HaveNextIds : List (Message K) → Face K → Type 0
+  HaveNextIds [] f = Unit {0}
+  HaveNextIds (m ∷ ms) f = (has_next_id m f ≡ true) × HaveNextIds ms (heard cmp 0 m f)
+
+  abbrev pub DrawsNextIds : Turn K → Type 0
+  DrawsNextIds t = EachFace (λ n g f. HaveNextIds (printed_for (number_of_place t.after n f.number) (printed t)) f) (with_line t)
+
+  -- ---- all of them
+
+  -- what holds of each turn of a transcript
+  pub record MeetsPromises (t : Turn K) : Type 0 where
+    pub entry : IsEntry t
+    pub exact : KeepsExactly t
+    pub sparing : IsSparing t
+    pub future : TellsTheFuture t
+    pub asks : AnswersAsks t
+    pub finals : SendsFinals t
+    pub upstream : SendsUpstream t
+    pub upstream_ends : EndsUpstream t
+    pub undeclarations : UndeclaresWhatIsGone t
+    pub ids : DrawsNextIds t
+
+  abbrev pub MeetPromisesFrom : List (PlainLine K) → List (PlainEntry K) → Fabric K → Type 0
+  MeetPromisesFrom lines entries s = (length entries ≡ length lines) × Each MeetsPromises (turns_from lines entries s)
