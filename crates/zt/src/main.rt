@@ -3,17 +3,23 @@
 #![tactic(auto)]
 
 use std::env;
+use std::io::ErrorKind;
 use std::process::ExitCode;
 use zt_fabric::tool;
 use zt_streams::{StdSink, StdSource};
 
-// The status of a run that lacked memory.
+// The status of a run that lacked memory, and of words that ask for nothing that the program does.
 const NO_MEMORY: u8 = 5;
+
+const UNKNOWN_WORDS: u8 = 64;
 
 fn main(rt: HostRuntime) -> ExitCode {
     let alloc = rt.alloc();
-    let Ok(args) = env::args(&rt) else {
-        return ExitCode::from(NO_MEMORY);
+    let args = match env::args(&rt) {
+        Ok(args) => args,
+        Err(error) if error.kind() == ErrorKind::OutOfMemory => return ExitCode::from(NO_MEMORY),
+        // A word that isn't UTF-8.
+        Err(_) => return ExitCode::from(UNKNOWN_WORDS),
     };
     let words: Result<Vec<String>, _> = args.skip(1).collect(alloc);
     let Ok(words) = words else {

@@ -143,6 +143,14 @@ module _ {K : Type 0} (cmp : K → K → Ordering) (matching : K → K → Bool)
   Answers old new (Err errors.WriteFault) = FailedToWrite old new
   Answers old new (Err errors.Alloc) = LackedMemory old new
 
+-- The two streams' counts of faults: none falls, and each is as it was but where that stream's fault is the answer.
+-- So a run stops at the first fault.
+pub record CountsFaults (old new : Streams) (result : Result Report RunError) : Type 0 where
+  pub source_is_calm : (result ≡ Err errors.ReadFault → ⊥) → new.read_faults ≡ old.read_faults
+  pub sink_is_calm : (result ≡ Err errors.WriteFault → ⊥) → new.write_faults ≡ old.write_faults
+  pub source_counts : old.read_faults ≤ new.read_faults
+  pub sink_counts : old.write_faults ≤ new.write_faults
+
 -- a script of at most 2^20 bytes, each line of which is one of the grammar
 pub record IsComplete {K : Type 0} (reading : List ℕ → Result K KeyError) (script : List ℕ) : Type 0 where
   pub fits : length script ≤ most_bytes

@@ -127,6 +127,7 @@ pub fn flush<T: Sink>(sink: &mut T, text: &mut String) -> Result<(), Failed>
     ensures emptied { OnOk result (string_bytes text.new ≡ []) }
     ensures part { OnErr result (AppendsPart (T.written sink.old) (T.written sink.new) (string_bytes text.old)) }
     ensures fault { OnErr result (HasRisen (T.faults sink.old) (T.faults sink.new)) }
+    ensures calm { OnOk result (T.faults sink.new ≡ T.faults sink.old) }
     ensures count { T.faults sink.old ≤ T.faults sink.new }
 {
     write_all(sink, text.as_bytes())?;
@@ -155,6 +156,8 @@ pub fn carry_piece<K: Key, T: Sink>(
     ensures range { OnOk result (IsInRange run.new.report) }
     ensures err { IfErr result (λ error. StopsWriting K.cmp K.matching K.reading K.printed (whole_lines (feeder.old ++ piece.now))
         run.old.fabric (run.old.report.lines + 1) (T.written sink.old) (T.written sink.new) (T.faults sink.old) (T.faults sink.new) error) }
+    ensures calm { OnOk result (T.faults sink.new ≡ T.faults sink.old) }
+    ensures unfailed { IfErr result (λ error. (error ≡ RunError.WriteFault → ⊥) → T.faults sink.new ≡ T.faults sink.old) }
     ensures count { T.faults sink.old ≤ T.faults sink.new }
 {
     if feeder.feed(piece).is_err() {
@@ -183,6 +186,8 @@ pub fn carry_end<K: Key, T: Sink>(
     ensures empty { OnOk result (string_bytes run.new.text ≡ []) }
     ensures err { IfErr result (λ error. StopsWriting K.cmp K.matching K.reading K.printed (last_line (rest_of feeder.old))
         run.old.fabric (run.old.report.lines + 1) (T.written sink.old) (T.written sink.new) (T.faults sink.old) (T.faults sink.new) error) }
+    ensures calm { OnOk result (T.faults sink.new ≡ T.faults sink.old) }
+    ensures unfailed { IfErr result (λ error. (error ≡ RunError.WriteFault → ⊥) → T.faults sink.new ≡ T.faults sink.old) }
     ensures count { T.faults sink.old ≤ T.faults sink.new }
 {
     let carried = carry_rest(alloc, feeder, run);

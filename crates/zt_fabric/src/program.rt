@@ -2,7 +2,7 @@
 ghost use Rattle.std.specs.Prelude.{◌≡◌, ◌⊎◌, ◌+◌, ◌≤◌, true, false, map, string_bytes, Result};
 ghost use Rattle.zt_protocol.specs.declared.entries.Report.{Report};
 ghost use Rattle.zt_protocol.specs.declared.errors.RunError.{RunError};
-ghost use Rattle.zt_fabric.specs.Transcripts.{Answers, GivesComplete, ask_to_run, status_of, streams};
+ghost use Rattle.zt_fabric.specs.Transcripts.{Answers, CountsFaults, GivesComplete, ask_to_run, status_of, streams};
 
 use crate::running::run;
 use std::alloc::Global;
@@ -21,6 +21,8 @@ pub fn tool<S: Source, T: Sink>(alloc: Global, words: &[String], source: &mut S,
     ensures runs { ask_to_run (map string_bytes words.now) ≡ true → (answer : Result Report RunError) × (result ≡ status_of answer)
         × Answers ⟦<KeyExpr as Ord>⟧.cmp ⟦<KeyExpr as Key>⟧.matching ⟦<KeyExpr as Key>⟧.reading ⟦<KeyExpr as Key>⟧.printed
         (streams (S.left source.old) (S.faults source.old) (T.written sink.old) (T.faults sink.old))
+        (streams (S.left source.new) (S.faults source.new) (T.written sink.new) (T.faults sink.new)) answer
+        × CountsFaults (streams (S.left source.old) (S.faults source.old) (T.written sink.old) (T.faults sink.old))
         (streams (S.left source.new) (S.faults source.new) (T.written sink.new) (T.faults sink.new)) answer }
     ensures complete { ask_to_run (map string_bytes words.now) ≡ true → GivesComplete ⟦<KeyExpr as Key>⟧.reading
         (streams (S.left source.old) (S.faults source.old) (T.written sink.old) (T.faults sink.old))

@@ -1,8 +1,8 @@
 //! A whole run, from the bytes of a script to those of its transcript.
-ghost use Rattle.std.specs.Prelude.{◌≡◌, ◌⊎◌, ◌+◌, ◌≤◌, [], length, IfOk, IfErr, IsOkUnless, string_bytes};
+ghost use Rattle.std.specs.Prelude.{◌≡◌, ◌⊎◌, ◌+◌, ◌≤◌, [], length, IfOk, IfErr, Err, IsOkUnless, string_bytes};
 ghost use Rattle.zt_streams.specs.Lines.{whole_lines, rest_of, last_line};
 ghost use Rattle.zt_fabric.specs.Carrying.{Ends, EndsInPart, IsInRange, StopsWriting};
-ghost use Rattle.zt_fabric.specs.Transcripts.{Answers, GivesComplete, streams};
+ghost use Rattle.zt_fabric.specs.Transcripts.{Answers, CountsFaults, GivesComplete, streams};
 
 use crate::carrying::{Progress, carry_end, carry_piece, flush};
 use std::alloc::Global;
@@ -34,6 +34,8 @@ fn finish<K: Key, T: Sink>(
         run.old.fabric (run.old.report.lines + 1) (T.written sink.old) (T.written sink.new) (T.faults sink.old) (T.faults sink.new) error
         ⊎ ((error ≡ RunError.WriteFault) × EndsInPart K.cmp K.matching K.reading K.printed (last_line (rest_of feeder.old))
         run.old.fabric run.old.report (T.written sink.old) (T.written sink.new) (T.faults sink.old) (T.faults sink.new))) }
+    ensures calm { (result ≡ Err RunError.WriteFault → ⊥) → T.faults sink.new ≡ T.faults sink.old }
+    ensures count { T.faults sink.old ≤ T.faults sink.new }
 {
     if let Err(error) = carry_end(alloc, feeder, run, sink) {
         return Err(error);
@@ -49,8 +51,8 @@ fn finish<K: Key, T: Sink>(
 
 /// Carries out a script of at most 2^20 bytes and writes its transcript, each line's entry as soon
 /// as the piece is read with which the line is whole. It reads to the end of the source, or until
-/// one byte too many is there, by at most 1,048,577 reads, and keeps no more of the script than the unfinished line and one
-/// piece of 4,096 bytes.
+/// one byte too many is there, by at most 1,048,577 reads, and keeps no more of the script than the
+/// unfinished line and one piece of 4,096 bytes. It stops at the first fault.
 ///
 /// A complete script, one of at most 2^20 bytes in which each line is of the grammar, is carried
 /// out to its end unless memory runs out or a stream fails.
@@ -68,6 +70,9 @@ pub fn run<K: Key, S: Source, T: Sink>(
     ensures complete { GivesComplete K.reading
         (streams (S.left source.old) (S.faults source.old) (T.written sink.old) (T.faults sink.old))
         (streams (S.left source.new) (S.faults source.new) (T.written sink.new) (T.faults sink.new)) → IsOkUnless result RunError.Alloc }
+    ensures faults { CountsFaults
+        (streams (S.left source.old) (S.faults source.old) (T.written sink.old) (T.faults sink.old))
+        (streams (S.left source.new) (S.faults source.new) (T.written sink.new) (T.faults sink.new)) result }
     ensures reads { S.reads source.new ≤ S.reads source.old + MOST_READS }
 {
     let mut feeder = Feeder::new(alloc);

@@ -2,13 +2,13 @@ use crate::{InterestId, InterestMode, InterestOptions, QueryableInfo, TokenId};
 use zt_region::{Bound, NodeId, Region, WhatAmI, Zid};
 
 /// The trees of a router region, as its gateway is handed them.
-///
-/// `routers` gives the gateway's own node ids. `links` gives, for a face, what the node ids of the router
-/// behind it mean. `children` gives pairs of a source and a router to which its tokens go on.
 #[derive(PartialEq, Eq, Debug, Drop)]
 pub struct TreeTable {
+    /// The gateway's own node ids, each with its router.
     pub routers: Vec<(NodeId, Zid)>,
+    /// For a face, a node id of the router behind it and the router that it means.
     pub links: Vec<(u32, NodeId, Zid)>,
+    /// A source, and a router to which its tokens go on.
     pub children: Vec<(Zid, Zid)>,
 }
 
@@ -27,6 +27,7 @@ pub enum Call<K> {
         remote_bound: Bound,
         first: u32,
     },
+    /// The face declares that a token is alive, or that it is in answer to an interest.
     DeclareToken {
         face: u32,
         id: TokenId,
@@ -34,12 +35,14 @@ pub enum Call<K> {
         node_id: NodeId,
         interest_id: Option<InterestId>,
     },
+    /// The face's token under the id is gone, or where no such one is there that of the expression.
     UndeclareToken {
         face: u32,
         id: TokenId,
         expr: Option<K>,
         node_id: NodeId,
     },
+    /// The face asks for what matches the expression, or without one for all.
     Interest {
         face: u32,
         id: InterestId,
@@ -47,14 +50,17 @@ pub enum Call<K> {
         options: InterestOptions,
         expr: Option<K>,
     },
+    /// The face ends an interest that it holds.
     InterestFinal {
         face: u32,
         id: InterestId,
     },
+    /// The face has answered all that an interest asked for that is there now.
     DeclareFinal {
         face: u32,
         interest_id: InterestId,
     },
+    /// The face is closed, and all that it declared and asked for is gone.
     CloseFace {
         face: u32,
     },

@@ -40,7 +40,7 @@ pub enum Refusal {
     IllegalCurrent,
     /// An interest of the face has this id still. Zenoh logs such a one and takes it in part.
     InterestIdInUse,
-    /// The face doesn't hold an interest with this id. Zenoh logs 'Unknown interest'.
+    /// The face doesn't hold an interest with this id. Zenoh logs that it is unknown.
     UnknownInterest,
     /// The interest id names no interest that was sent to this face.
     UnknownAsk,
@@ -108,15 +108,20 @@ impl Refusal {
 /// Why a call on a gateway didn't happen.
 #[derive(Clone, Copy, PartialEq, Eq, Debug)]
 pub enum CallError {
+    /// The call is refused, and changed nothing.
     Refused(Refusal),
+    /// Memory ran out, and nothing changed.
     Memory,
 }
 
 /// Why a line of a script couldn't be read. The first two have the numbers 1 and 2.
 #[derive(Clone, Copy, PartialEq, Eq, Debug)]
 pub enum LineError {
+    /// The bytes aren't UTF-8.
     NotUtf8,
+    /// They are, and no line of the grammar.
     NotInGrammar,
+    /// Memory ran out.
     Memory,
 }
 
@@ -129,10 +134,13 @@ pub enum RunError {
     /// The script has more than 1,048,576 bytes.
     #[error("too long")]
     TooLong,
+    /// The source failed.
     #[error("read fault")]
     ReadFault,
+    /// The sink failed.
     #[error("write fault")]
     WriteFault,
+    /// Memory ran out.
     #[error("out of memory")]
     Alloc,
 }

@@ -11,10 +11,12 @@ pub type TokenId = u32;
 /// The number under which a face declares an interest.
 pub type InterestId = u32;
 
-/// How far a queryable is, and whether it alone answers every query on its key.
+/// What is known of a queryable.
 #[derive(Clone, Copy, PartialEq, Eq, Debug)]
 pub struct QueryableInfo {
+    /// Whether it answers every query on its key.
     pub complete: bool,
+    /// How many steps away it is.
     pub distance: u16,
 }
 
@@ -24,20 +26,24 @@ pub struct QueryableInfo {
 /// comes from by `node_id`, elsewhere it is 0.
 #[derive(PartialEq, Eq, Debug, Drop)]
 pub enum Message<K> {
+    /// A token is alive; with the id 0, which is kept by nobody, in answer to what is there now.
     DeclareToken {
         id: TokenId,
         expr: K,
         interest_id: Option<InterestId>,
         node_id: NodeId,
     },
+    /// The token of the id is gone; with the id 0 that of the expression.
     UndeclareToken {
         id: TokenId,
         expr: Option<K>,
         node_id: NodeId,
     },
+    /// The interest was answered what is there now.
     DeclareFinal {
         interest_id: InterestId,
     },
+    /// The gateway asks for what matches the expression, or without one for all.
     Interest {
         id: InterestId,
         mode: InterestMode,
@@ -48,11 +54,13 @@ pub enum Message<K> {
     InterestFinal {
         id: InterestId,
     },
+    /// A subscriber, in answer to an interest, under the number of its expression.
     DeclareSubscriber {
         id: u32,
         expr: K,
         interest_id: InterestId,
     },
+    /// A queryable, in answer to an interest, under the number of its expression.
     DeclareQueryable {
         id: u32,
         expr: K,

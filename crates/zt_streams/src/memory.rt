@@ -1,5 +1,5 @@
 //! Sources and sinks over memory, for tests and for runs whose text is thrown away.
-ghost use Rattle.std.specs.Prelude.{◌≡◌, ◌+◌, ◌-◌, ◌^◌, ◌<◌, ◌≤◌, ◌||◌, nat_le, min, take, length, Some, None, IfOk, OnErr, is_err, MatchResult};
+ghost use Rattle.std.specs.Prelude.{◌≡◌, ◌+◌, ◌-◌, ◌^◌, ◌<◌, ◌≤◌, ◌||◌, nat_le, min, take, length, Some, None, IfOk, OnOk, OnErr, is_err, MatchResult};
 ghost use Rattle.std.specs.Io.KnownBytes.{Appends, Consumes, IsAtEnd, Keeps};
 ghost use Rattle.zt_streams.specs.Streams.{HasRisen, is_listed, new_supply, amount_given, after_giving, after_giving_none, new_store, amount_taken, after_taking, after_taking_none};
 
@@ -73,6 +73,7 @@ impl Source for MemorySource {
         ensures end { IfOk result (λ n. n ≡ 0 → IsAtEnd (Some self.new.left)) }
         ensures kept { OnErr result (Keeps (Some self.old.left) (Some self.new.left)) }
         ensures fault { OnErr result (HasRisen self.old.faults self.new.faults) }
+        ensures calm { OnOk result (self.new.faults ≡ self.old.faults) }
         ensures count { self.old.faults ≤ self.new.faults }
         ensures once { self.new.calls ≤ self.old.calls + 1 }
     {
@@ -165,6 +166,7 @@ impl Sink for MemorySink {
         ensures added { IfOk result (λ n. Appends (Some self.old.bytes) (Some self.new.bytes) (take n bytes.now)) }
         ensures kept { OnErr result (Keeps (Some self.old.bytes) (Some self.new.bytes)) }
         ensures fault { OnErr result (HasRisen self.old.faults self.new.faults) }
+        ensures calm { OnOk result (self.new.faults ≡ self.old.faults) }
         ensures count { self.old.faults ≤ self.new.faults }
     {
         let call = self.calls;

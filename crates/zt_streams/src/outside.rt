@@ -19,8 +19,8 @@ pub trait Source {
     ghost reads: { Self → ℕ };
 
     /// Puts the next bytes that are left into the front of `buf`, and answers how many. The rest of
-    /// `buf` may then be anything. 0 is the end. `Failed` comes only where the count of faults rose,
-    /// and leaves what is left as it was.
+    /// `buf` may then be anything. 0 is the end. `Failed` comes exactly where the count of faults
+    /// changes, which then rises, and leaves what is left as it was.
     fn read(&mut self, buf: &mut [u8]) -> Result<usize, Failed>
         requires { 0 < length buf.old }
         ensures fits { IfOk result (λ n. n ≤ length buf.new) }
@@ -28,6 +28,7 @@ pub trait Source {
         ensures end { IfOk result (λ n. n ≡ 0 → IsAtEnd (left self.new)) }
         ensures kept { OnErr result (Keeps (left self.old) (left self.new)) }
         ensures fault { OnErr result (HasRisen (faults self.old) (faults self.new)) }
+        ensures calm { OnOk result (faults self.new ≡ faults self.old) }
         ensures count { faults self.old ≤ faults self.new }
         ensures once { reads self.new ≤ reads self.old + 1 };
 }
@@ -40,8 +41,8 @@ pub trait Sink {
     /// How many faults there were.
     ghost faults: { Self → ℕ };
 
-    /// Writes bytes from the front of `bytes`, and answers how many, at least 1. `Failed` comes only
-    /// where the count of faults rose, and then nothing was written.
+    /// Writes bytes from the front of `bytes`, and answers how many, at least 1. `Failed` comes
+    /// exactly where the count of faults changes, which then rises, and then nothing was written.
     fn write(&mut self, bytes: &[u8]) -> Result<usize, Failed>
         requires { 0 < length bytes.now }
         ensures some { IfOk result (λ n. 0 < n) }
@@ -49,6 +50,7 @@ pub trait Sink {
         ensures added { IfOk result (λ n. Appends (written self.old) (written self.new) (take n bytes.now)) }
         ensures kept { OnErr result (Keeps (written self.old) (written self.new)) }
         ensures fault { OnErr result (HasRisen (faults self.old) (faults self.new)) }
+        ensures calm { OnOk result (faults self.new ≡ faults self.old) }
         ensures count { faults self.old ≤ faults self.new };
 }
 
@@ -58,6 +60,7 @@ pub fn write_all<T: Sink>(sink: &mut T, bytes: &[u8]) -> Result<(), Failed>
     ensures ok { OnOk result (Appends (T.written sink.old) (T.written sink.new) bytes.now) }
     ensures part { OnErr result (AppendsPart (T.written sink.old) (T.written sink.new) bytes.now) }
     ensures fault { OnErr result (HasRisen (T.faults sink.old) (T.faults sink.new)) }
+    ensures calm { OnOk result (T.faults sink.new ≡ T.faults sink.old) }
     ensures count { T.faults sink.old ≤ T.faults sink.new }
 {
     let mut done = 0;

@@ -51,8 +51,9 @@ impl Feeder {
         ensures ok { OnOk result (self.new ≡ self.old ++ piece.now) }
         ensures err { OnErr result (self.new ≡ self.old) }
     {
-        // What was given makes room once it is half of the buffer, so that no byte is moved often.
-        if self.start >= self.bytes.len() - self.start {
+        // What was given makes room. Where lines were taken what is left is at most a piece, so that
+        // little is moved.
+        if self.start > 0 {
             drop_front(&mut self.bytes, self.start);
             self.seen -= self.start;
             self.start = 0;

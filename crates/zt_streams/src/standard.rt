@@ -1,5 +1,5 @@
 //! Standard input and output as a source and a sink. What they give and take no clause says.
-ghost use Rattle.std.specs.Prelude.{◌≡◌, ◌<◌, ◌≤◌, None, IfOk, OnErr, MatchResult, length, take};
+ghost use Rattle.std.specs.Prelude.{◌≡◌, ◌<◌, ◌≤◌, None, IfOk, OnOk, OnErr, MatchResult, length, take};
 ghost use Rattle.std.specs.Io.KnownBytes.{Appends, Keeps};
 ghost use Rattle.zt_streams.specs.Streams.{HasRisen, next_count};
 
@@ -48,6 +48,7 @@ impl<R: Input> Source for StdSource<R> {
         // What the trait ensures.
         ensures fits { IfOk result (λ n. n ≤ length buf.new) }
         ensures fault { OnErr result (HasRisen self.old self.new) }
+        ensures calm { OnOk result (self.new ≡ self.old) }
         ensures count { self.old ≤ self.new }
     {
         match self.reader.read(buf) {
@@ -99,6 +100,7 @@ impl<P: Print> Sink for StdSink<'_, P> {
         ensures added { IfOk result (λ n. Appends None None (take n bytes.now)) }
         ensures kept { OnErr result (Keeps None None) }
         ensures fault { OnErr result (HasRisen self.old self.new) }
+        ensures calm { OnOk result (self.new ≡ self.old) }
         ensures count { self.old ≤ self.new }
     {
         match self.to.write_some(bytes) {

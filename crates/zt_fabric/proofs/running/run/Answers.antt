@@ -1,4 +1,4 @@
-use Rattle.std.proofs.Common.{Err, ℕ, ◌-◌, ◌≡◌, length, take, ap, subst, ◌∙◌, arith}
+use Rattle.std.proofs.Common.{Err, ℕ, ◌-◌, ◌≡◌, length, take, refl, ap, subst, ◌∙◌, arith}
 use Rattle.std.proofs.lemmas.List.{length-take}
 use Rattle.std.specs.Io.KnownBytes.{Consumes}
 use Rattle.zt_laws.proofs.Faithful.{faithful_from, sound_empty}
@@ -20,8 +20,8 @@ loop-reads-init g c = record {
   read_so_far = omega arith;
   lines = omega (arith, ap length c.new-feeder.ensures);
   range = record { messages_fit = omega arith; refusals_fit = omega arith };
-  read_faults = omega arith;
-  write_faults = omega arith;
+  read_faults = refl;
+  write_faults = refl;
 }
 
 pub returns-in_default-clause-answers : goal.returns-in_default-clause-answers
@@ -31,7 +31,7 @@ returns-in_default-clause-answers g c =
     (g.S.Source.left c.args.source.now) (g.T.Sink.written c.args.sink.now) (g.S.Source.left c.loop-reads.source) (g.T.Sink.written c.loop-reads.sink) (g.S.Source.left c.read.new.self)
     c.loop-reads.run.fabric c.loop-reads.run.report c.loop-reads.feeder c.loop-reads.total
     (g.S.Source.faults c.args.source.now) (g.S.Source.faults c.loop-reads.source) (g.S.Source.faults c.read.new.self) (g.T.Sink.faults c.args.sink.now) (g.T.Sink.faults c.loop-reads.sink)
-    c.loop-reads.invariant.so_far c.in_default.ensures.kept c.loop-reads.invariant.within c.loop-reads.invariant.read_faults c.in_default.ensures.fault
+    c.loop-reads.invariant.so_far c.in_default.ensures.kept c.loop-reads.invariant.within (omega (arith, c.loop-reads.invariant.read_faults)) c.in_default.ensures.fault
 
 pub finish-requires-clause-whole : goal.finish-requires-clause-whole
 finish-requires-clause-whole g c =
@@ -48,7 +48,7 @@ returns-then-count-eq0-clause-answers g c =
     (g.S.Source.left c.args.source.now) (g.T.Sink.written c.args.sink.now) (g.S.Source.left c.loop-reads.source) (g.T.Sink.written c.loop-reads.sink) (g.S.Source.left c.read.new.self)
     c.loop-reads.run.fabric c.loop-reads.run.report c.loop-reads.feeder c.loop-reads.total (take c.in-Ok.count c.read.new.buf)
     c.loop-reads.invariant.so_far c.in-Ok.ensures.given (ap (λ n. take n c.read.new.buf) c.if-count-eq0.true))
-    (c.in-Ok.ensures.end c.if-count-eq0.true) c.loop-reads.invariant.within c.loop-reads.invariant.write_faults c.finish.ensures.ok c.finish.ensures.err
+    (c.in-Ok.ensures.end c.if-count-eq0.true) c.loop-reads.invariant.within (omega (arith, c.loop-reads.invariant.write_faults)) c.finish.ensures.ok c.finish.ensures.err
 
 pub returns-in-Err-clause-answers : goal.returns-in-Err-clause-answers
 returns-in-Err-clause-answers g c =
@@ -62,7 +62,7 @@ returns-in-Err-clause-answers g c =
     c.in-Err.error (take c.in-Ok.count c.read.new.buf) (take n c.read.new.buf)
     so_far c.in-Ok.ensures.given (omega (arith, c.loop-reads.invariant.within, c.min.ensures, c.read.auto.buf, length-take c.min.result c.loop-reads.piece, c.in-Ok.ensures.fits, length-take c.in-Ok.count c.read.new.buf))
     (fed-front so_far.read c.read.new.buf c.in-Ok.count (1048576 - c.loop-reads.total) 1048576 n (omega (arith, so_far.size, c.loop-reads.invariant.within)) (omega (arith, so_far.size)) c.min-in-loop-reads.ensures)
-    c.in-Err.ensures.err c.loop-reads.invariant.write_faults
+    c.in-Err.ensures.err (omega (arith, c.loop-reads.invariant.write_faults))
 
 pub returns-then-count-room-clause-answers : goal.returns-then-count-room-clause-answers
 returns-then-count-room-clause-answers g c =
@@ -97,8 +97,8 @@ loop-reads-preserved g c =
       read_so_far = omega (arith, c.loop-reads.invariant.read_so_far, c.read.ensures.once);
       lines = omega (arith, c.in_default-carry_piece.ensures.lines, c.loop-reads.invariant.lines, size);
       range = c.in_default-carry_piece.ensures.range;
-      read_faults = omega (arith, c.loop-reads.invariant.read_faults, c.read.ensures.count);
-      write_faults = omega (arith, c.loop-reads.invariant.write_faults, c.carry_piece.ensures.count);
+      read_faults = c.in-Ok.ensures.calm ∙ c.loop-reads.invariant.read_faults;
+      write_faults = c.in_default-carry_piece.ensures.calm ∙ c.loop-reads.invariant.write_faults;
     }
 
 pub returns-in_default-clause-complete : goal.returns-in_default-clause-complete
@@ -128,3 +128,35 @@ returns-then-count-room-clause-complete g c =
     (streams (g.S.Source.left c.args.source.now) (g.S.Source.faults c.args.source.now) (g.T.Sink.written c.args.sink.now) (g.T.Sink.faults c.args.sink.now))
     (streams (g.S.Source.left c.read.new.self) (g.S.Source.faults c.read.new.self) (g.T.Sink.written c.carry_piece.new.sink) (g.T.Sink.faults c.carry_piece.new.sink))
     (Err errors.TooLong) (returns-then-count-room-clause-answers g c)
+
+pub returns-in_default-clause-faults : goal.returns-in_default-clause-faults
+returns-in_default-clause-faults g c = record {
+  source_is_calm = λ other. absurd (other refl);
+  sink_is_calm = λ other. c.loop-reads.invariant.write_faults;
+  source_counts = omega (arith, c.loop-reads.invariant.read_faults, c.read.ensures.count);
+  sink_counts = omega (arith, c.loop-reads.invariant.write_faults);
+}
+
+pub returns-then-count-eq0-clause-faults : goal.returns-then-count-eq0-clause-faults
+returns-then-count-eq0-clause-faults g c = record {
+  source_is_calm = λ other. c.in-Ok.ensures.calm ∙ c.loop-reads.invariant.read_faults;
+  sink_is_calm = λ other. c.finish.ensures.calm other ∙ c.loop-reads.invariant.write_faults;
+  source_counts = omega (arith, c.loop-reads.invariant.read_faults, c.read.ensures.count);
+  sink_counts = omega (arith, c.loop-reads.invariant.write_faults, c.finish.ensures.count);
+}
+
+pub returns-in-Err-clause-faults : goal.returns-in-Err-clause-faults
+returns-in-Err-clause-faults g c = record {
+  source_is_calm = λ other. c.in-Ok.ensures.calm ∙ c.loop-reads.invariant.read_faults;
+  sink_is_calm = λ other. c.in-Err.ensures.unfailed (λ e. other (ap Err e)) ∙ c.loop-reads.invariant.write_faults;
+  source_counts = omega (arith, c.loop-reads.invariant.read_faults, c.read.ensures.count);
+  sink_counts = omega (arith, c.loop-reads.invariant.write_faults, c.carry_piece.ensures.count);
+}
+
+pub returns-then-count-room-clause-faults : goal.returns-then-count-room-clause-faults
+returns-then-count-room-clause-faults g c = record {
+  source_is_calm = λ other. c.in-Ok.ensures.calm ∙ c.loop-reads.invariant.read_faults;
+  sink_is_calm = λ other. c.in_default-carry_piece.ensures.calm ∙ c.loop-reads.invariant.write_faults;
+  source_counts = omega (arith, c.loop-reads.invariant.read_faults, c.read.ensures.count);
+  sink_counts = omega (arith, c.loop-reads.invariant.write_faults, c.carry_piece.ensures.count);
+}

@@ -17,6 +17,6 @@ invariant-loop-reads g l =
       read_so_far : g.S.Source.reads l.source ≤ g.S.Source.reads l.fn.source + l.reads;
       lines : l.run.report.lines + length l.feeder ≤ l.total;
       range : IsInRange l.run.report;
-      read_faults : g.S.Source.faults l.fn.source ≤ g.S.Source.faults l.source;
-      write_faults : g.T.Sink.faults l.fn.sink ≤ g.T.Sink.faults l.sink;
+      read_faults : g.S.Source.faults l.source ≡ g.S.Source.faults l.fn.source;
+      write_faults : g.T.Sink.faults l.sink ≡ g.T.Sink.faults l.fn.sink;
     }
