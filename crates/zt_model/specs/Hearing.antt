@@ -1,6 +1,7 @@
 -- What a message changes at the face that it was sent to. What a face was told is what its messages say,
 -- literally: a declaration adds its pair of id and expression, an undeclaration by id takes the pairs of the
 -- id away, and one by expression all pairs of the expression. The next id is one more than the greatest sent.
+-- An interest is sent to faces to the north alone, and makes a pending or a local there.
 use Rattle.std.specs.Prelude.{ℕ, Bool, true, false, ◌+◌, ◌==◌, ◌&&◌, ◌||◌, not, max, if◌then◌else◌, List, [], ◌∷◌, ◌++◌, Option, Some, None, map, filter}
 use Rattle.std.specs.List.{list_any}
 use Rattle.std.specs.Ordering.{nat_cmp}

@@ -1,6 +1,6 @@
 -- The meaning of a call on one gateway, whole: whether it is refused, what it sends, the face that it makes and the
 -- rows that it leaves. A journal is a list of calls with their outcomes, and its replay carries them out again.
-use Rattle.std.specs.Prelude.{◌≡◌, ℕ, ◌+◌, ◌==◌, ◌&&◌, ◌||◌, Bool, true, false, List, [], ◌∷◌, length, Option, Some, None, map, filter}
+use Rattle.std.specs.Prelude.{◌≡◌, ℕ, ◌+◌, ◌==◌, ◌&&◌, ◌||◌, Bool, true, false, not, List, [], ◌∷◌, length, Option, Some, None, map, filter}
 use Rattle.std.specs.List.{list_all}
 use Rattle.std.specs.declared.cmp.Ordering.{Ordering}
 use Rattle.zt_protocol.specs.Plain.{PlainCall, NewSession, NewTransport, PlainEntry, PlainLine, Gateway, Session, Face as FaceLine, Speak}
@@ -85,6 +85,6 @@ speaks_for face line = elim line.1 [ Speak call ↦ is_some_and (call_face call)
 -- stood, and so do, among each other, the lines that name one face.
 pub record IsReordered {K : Type 0} (script order : List (ℕ × PlainLine K)) : Type 0 where
   pub same_length : length order ≡ length script
-  pub makings : filter (λ (line : ℕ × PlainLine K). is_making line.1) order ≡ filter (λ (line : ℕ × PlainLine K). is_making line.1) script
+  pub makings : filter (λ (line : ℕ × PlainLine K). not (is_speaking line.1)) order ≡ filter (λ (line : ℕ × PlainLine K). not (is_speaking line.1)) script
   pub makings_first : is_driven (map (λ line. line.1) order) ≡ true
   pub each_face : (face : ℕ) → filter (speaks_for face) order ≡ filter (speaks_for face) script

@@ -200,7 +200,7 @@ module _ {K : Type 0} (cmp : K → K → Ordering) (matching : K → K → Bool)
   call_causes spent (DeclareFinal n interest) g =
       (is_unknown_face n g, refusal.UnknownFace)
       ∷ (on_face n g (λ f. not (is_north f.region)), refusal.FinalFromSouth)
-      ∷ (on_face n g (names_nothing interest), refusal.UnknownAsk)
+      ∷ (on_face n g (λ f. is_routed g f || names_nothing interest f), refusal.UnknownAsk)
       ∷ []
   call_causes spent (CloseFace n) g = (is_unknown_face n g, refusal.UnknownFace) ∷ []
   call_causes spent (Expire now) g = (nat_lt now g.moment, refusal.MomentBack) ∷ []

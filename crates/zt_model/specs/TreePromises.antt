@@ -191,3 +191,7 @@ module _ {K : Type 0} (cmp : K → K → Ordering) (matching : K → K → Bool)
     pub knowledge : Each KnowsTrees turns
     pub gets : GetsWhatStays turns
     pub gets_only : GetsOnlyWhatWas turns
+
+  -- a transcript that is one of trees keeps them
+  abbrev pub KeepTreePromises : List (Turn K) → Type 0
+  KeepTreePromises turns = Each IsTreeTurn turns → MeetTreePromises turns
