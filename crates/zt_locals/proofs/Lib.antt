@@ -1,0 +1,12 @@
+pub mod Arms
+pub mod Folds
+pub mod Infos
+pub mod Items
+pub mod Joined
+pub mod KnownRow
+pub mod Sound
+pub mod Placing
+pub mod Told
+pub mod Kept
+pub mod Unasked
+pub mod Aggregates
