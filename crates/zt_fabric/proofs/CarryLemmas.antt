@@ -14,11 +14,10 @@ use Rattle.std.proofs.Math.Seq.{take-append-add}
 use Rattle.zt_streams.specs.Streams.{AppendsPart, HasRisen}
 use Rattle.zt_streams.specs.Lines.{last_line, rest_of, TakesRest}
 use Rattle.zt_wire.specs.Reading.{line_read}
-use Rattle.zt_wire.specs.Text.{entry_text, report_text}
+use Rattle.zt_wire.specs.Text.{entries_text, entry_text, report_text}
 use Rattle.zt_model.specs.Fabric.{Fabric, entries_from, entry_of, fabric_after}
 use Rattle.zt_model.specs.Sessions.{is_session_line}
 use Rattle.zt_model.specs.Transcript.{messages_in, refusals_in}
-use Rattle.zt_fabric.specs.Transcripts.{entries_text}
 use Rattle.zt_fabric.specs.Carrying.{Carries, EndsInPart, LineStops, Shows, Stops, StopsBehind, StopsWriting, Writes, WritesUntil, fabric_from, with_entries, with_entry}
 
 -- ---- totals

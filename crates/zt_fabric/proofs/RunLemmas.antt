@@ -14,12 +14,12 @@ use Rattle.zt_protocol.specs.Plain.{PlainEntry, PlainLine}
 use Rattle.zt_protocol.specs.declared.entries.Report.{Report}
 use Rattle.zt_protocol.specs.declared.errors.RunError.{RunError}
 use Rattle.zt_protocol.specs.declared.errors.RunError.TheVariants as errors
-use Rattle.zt_wire.specs.Text.{report_text}
+use Rattle.zt_wire.specs.Text.{entries_text, report_text}
 use Rattle.zt_model.specs.Fabric.{Fabric, empty_fabric, entries_from}
 use Rattle.zt_model.specs.Sessions.{is_session_line}
 use Rattle.zt_model.specs.Transcript.{Each, IsFaithfulFrom, report_of}
 use Rattle.zt_laws.specs.Sound.{HasFirstIds}
-use Rattle.zt_fabric.specs.Transcripts.{Answers, BeginsWith, FailedToRead, FailedToWrite, FoundTooMuch, IsTranscript, RanToItsEnd, entries_text, most_bytes, streams}
+use Rattle.zt_fabric.specs.Transcripts.{Answers, BeginsWith, FailedToRead, FailedToWrite, FoundTooMuch, IsTranscript, RanToItsEnd, most_bytes, streams}
 use Rattle.zt_fabric.specs.Carrying.{Carries, Ends, EndsInPart, Shows, StopsWriting, Writes, WritesUntil, no_totals, with_entries}
 use Rattle.zt_fabric.proofs.FirstIds.{first_ids_of}
 use Rattle.zt_fabric.proofs.CarryLemmas.{carries-behind, carries-none, carries-then, lines_read, same_totals, shows-carried, shows-then}

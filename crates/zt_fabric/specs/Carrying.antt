@@ -9,11 +9,10 @@ use Rattle.zt_protocol.specs.declared.entries.Report.{Report}
 use Rattle.zt_protocol.specs.declared.errors.RunError.{RunError}
 use Rattle.zt_protocol.specs.declared.errors.RunError.TheVariants as errors
 use Rattle.zt_wire.specs.Reading.{line_read}
-use Rattle.zt_wire.specs.Text.{report_text}
+use Rattle.zt_wire.specs.Text.{entries_text, report_text}
 use Rattle.zt_model.specs.Fabric.{Fabric, entries_from, entry_of, fabric_after}
 use Rattle.zt_model.specs.Sessions.{is_session_line}
 use Rattle.zt_model.specs.Transcript.{messages_in, refusals_in}
-use Rattle.zt_fabric.specs.Transcripts.{entries_text}
 
 -- ---- totals
 

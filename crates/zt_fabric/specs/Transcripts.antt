@@ -11,7 +11,7 @@ use Rattle.zt_protocol.specs.declared.entries.Report.{Report}
 use Rattle.zt_protocol.specs.declared.errors.RunError.{RunError}
 use Rattle.zt_protocol.specs.declared.errors.RunError.TheVariants as errors
 use Rattle.zt_wire.specs.Reading.{line_read}
-use Rattle.zt_wire.specs.Text.{entry_text, report_text}
+use Rattle.zt_wire.specs.Text.{entries_text, report_text}
 use Rattle.zt_model.specs.Fabric.{empty_fabric, entries_from}
 use Rattle.zt_model.specs.Sessions.{is_session_line}
 use Rattle.zt_model.specs.Transcript.{IsFaithfulFrom, report_of}
@@ -19,11 +19,6 @@ use Rattle.zt_model.specs.Transcript.{IsFaithfulFrom, report_of}
 -- the most bytes of a script
 abbrev pub most_bytes : ℕ
 most_bytes = 1048576
-
--- the text of entries, the first of which is that of the line of this number
-unfoldable pub entries_text : {K : Type 0} → (K → List ℕ) → ℕ → List (PlainEntry K) → List ℕ
-entries_text printed number [] = []
-entries_text printed number (entry ∷ entries) = entry_text printed number entry ++ entries_text printed (number + 1) entries
 
 -- what the streams of a run tell: the bytes that the source has left and those that the sink was given, where
 -- they tell them, and their counts of faults

@@ -1,14 +1,1 @@
-pub mod NumberLemmas
-pub mod FieldLemmas
-pub mod TextLemmas
-pub mod ListLemmas
-pub mod ItemLemmas
-pub mod Exact
-pub mod ExactParts
-pub mod ExactLists
-pub mod ExactSouth
-pub mod LineLaws
-pub mod ReadingLaw
-pub mod SettledLemmas
-pub mod Clean
-pub mod SentLaws
+pub use Rattle.zt_lines.proofs.ReadingLaw

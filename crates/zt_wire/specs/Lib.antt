@@ -1,10 +1,6 @@
-pub mod Numbers
-pub mod Words
-pub mod Fields
-pub mod Values
-pub mod Lists
-pub mod Items
-pub mod Reading
-pub mod Text
-pub mod Grammar
-pub mod Sent
+pub use Rattle.zt_lines.specs.Fields
+pub use Rattle.zt_lines.specs.Spellings
+pub use Rattle.zt_lines.specs.Reading
+pub use Rattle.zt_lines.specs.Grammar
+pub use Rattle.zt_text.specs.Text
+pub use Rattle.zt_text.specs.Sent

@@ -1,28 +1,13 @@
 //! The script's grammar and the printed text.
 #![tactic(auto)]
 
-mod entities;
-mod fields;
-mod grammar;
-mod lines;
-mod lists;
-mod makers;
-mod numbers;
-mod parts;
-mod printing;
-mod sent;
-mod south;
-mod spelled;
-mod values;
-mod words;
-
-pub use grammar::{grammar_is_read, printing_is_read};
-pub use lines::read_line;
-pub use printing::{print_entry, print_report, write_entry, write_report};
-pub use sent::read_sent;
+pub use zt_lines::{grammar_is_read, read_line};
 pub use zt_protocol::{
     Call, CallError, Entry, InterestId, InterestMode, InterestOptions, Line, LineError, Message,
     QueryableInfo, Refusal, Report, RunError, Sent, TokenId, TreeTable,
+};
+pub use zt_text::{
+    print_entry, print_report, printing_is_read, read_sent, write_entry, write_report,
 };
 
 #[cfg(test)]

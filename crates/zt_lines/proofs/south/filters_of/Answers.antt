@@ -1,0 +1,39 @@
+use Rattle.std.proofs.Common.{◌≡◌, ◌∷◌, ap, ◌∙◌, map}
+use Rattle.std.proofs.lemmas.Result.{err_from_is_err_and}
+use Rattle.std.proofs.lemmas.List.{map_push}
+use Rattle.std.specs.Option.{option_copied}
+use Rattle.zt_region.specs.South.{plain_filter}
+use Rattle.zt_lines.proofs.south.filters_of.Goals as goal
+use Rattle.zt_fields.specs.Fields.{parts_of, parts_left}
+use Rattle.zt_lines.specs.Lists.{filter_read, each_read, list_read}
+use Rattle.zt_lines.proofs.ListLemmas.{starts, goes_on, ends, is_done}
+
+pub loop-rest-init : goal.loop-rest-init
+loop-rest-init c = record {
+  told = rw c.new-members.ensures.items (starts _);
+}
+
+pub returns-in_err-member : goal.returns-in_err-member
+unfolding list_read
+returns-in_err-member c =
+    let read = filter_read in
+    let sep = c.args.separator in
+    let next : parts_left sep (option_copied c.loop-rest.rest) ≡ c.first_part.result.0.now ∷ parts_left sep (option_copied c.first_part.result.1) = rw c.in-Some.is c.first_part.ensures in
+    let p = err_from_is_err_and c.from_residual.result c.from_residual.ensures.1 in
+    rw (p.1, p.2) (ends read c.in_err-member.field-0.0 (map plain_filter c.loop-rest.members.items) (parts_left sep (option_copied c.loop-rest.rest)) c.first_part.result.0.now (parts_left sep (option_copied c.first_part.result.1)) (each_read read (parts_of sep c.args.text.now)) next c.in_err-member.ensures c.loop-rest.invariant.told)
+
+pub loop-rest-preserved : goal.loop-rest-preserved
+loop-rest-preserved c =
+    let read = filter_read in
+    let sep = c.args.separator in
+    let next : parts_left sep (option_copied c.loop-rest.rest) ≡ c.first_part.result.0.now ∷ parts_left sep (option_copied c.first_part.result.1) = rw c.in-Some.is c.first_part.ensures in
+    let grown = (ap (map plain_filter) c.in_ok-push.ensures.ok ∙ map_push _ c.loop-rest.members.items c.in_ok-member.member) in
+    record {
+      told = rw grown (goes_on read (map plain_filter c.loop-rest.members.items) (parts_left sep (option_copied c.loop-rest.rest)) c.first_part.result.0.now (parts_left sep (option_copied c.first_part.result.1)) (plain_filter c.in_ok-member.member) (each_read read (parts_of sep c.args.text.now)) next c.in_ok-member.ensures c.loop-rest.invariant.told);
+    }
+
+pub returns : goal.returns
+unfolding list_read
+returns c =
+    let read = filter_read in
+    is_done (map plain_filter c.loop-rest.members.items) (each_read read (parts_of c.args.separator c.args.text.now)) (rw c.in_default.is at c.loop-rest.invariant.told)

@@ -1,0 +1,4 @@
+pub mod TextLemmas
+pub mod Clean
+pub mod SentLaws
+pub mod TranscriptLaws

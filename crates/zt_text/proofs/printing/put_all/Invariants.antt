@@ -1,0 +1,14 @@
+use Rattle.std.proofs.Common.{◌≡◌, ◌++◌, drop}
+use Rattle.std.specs.Prelude.{string_bytes}
+use Rattle.std.specs.List.{flat_map}
+use Rattle.zt_text.proofs.printing.put_all.Given as goal
+use Rattle.zt_text.specs.Text.{Begins, sent_text}
+
+-- the messages so far and those that are left are all
+abbrev pub invariant-loop-sent : goal.invariant-loop-sent
+invariant-loop-sent g l =
+    let text = flat_map (sent_text g.K.Key.printed) in
+    record {
+      told : string_bytes l.out ++ text (drop l.sent-index l.sents) ≡ string_bytes l.fn.out ++ text l.sents;
+      begun : Begins (string_bytes l.fn.out) (string_bytes l.out);
+    }

@@ -1,0 +1,25 @@
+ghost use Rattle.std.specs.Prelude.{◌≡◌, ◌↔◌, ◌++◌, ◌∷◌, [], ℕ, List, Ok};
+ghost use Rattle.zt_protocol.specs.declared.entries.Sent.{Sent};
+ghost use Rattle.zt_protocol.specs.declared.entries.Report.{Report};
+ghost use Rattle.zt_protocol.specs.Plain.{PlainEntry};
+ghost use Rattle.zt_text.specs.Sent.{ArePrinted, IsSent, sent_read};
+ghost use Rattle.zt_text.specs.Text.{entries_text, sent_text, transcript_text};
+
+use zt_keys::Key;
+
+/// What `read_sent` gives is the message of which the line is the printed form.
+///
+/// So no two messages have one printed form, of those whose options have no bits but the five named ones.
+pub fn printing_is_read<K: Key>()
+    ensures { (bytes : List ℕ) (sent : Sent K) → (sent_read K.reading bytes ≡ Ok sent) ↔ (IsSent sent × (bytes ++ 10 ∷ [] ≡ sent_text K.printed sent)) }
+{}
+
+/// A transcript's text names one transcript: other entries have another text, with the totals behind them or, where
+/// a run ended early, without. The numbers of messages are within their types, and their options have no bits but
+/// the five named ones.
+pub fn texts_tell_transcripts_apart<K: Key>()
+    ensures whole { (es fs : List (PlainEntry K)) (one two : Report) → ArePrinted es → ArePrinted fs
+        → transcript_text K.printed es one ≡ transcript_text K.printed fs two → es ≡ fs }
+    ensures front { (es fs : List (PlainEntry K)) (number : ℕ) → ArePrinted es → ArePrinted fs
+        → entries_text K.printed number es ≡ entries_text K.printed number fs → es ≡ fs }
+{}

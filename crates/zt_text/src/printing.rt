@@ -1,0 +1,295 @@
+// The printed text. The private functions add to a text, and leave a part of what they add where memory runs out.
+ghost use Rattle.std.specs.Prelude.{◌≡◌, ◌++◌, ◌∷◌, [], map, take, decimal, IsUtf8, codes, OnOk, OnErr, IfOk, is_ok, if◌then◌else◌, string_bytes};
+ghost use Rattle.std.specs.List.{flat_map};
+ghost use Rattle.zt_protocol.specs.Interest.{has_bits};
+ghost use Rattle.zt_protocol.specs.Plain.{plain_entry};
+ghost use Rattle.zt_protocol.specs.Refusal.{name_of};
+ghost use Rattle.zt_text.specs.Text.{Begins, spaced, line_of, key_fields, message_fields, sent_text, entry_text, report_text};
+ghost use Rattle.zt_fields.specs.Spellings.{letter_if, letters_of, options_text, interest_mode_text, flag_text};
+
+use bitflags::Flags;
+use itoa::Buffer;
+use std::alloc::Global;
+use zt_keys::{Key, Memory};
+use zt_protocol::{Entry, InterestMode, InterestOptions, Message, Report, Sent};
+
+/// Adds a field.
+fn put_field(out: &mut String, field: &str) -> Result<(), Memory>
+    ensures ok { OnOk result (string_bytes out.new ≡ string_bytes out.old ++ spaced (field.now ∷ [])) }
+    ensures err { OnErr result (Begins (string_bytes out.old) (string_bytes out.new)) }
+{
+    out.push(' ')?;
+    out.push_str(field)?;
+    Ok(())
+}
+
+fn put_number(out: &mut String, number: u64) -> Result<(), Memory>
+    ensures ok { OnOk result (string_bytes out.new ≡ string_bytes out.old ++ spaced (decimal number ∷ [])) }
+    ensures err { OnErr result (Begins (string_bytes out.old) (string_bytes out.new)) }
+{
+    let mut buffer = Buffer::new();
+    put_field(out, buffer.format(number))
+}
+
+/// Adds a word and numbers.
+fn put_head(out: &mut String, word: &str, numbers: &[u32]) -> Result<(), Memory>
+    ensures ok { OnOk result (string_bytes out.new ≡ string_bytes out.old ++ spaced (word.now ∷ map decimal numbers.now)) }
+    ensures err { OnErr result (Begins (string_bytes out.old) (string_bytes out.new)) }
+{
+    put_field(out, word)?;
+    for number in numbers {
+        put_number(out, u64::from(*number))?;
+    }
+    Ok(())
+}
+
+fn put_key<K: Key>(out: &mut String, key: &K) -> Result<(), Memory>
+    ensures ok { OnOk result (string_bytes out.new ≡ string_bytes out.old ++ spaced (K.printed key.now ∷ [])) }
+    ensures err { OnErr result (Begins (string_bytes out.old) (string_bytes out.new)) }
+{
+    out.push(' ')?;
+    key.print_to(out)
+}
+
+fn put_optional_key<K: Key>(out: &mut String, key: &Option<K>) -> Result<(), Memory>
+    ensures ok { OnOk result (string_bytes out.new ≡ string_bytes out.old ++ spaced (key_fields K.printed key.now)) }
+    ensures err { OnErr result (Begins (string_bytes out.old) (string_bytes out.new)) }
+{
+    match key {
+        Some(key) => put_key(out, key),
+        None => Ok(()),
+    }
+}
+
+fn put_letter(
+    out: &mut String,
+    options: InterestOptions,
+    bit: InterestOptions,
+    letter: &str,
+) -> Result<(), Memory>
+    ensures ok { OnOk result (string_bytes out.new ≡ string_bytes out.old ++ (if has_bits bit.0 options then letter.now else [])) }
+    ensures err { OnErr result (Begins (string_bytes out.old) (string_bytes out.new)) }
+{
+    if options.contains(bit) {
+        out.push_str(letter)?;
+    }
+    Ok(())
+}
+
+fn put_letters(out: &mut String, options: InterestOptions) -> Result<(), Memory>
+    ensures ok { OnOk result (string_bytes out.new ≡ string_bytes out.old ++ letters_of options) }
+    ensures err { OnErr result (Begins (string_bytes out.old) (string_bytes out.new)) }
+{
+    put_letter(out, options, InterestOptions::KEYEXPRS, "k")?;
+    put_letter(out, options, InterestOptions::SUBSCRIBERS, "s")?;
+    put_letter(out, options, InterestOptions::QUERYABLES, "q")?;
+    put_letter(out, options, InterestOptions::TOKENS, "t")?;
+    put_letter(out, options, InterestOptions::AGGREGATE, "a")?;
+    Ok(())
+}
+
+fn put_options(out: &mut String, options: InterestOptions) -> Result<(), Memory>
+    ensures ok { OnOk result (string_bytes out.new ≡ string_bytes out.old ++ spaced (options_text options ∷ [])) }
+    ensures err { OnErr result (Begins (string_bytes out.old) (string_bytes out.new)) }
+{
+    out.push(' ')?;
+    if options.bits() & 31 == 0 {
+        out.push('-')?;
+        return Ok(());
+    }
+    put_letters(out, options)
+}
+
+fn interest_mode_text(mode: InterestMode) -> &'static str
+    ensures { result.now ≡ interest_mode_text mode }
+{
+    match mode {
+        InterestMode::Current => "current",
+        InterestMode::Future => "future",
+        InterestMode::CurrentFuture => "current-future",
+    }
+}
+
+fn put_interest<K: Key>(
+    out: &mut String,
+    id: u32,
+    mode: InterestMode,
+    options: InterestOptions,
+    expr: &Option<K>,
+) -> Result<(), Memory>
+    ensures ok { OnOk result (string_bytes out.new ≡ string_bytes out.old ++ spaced (codes "interest" ∷ decimal id ∷ interest_mode_text mode ∷ options_text options ∷ key_fields K.printed expr.now)) }
+    ensures err { OnErr result (Begins (string_bytes out.old) (string_bytes out.new)) }
+{
+    put_head(out, "interest", &[id])?;
+    put_field(out, interest_mode_text(mode))?;
+    put_options(out, options)?;
+    put_optional_key(out, expr)
+}
+
+fn put_message<K: Key>(out: &mut String, message: &Message<K>) -> Result<(), Memory>
+    ensures ok { OnOk result (string_bytes out.new ≡ string_bytes out.old ++ spaced (message_fields K.printed message.now)) }
+    ensures err { OnErr result (Begins (string_bytes out.old) (string_bytes out.new)) }
+{
+    match message {
+        Message::DeclareToken {
+            id,
+            expr,
+            interest_id: None,
+            node_id,
+        } => {
+            put_head(out, "token", &[*id, u32::from(*node_id)])?;
+            put_key(out, expr)
+        }
+        Message::DeclareToken {
+            id,
+            expr,
+            interest_id: Some(interest_id),
+            node_id,
+        } => {
+            put_head(out, "answer", &[*interest_id, *id, u32::from(*node_id)])?;
+            put_key(out, expr)
+        }
+        Message::UndeclareToken { id, expr, node_id } => {
+            put_head(out, "untoken", &[*id, u32::from(*node_id)])?;
+            put_optional_key(out, expr)
+        }
+        Message::DeclareFinal { interest_id } => put_head(out, "final", &[*interest_id]),
+        Message::Interest {
+            id,
+            mode,
+            options,
+            expr,
+        } => put_interest(out, *id, *mode, *options, expr),
+        Message::InterestFinal { id } => put_head(out, "interest-final", &[*id]),
+        Message::DeclareSubscriber {
+            id,
+            expr,
+            interest_id,
+        } => {
+            put_head(out, "subscriber", &[*interest_id, *id])?;
+            put_key(out, expr)
+        }
+        Message::DeclareQueryable {
+            id,
+            expr,
+            info,
+            interest_id,
+        } => {
+            put_head(out, "queryable", &[*interest_id, *id])?;
+            put_field(out, if info.complete { "1" } else { "0" })?;
+            put_number(out, u64::from(info.distance))?;
+            put_key(out, expr)
+        }
+    }
+}
+
+fn put_sent<K: Key>(out: &mut String, sent: &Sent<K>) -> Result<(), Memory>
+    ensures ok { OnOk result (string_bytes out.new ≡ string_bytes out.old ++ sent_text K.printed sent.now) }
+    ensures err { OnErr result (Begins (string_bytes out.old) (string_bytes out.new)) }
+{
+    out.push('>')?;
+    put_number(out, u64::from(sent.gateway))?;
+    put_number(out, u64::from(sent.face))?;
+    put_message(out, &sent.message)?;
+    out.push('\n')?;
+    Ok(())
+}
+
+fn put_all<K: Key>(out: &mut String, sents: &[Sent<K>]) -> Result<(), Memory>
+    ensures ok { OnOk result (string_bytes out.new ≡ string_bytes out.old ++ flat_map (sent_text K.printed) sents.now) }
+    ensures err { OnErr result (Begins (string_bytes out.old) (string_bytes out.new)) }
+{
+    for sent in sents {
+        put_sent(out, sent)?;
+    }
+    Ok(())
+}
+
+fn put_entry<K: Key>(out: &mut String, line: u64, entry: &Entry<K>) -> Result<(), Memory>
+    ensures ok { OnOk result (string_bytes out.new ≡ string_bytes out.old ++ entry_text K.printed line (plain_entry entry.now)) }
+    ensures err { OnErr result (Begins (string_bytes out.old) (string_bytes out.new)) }
+{
+    let mut buffer = Buffer::new();
+    out.push_str(buffer.format(line))?;
+    match &entry.outcome {
+        Ok(sents) => {
+            out.push_str(" ok\n")?;
+            put_all(out, sents)
+        }
+        Err(refusal) => {
+            out.push_str(" refused ")?;
+            out.push_str(refusal.name())?;
+            out.push('\n')?;
+            Ok(())
+        }
+    }
+}
+
+fn put_report(out: &mut String, report: &Report) -> Result<(), Memory>
+    ensures ok { OnOk result (string_bytes out.new ≡ string_bytes out.old ++ report_text report.now) }
+    ensures err { OnErr result (Begins (string_bytes out.old) (string_bytes out.new)) }
+{
+    let mut buffer = Buffer::new();
+    out.push_str("total")?;
+    put_number(out, report.lines)?;
+    put_field(out, buffer.format(report.messages))?;
+    put_number(out, report.refusals)?;
+    out.push('\n')?;
+    Ok(())
+}
+
+// Takes back what a failed call added behind the first `before` bytes.
+fn undo(out: &mut String, before: usize)
+    requires { IsUtf8 (take before (string_bytes out.old)) }
+    ensures { string_bytes out.new ≡ take before (string_bytes out.old) }
+{
+    out.truncate(before);
+}
+
+/// Appends an entry, with the number of its line.
+///
+/// The only error is want of memory, and it leaves `out` as it was.
+pub fn write_entry<K: Key>(out: &mut String, line: u64, entry: &Entry<K>) -> Result<(), Memory>
+    ensures { string_bytes out.new
+        ≡ (if is_ok result then string_bytes out.old ++ entry_text K.printed line (plain_entry entry.now) else string_bytes out.old) }
+{
+    let before = out.len();
+    let result = put_entry(out, line, entry);
+    if result.is_err() {
+        undo(out, before);
+    }
+    result
+}
+
+/// Appends the report, a transcript's last line.
+///
+/// The only error is want of memory, and it leaves `out` as it was.
+pub fn write_report(out: &mut String, report: &Report) -> Result<(), Memory>
+    ensures { string_bytes out.new
+        ≡ (if is_ok result then string_bytes out.old ++ report_text report.now else string_bytes out.old) }
+{
+    let before = out.len();
+    let result = put_report(out, report);
+    if result.is_err() {
+        undo(out, before);
+    }
+    result
+}
+
+/// The text of an entry, with the number of its line. The only error is want of memory.
+pub fn print_entry<K: Key>(alloc: Global, line: u64, entry: &Entry<K>) -> Result<String, Memory>
+    ensures { IfOk result (λ text. string_bytes text ≡ entry_text K.printed line (plain_entry entry.now)) }
+{
+    let mut text = String::new(alloc);
+    write_entry(&mut text, line, entry)?;
+    Ok(text)
+}
+
+/// The text of the report. The only error is want of memory.
+pub fn print_report(alloc: Global, report: &Report) -> Result<String, Memory>
+    ensures { IfOk result (λ text. string_bytes text ≡ report_text report.now) }
+{
+    let mut text = String::new(alloc);
+    write_report(&mut text, report)?;
+    Ok(text)
+}

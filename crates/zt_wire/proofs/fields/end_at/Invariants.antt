@@ -1,4 +1,0 @@
-use Rattle.zt_wire.proofs.fields.end_at.Given as goal
-
-abbrev pub ghost-nothing_left : goal.ghost-nothing_left
-ghost-nothing_left a = 32

@@ -1,5 +1,0 @@
-use Rattle.zt_wire.proofs.SentLaws.{sent_exactly}
-use Rattle.zt_wire.proofs.grammar.printing_is_read.Goals as goal
-
-pub returns : goal.returns
-returns g c = λ bytes sent. sent_exactly g.K.Ord.cmp g.K.Key.matching g.K.Key.reading g.K.Key.printed g.met.K.Key.laws bytes sent

@@ -1,9 +1,0 @@
-use Rattle.std.proofs.Common.{arith, sym, ◌∙◌}
-use Rattle.std.specs.Prelude.{string_bytes}
-use Rattle.std.proofs.lemmas.Str.{IsUtf8-string_bytes}
-use Rattle.zt_wire.proofs.TextLemmas.{undo_ready}
-use Rattle.zt_wire.proofs.printing.write_report.Goals as goal
-
-pub undo-requires : goal.undo-requires
-undo-requires c =
-    undo_ready c.put_report-result.result (string_bytes c.args.out.now) (string_bytes c.put_report-result.new.out) c.len-before.result (sym c.is_err.ensures.value ∙ c.if-is_err.true) c.put_report-result.ensures.err (omega (arith, c.len-before.ensures)) (IsUtf8-string_bytes c.args.out.now)

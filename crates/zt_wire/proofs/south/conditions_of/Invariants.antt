@@ -1,5 +1,0 @@
-use Rattle.zt_wire.proofs.south.conditions_of.Given as goal
-
--- what the conditions are separated by
-abbrev pub ghost-nothing_left : goal.ghost-nothing_left
-ghost-nothing_left a = 38

@@ -1,7 +1,0 @@
-use Rattle.std.proofs.Common.{◌≡◌, drop}
-use Rattle.zt_wire.specs.Values.{letters_after}
-use Rattle.zt_wire.proofs.values.letters_of.Given as goal
-
--- the letters so far stand for the bits so far
-abbrev pub invariant-loop-letter : goal.invariant-loop-letter
-invariant-loop-letter l = letters_after 0 l.letters ≡ letters_after l.bits (drop l.letter-index l.letters)
