@@ -13,6 +13,7 @@ use Rattle.zt_model.specs.Says.{parts_of, said, said_by}
 use Rattle.zt_model.specs.Sessions.{is_session_line}
 use Rattle.zt_model.specs.Transcript.{AllKeepWhatTheyShould, Each, FacesKeepWhatTheyShould, IsFaithfulFrom}
 use Rattle.zt_laws.specs.Sound.{FabricIsSound, GatewayIsSound, HasFirstIds, is_placed}
+use Rattle.zt_laws.proofs.Entries.{is_entry}
 use Rattle.zt_laws.proofs.Lines.{gateway_is_sound, sound_accepted, speaking}
 use Rattle.zt_laws.proofs.Lists.{by_test, each_from_each, never}
 use Rattle.zt_laws.proofs.Refusing.{refused_by_cause}
@@ -82,14 +83,15 @@ module _ {K : Type 0} (cmp : K → K → Ordering) (matching : K → K → Bool)
         cases built None accepted = sound_accepted cmp matching total equal_is_same (line_spends_ids cmp matching line s) line s built real accepted sound
         cases built (Some r) refused = subst (FabricIsSound cmp matching) (sym (refused_is_still line r s built)) sound
 
-    -- From a sound fabric on each entry is right: a refusal exactly by its line's cause, and after it each face
-    -- keeps what it should.
+    -- From a sound fabric on each entry is right: a refusal exactly by its line's cause, and messages in order of face
+    -- for open faces, and after it each face keeps what it should.
     pub faithful_from : (lines : List (PlainLine K)) (s : Fabric K) → Each HasFirstIds lines → FabricIsSound cmp matching s → IsFaithfulFrom cmp matching is_session_line lines (entries_from cmp matching is_session_line lines s) s
     unfolding entries_from
     faithful_from [] s real sound = tt
     faithful_from (line ∷ lines) s real sound =
         let after = sound_after line s real.0 sound in (
           refused_by_cause cmp matching total equal_is_same line s sound,
+          is_entry cmp matching line s sound,
           sound_keeps (fabric_after cmp matching line (entry_of cmp matching is_session_line line s) s) after,
           faithful_from lines (fabric_after cmp matching line (entry_of cmp matching is_session_line line s) s) real.1 after,
         )

@@ -10,7 +10,7 @@ use Rattle.zt_model.specs.Rows.{Face, Rows}
 use Rattle.zt_model.specs.Says.{Sends, find_face, to_each, to_face, with_face}
 use Rattle.zt_model.specs.Transcript.{Each}
 use Rattle.zt_laws.specs.Sound.{RiseFrom}
-use Rattle.zt_laws.proofs.Lists.{by_test, never, each_weaker, each_both, each_always, map_alike, map_same, map-map, rise_above}
+use Rattle.zt_laws.proofs.Lists.{by_test, each_append, each_map, never, each_weaker, each_both, each_always, map_alike, map_same, map-map, rise_above}
 
 -- ---- the face of a number
 
@@ -94,6 +94,20 @@ messages_for_each low rule (f ∷ fs) rises =
           ∙ rest)
           fs above (messages_for_each (f.number + 1) rule fs rises.1),
     )
+
+-- what holds of each message of a rule
+pub each_ruled : {K : Type 0} → (P : Message K → Type 0) (rule : Face K → List (Message K)) (fs : List (Face K)) → ((f : Face K) → Each P (rule f)) → Each (λ t. P t.1) (to_each rule fs)
+unfolding to_each
+each_ruled {K} P rule [] h = tt
+each_ruled {K} P rule (f ∷ fs) h = each_append (λ t. P t.1) (map (λ m. (f.number, m)) (rule f)) (to_each rule fs) (each_map (λ (t : ℕ × Message K). P t.1) (λ m. (f.number, m)) (rule f) (h f)) (each_ruled P rule fs h)
+
+pub each_ruled_one : {K : Type 0} → (P : Message K → Type 0) (n : ℕ) (rule : Face K → List (Message K)) (g : Rows K) → ((f : Face K) → Each P (rule f)) → Each (λ t. P t.1) (to_face n rule g)
+unfolding to_face
+each_ruled_one {K} P n rule g h = cases (find_face n g)
+  where
+    cases : (o : Option (Face K)) → Each (λ (t : ℕ × Message K). P t.1) (elim o [ None ↦ [] | Some f ↦ map (λ m. (n, m)) (rule f) ])
+    cases None = tt
+    cases (Some f) = each_map (λ (t : ℕ × Message K). P t.1) (λ m. (n, m)) (rule f) (h f)
 
 module _ {K : Type 0} (cmp : K → K → Ordering) where
   pub heard_all-append : (now : ℕ) (ms ns : List (Message K)) (f : Face K) → heard_all cmp now (ms ++ ns) f ≡ heard_all cmp now ns (heard_all cmp now ms f)

@@ -9,6 +9,7 @@ use Rattle.std.specs.FinMap.Entries.{by_order}
 use Rattle.std.proofs.lemmas.Cmp.{tied_itself, alike_right}
 use Rattle.zt_model.specs.Lists.{same, is_among, with_key, in_key_order}
 use Rattle.zt_model.specs.Transcript.{Each}
+pub use Rattle.zt_laws.specs.Order.{InKeyOrder, KeysOnce}
 use Rattle.zt_laws.proofs.Lists.{by_test, each_weaker, each_filter, any_none, any_alike, any-filter}
 
 pub is_equal : (o : Ordering) → is_eq o ≡ true → o ≡ Equal
@@ -42,21 +43,12 @@ or_twice true c = refl
 or_twice false c = refl
 
 module _ {K : Type 0} (cmp : K → K → Ordering) where
-  -- keys in order, each once
-  abbrev pub InKeyOrder : List K → Type 0
-  InKeyOrder [] = Unit {0}
-  InKeyOrder (k ∷ ks) = Each (λ x. cmp k x ≡ Less) ks × InKeyOrder ks
-
-  abbrev pub KeysOnce : List K → Type 0
-  KeysOnce [] = Unit {0}
-  KeysOnce (k ∷ ks) = (is_among cmp k ks ≡ false) × KeysOnce ks
-
-  pub once_in_order : (ks : List K) → InKeyOrder ks → KeysOnce ks
+  pub once_in_order : (ks : List K) → InKeyOrder cmp ks → KeysOnce cmp ks
   once_in_order [] ordered = tt
   once_in_order (k ∷ ks) ordered =
       (any_none (same cmp k) ks (each_weaker (λ x. cmp k x ≡ Less) (λ x. same cmp k x ≡ false) (λ x h. ap is_eq h) ks ordered.0), once_in_order ks ordered.1)
 
-  pub in_order_filter : (p : K → Bool) (ks : List K) → InKeyOrder ks → InKeyOrder (filter p ks)
+  pub in_order_filter : (p : K → Bool) (ks : List K) → InKeyOrder cmp ks → InKeyOrder cmp (filter p ks)
   in_order_filter p [] ordered = tt
   in_order_filter p (k ∷ ks) ordered =
       by_test (p k)
@@ -83,16 +75,16 @@ module _ {K : Type 0} (cmp : K → K → Ordering) where
     pub same_left : (a b x : K) → same cmp a b ≡ true → same cmp a x ≡ same cmp b x
     same_left a b x h = ap is_eq (total.congr a b x (is_equal (cmp a b) h))
 
-    in_order_with_key : (e : K) (ks : List K) → InKeyOrder ks → InKeyOrder (with_key cmp e ks)
+    pub in_order_with_key : (e : K) (ks : List K) → InKeyOrder cmp ks → InKeyOrder cmp (with_key cmp e ks)
     in_order_with_key e [] ordered = (tt, tt)
     in_order_with_key e (k ∷ ks) ordered =
-        elim (cmp e k) as (λ o. cmp e k ≡ o → InKeyOrder (by_order o (e ∷ k ∷ ks) (k ∷ ks) (k ∷ with_key cmp e ks))) [
+        elim (cmp e k) as (λ o. cmp e k ≡ o → InKeyOrder cmp (by_order o (e ∷ k ∷ ks) (k ∷ ks) (k ∷ with_key cmp e ks))) [
           | Less ↦ λ h. ((h, each_weaker (λ x. cmp k x ≡ Less) (λ x. cmp e x ≡ Less) (λ x more. total.trans e k x h more) ks ordered.0), ordered)
           | Equal ↦ λ h. ordered
           | Greater ↦ λ h. (each_with_key (λ x. cmp k x ≡ Less) e ks (total.antisymm k e ∙ ap ordering_reverse h) ordered.0, in_order_with_key e ks ordered.1)
         ] refl
 
-    pub in_key_order_is : (es : List K) → InKeyOrder (in_key_order cmp es)
+    pub in_key_order_is : (es : List K) → InKeyOrder cmp (in_key_order cmp es)
     in_key_order_is [] = tt
     in_key_order_is (e ∷ es) = in_order_with_key e (in_key_order cmp es) (in_key_order_is es)
 

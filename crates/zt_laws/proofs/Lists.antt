@@ -1,7 +1,7 @@
 -- Facts of lists, tests of their members, and lists whose keys rise.
 use Rattle.std.proofs.Common.{◌≡◌, ℕ, ◌+◌, ◌≤◌, ◌<◌, Bool, true, false, cond, ◌&&◌, ◌||◌, List, [], ◌∷◌, ◌++◌, map, filter, refl, sym, ap, ◌∙◌, ⊎_elim, arith, true≢false, le_trans}
-use Rattle.std.specs.List.{list_any}
-use Rattle.std.proofs.lemmas.Bool.{or_cases, or_left, or_right, and_parts}
+use Rattle.std.specs.List.{list_all, list_any}
+use Rattle.std.proofs.lemmas.Bool.{or_cases, or_left, or_right, and_from, and_parts}
 use Rattle.zt_model.specs.Transcript.{Each}
 use Rattle.zt_laws.specs.Sound.{RiseFrom, EachFrom}
 
@@ -61,6 +61,10 @@ each_back P (x ∷ xs) ys all = each_back P xs ys all.1
 pub each_filter : {A : Type 0} (P : A → Type 0) (p : A → Bool) (xs : List A) → Each P xs → Each P (filter p xs)
 each_filter P p [] all = tt
 each_filter P p (x ∷ xs) all = of_cond (Each P) (p x) (x ∷ filter p xs) (filter p xs) (λ _. (all.0, each_filter P p xs all.1)) (λ _. each_filter P p xs all.1)
+
+pub all_of_each : {A : Type 0} (p : A → Bool) (xs : List A) → Each (λ x. p x ≡ true) xs → list_all p xs ≡ true
+all_of_each p [] all = refl
+all_of_each p (x ∷ xs) all = and_from (p x) (list_all p xs) all.0 (all_of_each p xs all.1)
 
 -- a filter keeps what passes
 pub each_passes : {A : Type 0} (p : A → Bool) (xs : List A) → Each (λ x. p x ≡ true) (filter p xs)

@@ -9,10 +9,10 @@ use Rattle.zt_laws.specs.Sound.{RiseFrom, is_placed, places_of}
 use Rattle.zt_laws.proofs.Lists.{any-append, by_test, never}
 
 -- whether a place is that of a gateway's face
-abbrev is_place : ℕ → ℕ → Place → Bool
+abbrev pub is_place : ℕ → ℕ → Place → Bool
 is_place n f p = (n == p.gateway) && (f == p.face)
 
-place_is : (n f : ℕ) (p : Place) → is_place n f p ≡ true → (n ≡ p.gateway) × (f ≡ p.face)
+pub place_is : (n f : ℕ) (p : Place) → is_place n f p ≡ true → (n ≡ p.gateway) × (f ≡ p.face)
 place_is n f p h = let parts = and_parts (n == p.gateway) (f == p.face) h in (eqb-true n p.gateway parts.0, eqb-true f p.face parts.1)
 
 -- a face that is placed has a number

@@ -7,20 +7,21 @@ use Rattle.zt_region.specs.declared.region.Region.TheVariants.{North, Local}
 use Rattle.zt_region.specs.declared.region.WhatAmI.{WhatAmI}
 use Rattle.zt_region.specs.declared.region.WhatAmI.TheVariants.{Peer}
 use Rattle.zt_region.specs.Region.{is_north, whatami_eq}
-use Rattle.zt_protocol.specs.Interest.{is_current, is_future, has_queryables, has_subscribers}
+use Rattle.zt_protocol.specs.Interest.{is_current, is_future, has_tokens, without_aggregate}
 use Rattle.zt_protocol.specs.Plain.{PlainCall, DeclareToken, UndeclareToken, Interest}
 use Rattle.zt_protocol.specs.declared.interests.InterestMode.{InterestMode}
 use Rattle.zt_protocol.specs.declared.interests.InterestOptions.{InterestOptions}
 use Rattle.zt_protocol.specs.declared.messages.Message.{Message}
+use Rattle.zt_protocol.specs.declared.messages.Message.TheVariants as message
 use Rattle.zt_model.specs.Entities.{entities_for, numbered_with}
 use Rattle.zt_model.specs.Hearing.{heard_all, messages_for, rows_heard}
 use Rattle.zt_model.specs.Routing.{is_target, is_target_of, route_to, sent_as}
 use Rattle.zt_model.specs.Rows.{Face, InterestRow, RoutedRow, Rows}
-use Rattle.zt_model.specs.Says.{Part, Sends, altered, altered_by, asked, asking, declaring, find_face, forget, interesting, interesting_above, is_routed, parts_of, registered, row_of, said_by, tell, to_each, to_face, undeclared, undeclaring, unregistered, with_face}
+use Rattle.zt_model.specs.Says.{Part, Alter, Say, Sends, altered, altered_by, asking, declaring, declaring_of, find_face, forget, hiding_undeclared, interesting, interesting_above, is_routed, parts_of, registered, row_of, said_by, tell, to_each, to_face, undeclared, undeclaring, undeclaring_of, unregistered, with_face}
 use Rattle.zt_model.specs.Sessions.{is_session_call}
 use Rattle.zt_model.specs.Strategy.{is_router_hat, strategy_of}
 use Rattle.zt_model.specs.Transcript.{Each}
-use Rattle.zt_model.specs.Trees.{hide_to, hiding, is_hidden, is_newly_shown, is_own_row, pass_to, router_regions, show_to, showing, unpass_to, with_own_rows, without_own_rows}
+use Rattle.zt_model.specs.Trees.{hide_to, hiding, is_hidden, is_newly_shown, pass_to, router_regions, show_to, showing, source_of, unpass_to, with_own_rows, without_own_rows}
 use Rattle.zt_model.specs.Wants.{kept_options}
 use Rattle.zt_laws.specs.Sessions.{IsOfSessions, session_parts}
 use Rattle.zt_laws.specs.Sound.{rows_after_call}
@@ -116,7 +117,7 @@ module _ {K : Type 0} (cmp : K → K → Ordering) (matching : K → K → Bool)
       )
 
   undeclares_to_sessions : (n id : ℕ) (e : K) (f : Face K) (g : Rows K) → IsOfSessions g
-      → ComeTo (Rattle.zt_model.specs.Says.Alter (with_face n (unregistered id)) ∷ Rattle.zt_model.specs.Says.Say (forget cmp matching f.region e) ∷ hiding cmp matching f.region e) (Rattle.zt_model.specs.Says.Alter (with_face n (unregistered id)) ∷ Rattle.zt_model.specs.Says.Say (forget cmp matching f.region e) ∷ []) g
+      → ComeTo (Alter (with_face n (unregistered id)) ∷ Say (forget cmp matching f.region e) ∷ hiding cmp matching f.region e) (Alter (with_face n (unregistered id)) ∷ Say (forget cmp matching f.region e) ∷ []) g
   unfolding said_by altered_by
   undeclares_to_sessions n id e f g sessions =
       let h = with_face n (unregistered id) g in
@@ -134,7 +135,7 @@ module _ {K : Type 0} (cmp : K → K → Ordering) (matching : K → K → Bool)
   kept_tokens : (mode : WhatAmI) → kept_options mode tokens_alone ≡ tokens_alone
   kept_tokens mode = by_peer (whatami_eq mode Peer)
     where
-      by_peer : (b : Bool) → (if b || Rattle.zt_protocol.specs.Interest.has_tokens tokens_alone then Rattle.zt_protocol.specs.Interest.without_aggregate tokens_alone else tokens_alone) ≡ tokens_alone
+      by_peer : (b : Bool) → (if b || has_tokens tokens_alone then without_aggregate tokens_alone else tokens_alone) ≡ tokens_alone
       by_peer true = refl
       by_peer false = refl
 
@@ -143,7 +144,7 @@ module _ {K : Type 0} (cmp : K → K → Ordering) (matching : K → K → Bool)
   asks_nobody interest g sessions =
       each_says_nothing (route_to g Local interest) g.faces
       (each_weaker (λ f. f.region ≡ Local) (λ f. route_to g Local interest f ≡ [])
-      (λ f local. ap (λ (r : Region). if not (is_north Local) && (is_north r && is_target_of g.mode g interest.mode f) then Rattle.zt_protocol.specs.declared.messages.Message.TheVariants.Interest f.next interest.mode interest.options interest.expr ∷ [] else []) local) g.faces sessions.faces)
+      (λ f local. ap (λ (r : Region). if not (is_north Local) && (is_north r && is_target_of g.mode g interest.mode f) then message.Interest f.next interest.mode interest.options interest.expr ∷ [] else []) local) g.faces sessions.faces)
 
   sent_nowhere : (mode : InterestMode) (g : Rows K) → IsOfSessions g → sent_as g Local mode ≡ []
   unfolding sent_as is_target
@@ -198,7 +199,7 @@ module _ {K : Type 0} (cmp : K → K → Ordering) (matching : K → K → Bool)
       cases : (o : Option (Face K)) → find_face n g ≡ o
           → ComeTo (elim o [
             | None ↦ []
-            | Some f ↦ if is_routed g f then Rattle.zt_model.specs.Says.declaring_of cmp matching n (Rattle.zt_model.specs.Trees.source_of g f node) e f else declaring cmp matching n id e f ++ showing cmp matching f.region e
+            | Some f ↦ if is_routed g f then declaring_of cmp matching n (source_of g f node) e f else declaring cmp matching n id e f ++ showing cmp matching f.region e
           ]) (elim o [ None ↦ [] | Some f ↦ declaring cmp matching n id e f ]) g
       cases None found = (refl, refl)
       cases (Some f) found =
@@ -207,15 +208,15 @@ module _ {K : Type 0} (cmp : K → K → Ordering) (matching : K → K → Bool)
   session_call (UndeclareToken n id given node) g built sessions = cases (find_face n g) refl
     where
       one : (f : Face K) (o : Option K)
-          → ComeTo ((elim o [ None ↦ [] | Some e ↦ Rattle.zt_model.specs.Says.Alter (with_face n (unregistered id)) ∷ Rattle.zt_model.specs.Says.Say (forget cmp matching f.region e) ∷ [] ]) ++ (elim o [ None ↦ [] | Some e ↦ hiding cmp matching f.region e ]))
-          (elim o [ None ↦ [] | Some e ↦ Rattle.zt_model.specs.Says.Alter (with_face n (unregistered id)) ∷ Rattle.zt_model.specs.Says.Say (forget cmp matching f.region e) ∷ [] ]) g
+          → ComeTo ((elim o [ None ↦ [] | Some e ↦ Alter (with_face n (unregistered id)) ∷ Say (forget cmp matching f.region e) ∷ [] ]) ++ (elim o [ None ↦ [] | Some e ↦ hiding cmp matching f.region e ]))
+          (elim o [ None ↦ [] | Some e ↦ Alter (with_face n (unregistered id)) ∷ Say (forget cmp matching f.region e) ∷ [] ]) g
       one f None = (refl, refl)
       one f (Some e) = undeclares_to_sessions n id e f g sessions
 
       cases : (o : Option (Face K)) → find_face n g ≡ o
           → ComeTo (elim o [
             | None ↦ []
-            | Some f ↦ if is_routed g f then Rattle.zt_model.specs.Says.undeclaring_of cmp matching n (Rattle.zt_model.specs.Trees.source_of g f node) given f else undeclaring cmp matching n id given f ++ Rattle.zt_model.specs.Says.hiding_undeclared cmp matching id given f
+            | Some f ↦ if is_routed g f then undeclaring_of cmp matching n (source_of g f node) given f else undeclaring cmp matching n id given f ++ hiding_undeclared cmp matching id given f
           ]) (elim o [ None ↦ [] | Some f ↦ undeclaring cmp matching n id given f ]) g
       cases None found = (refl, refl)
       cases (Some f) found =

@@ -1,5 +1,7 @@
 //! Laws of the machine of scripts: theorems over the definitions of `zt_model`, each the contract of a function
-//! that does nothing. `specs/Sound.antt` has the words for what stays true of a fabric.
+//! that does nothing. Those of scripts of sessions stand here, those of all calls, lines and fabrics in the modules:
+//! what messages change, order and no doubles, and what calls come to. `specs/Sound.antt` and `specs/Order.antt` have the
+//! words for what stays true of a fabric, and `specs/Kept.antt` those for what a face keeps.
 #![tactic(auto)]
 
 ghost use Rattle.std.specs.Prelude.{◌≡◌, ◌+◌, ◌||◌, ℕ, Bool, true, false, if◌then◌else◌, List, map, Some, None};
@@ -21,13 +23,26 @@ ghost use Rattle.zt_laws.specs.Sessions.{IsOfSessions, session_parts};
 ghost use Rattle.zt_laws.specs.Sound.{FabricIsSound, HasFirstIds, IsToldInOrder, RiseFrom, RowsAreSound, rows_after_call};
 
 mod acts;
+mod effects;
+mod messages;
+mod order;
 
 pub use acts::changes_are_heard;
+pub use effects::{
+    calls_draw_next_ids, closing_says_what_leaving_says, hearing_may_wait, lines_draw_next_ids,
+    other_calls_draw_no_ids, repeats_change_no_row,
+};
+pub use messages::{
+    calls_tell_by_messages_alone, interleaving_changes_nothing, lines_tell_by_messages_alone,
+    sorting_keeps_each_faces_messages, told_is_kept,
+};
+pub use order::{calls_keep_order, lines_keep_order};
 use zt_keys::Key;
 
 /// The transcript theorem for scripts of sessions: to any lines, the machine's entries are faithful. Each is a
-/// refusal exactly by its line's first cause, and after each entry every face keeps, by its own messages alone,
-/// only visible tokens that it seeks, among them every admitted one that it covers. First ids are at least 1.
+/// refusal exactly by its line's first cause, or messages in order of face, each for an open face of its gateway. After
+/// each entry every face keeps, by its own messages alone, only visible tokens that it seeks, among them every
+/// admitted one that it covers. First ids are at least 1.
 pub fn scripts_are_faithful<K: Key>()
     ensures { (lines : List (PlainLine K)) → Each HasFirstIds lines
         → IsFaithfulFrom K.cmp K.matching is_session_line lines (entries_from K.cmp K.matching is_session_line lines empty_fabric) empty_fabric }

@@ -1,8 +1,8 @@
 -- What a transcript promises, as relations of its lines and entries: what faces keep, which tokens they are told,
 -- what asks get and when they end, and what goes upstream. They are read off the lines and the printed messages,
 -- from the empty fabric on, and know nothing of what a call says.
-use Rattle.std.specs.Prelude.{◌≡◌, ℕ, Bool, true, false, ◌+◌, ◌==◌, ◌&&◌, ◌||◌, not, nat_le, nat_lt, if◌then◌else◌, List, [], ◌∷◌, ◌++◌, length, Option, Some, None, is_some, Ok, Err, filter}
-use Rattle.std.specs.List.{list_any, list_all, flat_map}
+use Rattle.std.specs.Prelude.{◌≡◌, ℕ, Bool, true, false, ◌+◌, ◌==◌, ◌&&◌, ◌||◌, not, nat_lt, if◌then◌else◌, List, [], ◌∷◌, ◌++◌, length, Option, Some, None, is_some, Ok, Err, filter}
+use Rattle.std.specs.List.{list_any, flat_map}
 use Rattle.std.specs.Option.{option_to_list}
 use Rattle.std.specs.declared.cmp.Ordering.{Ordering}
 use Rattle.zt_region.specs.declared.region.Bound.TheVariants.{South as SouthBound}
@@ -25,9 +25,11 @@ use Rattle.zt_model.specs.Routing.{asks_same, interests_from, is_held_south, ope
 use Rattle.zt_model.specs.Rows.{Ask, Face, InterestRow, Rows}
 use Rattle.zt_model.specs.Says.{row_of}
 use Rattle.zt_model.specs.Telling.{registers, was_sent_as}
-use Rattle.zt_model.specs.Transcript.{Each}
+use Rattle.zt_model.specs.Transcript.{Each, IsEntry, messages_of}
 use Rattle.zt_model.specs.Visible.{is_admitted, is_visible, keeps, shows}
 use Rattle.zt_model.specs.Wants.{asks_token, covers, is_about, seeks, wants}
+pub use Rattle.zt_model.specs.Transcript.{FaceAt}
+unfoldable pub use Rattle.zt_model.specs.Transcript.{face_numbered}
 
 -- ---- turns
 
@@ -38,30 +40,12 @@ pub record Turn (K : Type 0) : Type 0 where
   pub before : Fabric K
   pub after : Fabric K
 
--- a face of a fabric, at its gateway
-pub record FaceAt (K : Type 0) : Type 0 where
-  pub gateway : ℕ
-  pub rows : Rows K
-  pub face : Face K
-
--- an open face by its number in scripts
-unfoldable pub face_numbered : {K : Type 0} → Fabric K → ℕ → Option (FaceAt K)
-face_numbered s n =
-    elim (nth n s.faces) [
-      | None ↦ None
-      | Some p ↦
-          elim (nth p.gateway s.gateways) [
-            | None ↦ None
-            | Some node ↦ elim (find_face p.face node.rows) [ None ↦ None | Some f ↦ Some (record { gateway = p.gateway; rows = node.rows; face = f }) ]
-          ]
-    ]
-
 abbrev pub is_open_face : {K : Type 0} → Fabric K → ℕ → Bool
 is_open_face s n = is_some (face_numbered s n)
 
--- what a turn prints; a refused line prints nothing
+-- what a turn prints
 abbrev pub printed : {K : Type 0} → Turn K → List (Sent K)
-printed t = elim t.entry [ Ok ms ↦ ms | Err refusal ↦ [] ]
+printed t = messages_of t.entry
 
 abbrev pub is_accepted : {K : Type 0} → PlainEntry K → Bool
 is_accepted (Ok ms) = true
@@ -115,16 +99,6 @@ NothingFollowsFinals [] = Unit {0}
 NothingFollowsFinals (message.DeclareFinal id ∷ ms) = (list_any (answers_interest id) ms ≡ false) × NothingFollowsFinals ms
 NothingFollowsFinals (m ∷ ms) = NothingFollowsFinals ms
 
--- in order of face
-abbrev pub StandInOrderOfFace : {K : Type 0} → List (Sent K) → Type 0
-StandInOrderOfFace [] = Unit {0}
-StandInOrderOfFace (m ∷ ms) = (list_all (λ x. nat_le m.face x.face) ms ≡ true) × StandInOrderOfFace ms
-
--- interests are printed with the five named options alone
-abbrev pub has_named_options : {K : Type 0} → Message K → Bool
-has_named_options (message.Interest id mode options e) = nat_lt options.0 32
-has_named_options _ = true
-
 module _ {K : Type 0} (cmp : K → K → Ordering) (matching : K → K → Bool) where
   -- the turns of a transcript, from a fabric on
   unfoldable pub turns_from : List (PlainLine K) → List (PlainEntry K) → Fabric K → List (Turn K)
@@ -147,17 +121,6 @@ module _ {K : Type 0} (cmp : K → K → Ordering) (matching : K → K → Bool)
   -- and those that the line makes stand in it
   abbrev pub with_line : Turn K → Fabric K
   with_line t = if is_accepted t.entry then altered_by_line cmp matching t.line t.before else t.before
-
-  -- ---- what makes a transcript
-
-  -- An entry is a refusal, or messages in order of face, each for an open face of its gateway.
-  abbrev pub NamesOpenFace : Turn K → Sent K → Type 0
-  NamesOpenFace t m = is_some_and (face_numbered t.after m.face) (λ x. m.gateway == x.gateway) ≡ true
-
-  pub record IsEntry (t : Turn K) : Type 0 where
-    pub in_order : StandInOrderOfFace (printed t)
-    pub open_faces : Each (NamesOpenFace t) (printed t)
-    pub named_options : list_all (λ m. has_named_options m.message) (printed t) ≡ true
 
   -- ---- equality
 
@@ -312,12 +275,12 @@ module _ {K : Type 0} (cmp : K → K → Ordering) (matching : K → K → Bool)
 
   -- ---- undeclarations
 
-  -- Outside router regions an undeclaration by expression is printed only where the expression isn't visible, and
-  -- one by id only where the face kept a pair of the id.
+  -- Outside router regions an undeclaration by expression is printed only where the expression isn't visible.
+  -- Anywhere one by id is printed only where the face kept a pair of the id.
   abbrev pub IsGone : Turn K → ℕ → Message K → Option (FaceAt K) → Type 0
   IsGone t n (message.UndeclareToken id (Some e) node) (Some x) = is_routed x.rows x.face ≡ false → is_visible cmp x.rows x.face.region e ≡ false
   IsGone t n (message.UndeclareToken id None node) (Some x) =
-      is_routed x.rows x.face ≡ false → is_some_and (face_numbered t.before n) (λ y. has_id id y.face.told) ≡ true
+      is_some_and (face_numbered t.before n) (λ y. has_id id y.face.told) ≡ true
   IsGone t n _ at = Unit {0}
 
   abbrev pub UndeclaresWhatIsGone : Turn K → Type 0
@@ -338,11 +301,28 @@ module _ {K : Type 0} (cmp : K → K → Ordering) (matching : K → K → Bool)
   abbrev pub DrawsNextIds : Turn K → Type 0
   DrawsNextIds t = EachFace (λ n g f. HaveNextIds (printed_for (number_of_place t.after n f.number) (printed t)) f) (with_line t)
 
+  -- ---- what messages name
+
+  -- A token that answers nobody is told once: under the next id. What is ended by an id stands under it then: a kept
+  -- pair by an undeclaration, a local by an interest's final.
+  abbrev pub names_what_stands : Message K → Face K → Bool
+  names_what_stands (message.DeclareToken id e None node) f = (id == 0) || (id == f.next)
+  names_what_stands (message.UndeclareToken id None node) f = has_id id f.told
+  names_what_stands (message.InterestFinal id) f = has_id id f.locals
+  names_what_stands _ f = true
+
+  abbrev pub NameWhatStands : List (Message K) → Face K → Type 0
+  NameWhatStands [] f = Unit {0}
+  NameWhatStands (m ∷ ms) f = (names_what_stands m f ≡ true) × NameWhatStands ms (heard cmp 0 m f)
+
+  abbrev pub EndsWhatStands : Turn K → Type 0
+  EndsWhatStands t = EachFace (λ n g f. NameWhatStands (printed_for (number_of_place t.after n f.number) (printed t)) f) (with_line t)
+
   -- ---- all of them
 
   -- what holds of each turn of a transcript
   pub record MeetsPromises (t : Turn K) : Type 0 where
-    pub entry : IsEntry t
+    pub entry : IsEntry t.entry t.after
     pub exact : KeepsExactly t
     pub sparing : IsSparing t
     pub future : TellsTheFuture t
@@ -352,6 +332,7 @@ module _ {K : Type 0} (cmp : K → K → Ordering) (matching : K → K → Bool)
     pub upstream_ends : EndsUpstream t
     pub undeclarations : UndeclaresWhatIsGone t
     pub ids : DrawsNextIds t
+    pub ends : EndsWhatStands t
 
   abbrev pub MeetPromisesFrom : List (PlainLine K) → List (PlainEntry K) → Fabric K → Type 0
   MeetPromisesFrom lines entries s = (length entries ≡ length lines) × Each MeetsPromises (turns_from lines entries s)
