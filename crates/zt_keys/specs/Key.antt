@@ -23,8 +23,6 @@ pub record KeyLaws {K : Type 0} (cmp : K → K → Ordering) (matching : K → K
   -- keys that compare equal are the same value
   pub equal_is_same : (a b : K) → cmp a b ≡ Equal → a ≡ b
   pub reads_back : (key : K) → reading (printed key) ≡ Ok key
-  -- a key has one spelling
-  pub one_spelling : (text : List ℕ) (key : K) → reading text ≡ Ok key → printed key ≡ text
   -- want of memory is no answer to a text
   pub never_memory : (text : List ℕ) → reading text ≢ Err Memory
   pub prints_some : (key : K) → printed key ≢ []
@@ -32,6 +30,10 @@ pub record KeyLaws {K : Type 0} (cmp : K → K → Ordering) (matching : K → K
   pub prints_utf8 : (key : K) → IsUtf8 (printed key)
   pub matches_itself : (key : K) → matching key key ≡ true
   pub matches_back : (a b : K) → matching a b ≡ matching b a
+
+-- a key is read from its printed text alone. No law of keys: a type of keys may normalise what it reads
+abbrev pub OneSpelling : {K : Type 0} → (List ℕ → Result K KeyError) → (K → List ℕ) → Type 0
+OneSpelling {K} reading printed = (text : List ℕ) (key : K) → reading text ≡ Ok key → printed key ≡ text
 
 -- a text without blanks has none of the byte `c`, which is one
 pub no_byte : (c : ℕ) → is_blank c ≡ true → (bytes : List ℕ) → All (λ b. is_blank b ≡ false) bytes → All (λ b. (b == c) ≡ false) bytes

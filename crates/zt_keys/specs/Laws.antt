@@ -16,7 +16,7 @@ use Rattle.zt_keys.specs.Expression.{Expression, bytes_of, make, is_expression, 
 use Rattle.zt_keys.specs.Matching.{matching, parts}
 use Rattle.zt_keys.specs.Test.{by_test}
 use Rattle.zt_keys.specs.Meet.{parts_match-sym, parts_match-itself}
-use Rattle.zt_keys.specs.Key.{KeyLaws, is_blank}
+use Rattle.zt_keys.specs.Key.{KeyLaws, OneSpelling, is_blank}
 use Rattle.zt_keys.specs.declared.error.KeyError.{KeyError}
 use Rattle.zt_keys.specs.declared.error.KeyError.TheVariants.{Empty, Memory}
 
@@ -58,7 +58,7 @@ spelling-if : (text : List ℕ) (b : Bool) (h : is_expression text ≡ b) (key :
 spelling-if text true h key e = let same : make text h ≡ key = cc in sym (ap bytes_of same)
 spelling-if text false h key e = cc
 
-pub one_spelling : (text : List ℕ) (key : Expression) → reading text ≡ Ok key → key.bytes ≡ text
+pub one_spelling : OneSpelling reading (λ key. key.bytes)
 unfolding reading
 one_spelling text key e = spelling-if text (is_expression text) refl key e
 
@@ -180,7 +180,6 @@ pub expression_laws : KeyLaws (λ a b. slice_cmp nat_cmp a.bytes b.bytes) matchi
 expression_laws = record {
   equal_is_same = equal_is_same;
   reads_back = reads_back;
-  one_spelling = one_spelling;
   never_memory = never_memory;
   prints_some = prints_some;
   prints_no_blank = prints_no_blank;

@@ -45,7 +45,7 @@ pub trait Key: Ord + Eq + Hash + Drop + Sized {
     fn copy(&self, alloc: Global) -> Result<Self, Memory>
         ensures { IfOk result (λ key. key ≡ self.now) };
 
-    /// Equal keys are the same value, a text and its key spell each other, a printed text has no blank, and matching is reflexive
-    /// and symmetric. That order, equality and hash agree is said by the laws of `Ord`, `Eq` and `Hash`.
+    /// Equal keys are the same value, a key's text is read as the key and has no blank, and matching is reflexive and
+    /// symmetric. That order, equality and hash agree is said by the laws of `Ord`, `Eq` and `Hash`.
     ghost laws: { KeyLaws Self.cmp matching reading printed };
 }

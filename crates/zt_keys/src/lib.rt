@@ -5,6 +5,7 @@ mod check;
 mod error;
 mod expr;
 mod key;
+mod spelling;
 #[cfg(test)]
 mod tests;
 mod walk;
@@ -12,3 +13,4 @@ mod walk;
 pub use error::{KeyError, Memory};
 pub use expr::KeyExpr;
 pub use key::Key;
+pub use spelling::key_expressions_have_one_spelling;

@@ -1,5 +1,5 @@
 -- What a message line is read as is the message of which it is the printed form.
-use Rattle.std.proofs.Common.{◌≡◌, ◌↔◌, inl, inr, ℕ, ◌<◌, ◌≤◌, Bool, true, false, cond, List, [], ◌∷◌, ◌++◌, Option, Some, None, Result, Ok, Err, refl, sym, ap, subst, ◌∙◌, append_assoc, arith}
+use Rattle.std.proofs.Common.{◌≡◌, inl, inr, ℕ, ◌<◌, ◌≤◌, Bool, true, false, cond, List, [], ◌∷◌, ◌++◌, Option, Some, None, Result, Ok, Err, refl, sym, ap, subst, ◌∙◌, append_assoc, arith}
 use Rattle.std.proofs.lemmas.Bool.{cond-true}
 use Rattle.std.proofs.lemmas.List.{append_cancel_right}
 use Rattle.std.proofs.lemmas.Str.{is_utf8-from_IsUtf8}
@@ -7,7 +7,7 @@ use Rattle.std.specs.Prelude.{codes, decimal}
 use Rattle.std.specs.List.{AllByRecursion}
 use Rattle.std.specs.Str.{bytes_eq, is_utf8}
 use Rattle.std.specs.declared.cmp.Ordering.{Ordering}
-use Rattle.zt_keys.specs.Key.{KeyLaws}
+use Rattle.zt_keys.specs.Key.{KeyLaws, OneSpelling}
 use Rattle.zt_keys.specs.declared.error.KeyError.{KeyError}
 use Rattle.zt_protocol.specs.declared.entries.Sent.{Sent}
 use Rattle.zt_protocol.specs.declared.errors.LineError.{LineError}
@@ -64,27 +64,23 @@ options_prints = record {
   complete = λ o rest h. value_complete (spelled_by options_of) IsOptions exact_options (options_text o) rest o (record { spelled = refl; known = h });
 }
 
-key_prints : {K : Type 0} (cmp : K → K → Ordering) (matching : K → K → Bool) (reading : List ℕ → Result K KeyError) (printed : K → List ℕ) → KeyLaws cmp matching reading printed → Prints (key_read reading) printed (λ key. Unit {0})
-key_prints cmp matching reading printed laws = record {
-  sound = λ fields x h. let v = value_sound (key_read reading) (IsKey reading) (exact_key reading) fields x h in (v.1 ∙ ap (λ (t : List ℕ). t ∷ x.1) (sym (laws.one_spelling v.0 x.0 v.2.accepted)), tt);
-  complete = λ key rest h. value_complete (key_read reading) (IsKey reading) (exact_key reading) (printed key) rest key (record { nonempty = laws.prints_some key; unblanked = laws.prints_no_blank key; accepted = laws.reads_back key });
-}
+-- the fields behind a message line's mark
+abbrev fields_behind : {K : Type 0} → (K → List ℕ) → Sent K → Fields
+fields_behind printed sent = decimal sent.gateway ∷ decimal sent.face ∷ message_fields printed sent.message
 
-module _ {K : Type 0} (cmp : K → K → Ordering) (matching : K → K → Bool) (reading : List ℕ → Result K KeyError) (printed : K → List ℕ) (laws : KeyLaws cmp matching reading printed) where
-  keys : Prints (key_read reading) printed (λ key. Unit {0})
-  keys = key_prints cmp matching reading printed laws
+-- ---- a line that is read is the printed form of what it is read as, where keys have one spelling
+
+module _ {K : Type 0} (reading : List ℕ → Result K KeyError) (printed : K → List ℕ) (spelling : OneSpelling reading printed) where
+  key_sound : (fields : Fields) (x : K × Fields) → value_at (key_read reading) fields ≡ Ok x → fields ≡ printed x.0 ∷ x.1
+  key_sound fields x h = let v = value_sound (key_read reading) (IsKey reading) (exact_key reading) fields x h in v.1 ∙ ap (λ (t : List ℕ). t ∷ x.1) (sym (spelling v.0 x.0 v.2.accepted))
 
   last_sound : (fields : Fields) (key : K) → last_key_at reading fields ≡ Ok key → fields ≡ printed key ∷ []
   unfolding last_key_at
   last_sound fields key h =
       let a = bind_ok (value_at (key_read reading) fields) _ key h in
       let z = bind_ok (end_at a.0.1) _ key a.2 in
-      let v = keys.sound fields a.0 a.1 in
-      v.0 ∙ (ap (λ (t : Fields). printed a.0.0 ∷ t) (end_sound a.0.1 z.0 z.1) ∙ ap (λ (k : K). printed k ∷ []) (ok_is a.0.0 key z.2))
-
-  last_complete : (key : K) → last_key_at reading (printed key ∷ []) ≡ Ok key
-  unfolding last_key_at
-  last_complete key = rw (keys.complete key [] tt) refl
+      let v = key_sound fields a.0 a.1 in
+      v ∙ (ap (λ (t : Fields). printed a.0.0 ∷ t) (end_sound a.0.1 z.0 z.1) ∙ ap (λ (k : K). printed k ∷ []) (ok_is a.0.0 key z.2))
 
   optional_sound : (fields : Fields) (o : Option K) → last_optional_key_at reading fields ≡ Ok o → fields ≡ key_fields printed o
   unfolding last_optional_key_at
@@ -92,11 +88,6 @@ module _ {K : Type 0} (cmp : K → K → Ordering) (matching : K → K → Bool)
   optional_sound (field ∷ fields) o h =
       let a = bind_ok (last_key_at reading (field ∷ fields)) _ o h in
       last_sound (field ∷ fields) a.0 a.1 ∙ ap (key_fields printed) (ok_is (Some a.0) o a.2)
-
-  optional_complete : (o : Option K) → last_optional_key_at reading (key_fields printed o) ≡ Ok o
-  unfolding last_optional_key_at
-  optional_complete None = refl
-  optional_complete (Some key) = rw (last_complete key) refl
 
   token_sound : (fields : Fields) (m : Message K) → token_at reading fields ≡ Ok m → (codes "token" ∷ fields ≡ message_fields printed m) × IsMessage m
   unfolding token_at
@@ -230,6 +221,65 @@ module _ {K : Type 0} (cmp : K → K → Ordering) (matching : K → K → Bool)
       (word_row word (codes "queryable") fields (queryable_message_at reading fields) _ m (queryable_message_sound fields m)
       (λ h. absurd cc)))))))))
 
+  behind_sound : (fields : Fields) (sent : Sent K) → sent_behind reading fields ≡ Ok sent → (fields ≡ fields_behind printed sent) × IsSent sent
+  unfolding sent_behind
+  behind_sound fields sent h =
+      let a = bind_ok (value_at (spelled_by u32_of) fields) _ sent h in
+      let b = bind_ok (value_at (spelled_by u32_of) a.0.1) _ sent a.2 in
+      let c = bind_ok (field_at b.0.1) _ sent b.2 in
+      let d = bind_ok (message_by reading c.0.0 c.0.1) _ sent c.2 in
+      let made : Sent K = record { gateway = a.0.0; face = b.0.0; message = d.0 } in
+      let aa = u32_prints.sound fields a.0 a.1 in
+      let bb = u32_prints.sound a.0.1 b.0 b.1 in
+      let mm = message_sound c.0.0 c.0.1 d.0 d.1 in
+      let same : fields ≡ fields_behind printed made = aa.0 ∙ ap (λ (t : Fields). decimal a.0.0 ∷ t) (bb.0 ∙ ap (λ (t : Fields). decimal b.0.0 ∷ t) (field_is b.0.1 c.0 c.1 ∙ mm.0)) in
+      let fits : IsSent made = record { gateway = aa.1; face = bb.1; message = mm.1 } in
+      subst (λ (s : Sent K). (fields ≡ fields_behind printed s) × IsSent s) (ok_is made sent d.2) (same, fits)
+    where
+      field_is : (fields : Fields) (x : List ℕ × Fields) → field_at fields ≡ Ok x → fields ≡ x.0 ∷ x.1
+      field_is [] x h = absurd cc
+      field_is (field ∷ rest) x h = let same = ok_is (field, rest) x h in ap (λ (p : List ℕ × Fields). p.0 ∷ p.1) same
+
+  at_sound : (fields : Fields) (sent : Sent K) → sent_at reading fields ≡ Ok sent → (fields ≡ codes ">" ∷ fields_behind printed sent) × IsSent sent
+  unfolding sent_at
+  at_sound [] sent h = absurd cc
+  at_sound (mark ∷ rest) sent h =
+      elim (chosen (bytes_eq mark (codes ">")) (sent_behind reading rest) _ (Ok sent) h) [
+        | inl g ↦
+            let b = behind_sound rest sent g.1 in
+            (ap (λ (t : List ℕ). t ∷ rest) (same_bytes mark (codes ">") g.0) ∙ ap (λ (t : Fields). codes ">" ∷ t) b.0, b.1)
+        | inr g ↦ absurd cc
+      ]
+
+  settled_ok : {A : Type 0} (r : Result A LineError) (x : A) → settled r ≡ Ok x → r ≡ Ok x
+  settled_ok (Ok y) x h = h
+  settled_ok (Err e) x h = absurd cc
+
+  pub read_sound : (bytes : List ℕ) (sent : Sent K) → sent_read reading bytes ≡ Ok sent → IsSent sent × (bytes ++ 10 ∷ [] ≡ sent_text printed sent)
+  unfolding sent_read
+  read_sound bytes sent h =
+      elim (chosen (is_utf8 bytes) (settled (sent_at reading (fields_of bytes))) (Err errors.NotUtf8) (Ok sent) h) [
+        | inl g ↦
+            let s = at_sound (fields_of bytes) sent (settled_ok (sent_at reading (fields_of bytes)) sent g.1) in
+            (s.1, ap (λ (t : List ℕ). t ++ 10 ∷ []) (line_from_fields bytes (codes ">") (fields_behind printed sent) s.0) ∙ append_assoc (codes ">") (spaced (fields_behind printed sent)) (10 ∷ []))
+        | inr g ↦ absurd cc
+      ]
+
+-- ---- a printed message is read back
+
+module _ {K : Type 0} (cmp : K → K → Ordering) (matching : K → K → Bool) (reading : List ℕ → Result K KeyError) (printed : K → List ℕ) (laws : KeyLaws cmp matching reading printed) where
+  key_complete : (key : K) (rest : Fields) → value_at (key_read reading) (printed key ∷ rest) ≡ Ok (key, rest)
+  key_complete key rest = value_complete (key_read reading) (IsKey reading) (exact_key reading) (printed key) rest key (record { nonempty = laws.prints_some key; unblanked = laws.prints_no_blank key; accepted = laws.reads_back key })
+
+  last_complete : (key : K) → last_key_at reading (printed key ∷ []) ≡ Ok key
+  unfolding last_key_at
+  last_complete key = rw (key_complete key []) refl
+
+  optional_complete : (o : Option K) → last_optional_key_at reading (key_fields printed o) ≡ Ok o
+  unfolding last_optional_key_at
+  optional_complete None = refl
+  optional_complete (Some key) = rw (last_complete key) refl
+
   -- the word of a message and the fields behind it, and that these are read as the message
   message_complete : (m : Message K) → IsMessage m → (word : List ℕ) × (fields : Fields) × (message_fields printed m ≡ word ∷ fields) × (message_by reading word fields ≡ Ok m)
   unfolding message_by token_at answer_at untoken_at final_at asked_at asked_final_at subscriber_message_at queryable_message_at
@@ -250,40 +300,7 @@ module _ {K : Type 0} (cmp : K → K → Ordering) (matching : K → K → Bool)
   message_complete (DeclareQueryable id expr info interest) h =
       (codes "queryable", decimal interest ∷ decimal id ∷ flag_text info.complete ∷ decimal info.distance ∷ printed expr ∷ [], refl, rw (u32_prints.complete interest (decimal id ∷ flag_text info.complete ∷ decimal info.distance ∷ printed expr ∷ []) h.1, u32_prints.complete id (flag_text info.complete ∷ decimal info.distance ∷ printed expr ∷ []) h.0, flag_prints.complete info.complete (decimal info.distance ∷ printed expr ∷ []) tt, u16_prints.complete info.distance (printed expr ∷ []) h.2, last_complete expr) refl)
 
-  abbrev fields_behind : Sent K → Fields
-  fields_behind sent = decimal sent.gateway ∷ decimal sent.face ∷ message_fields printed sent.message
-
-  behind_sound : (fields : Fields) (sent : Sent K) → sent_behind reading fields ≡ Ok sent → (fields ≡ fields_behind sent) × IsSent sent
-  unfolding sent_behind
-  behind_sound fields sent h =
-      let a = bind_ok (value_at (spelled_by u32_of) fields) _ sent h in
-      let b = bind_ok (value_at (spelled_by u32_of) a.0.1) _ sent a.2 in
-      let c = bind_ok (field_at b.0.1) _ sent b.2 in
-      let d = bind_ok (message_by reading c.0.0 c.0.1) _ sent c.2 in
-      let made : Sent K = record { gateway = a.0.0; face = b.0.0; message = d.0 } in
-      let aa = u32_prints.sound fields a.0 a.1 in
-      let bb = u32_prints.sound a.0.1 b.0 b.1 in
-      let mm = message_sound c.0.0 c.0.1 d.0 d.1 in
-      let same : fields ≡ fields_behind made = aa.0 ∙ ap (λ (t : Fields). decimal a.0.0 ∷ t) (bb.0 ∙ ap (λ (t : Fields). decimal b.0.0 ∷ t) (field_is b.0.1 c.0 c.1 ∙ mm.0)) in
-      let fits : IsSent made = record { gateway = aa.1; face = bb.1; message = mm.1 } in
-      subst (λ (s : Sent K). (fields ≡ fields_behind s) × IsSent s) (ok_is made sent d.2) (same, fits)
-    where
-      field_is : (fields : Fields) (x : List ℕ × Fields) → field_at fields ≡ Ok x → fields ≡ x.0 ∷ x.1
-      field_is [] x h = absurd cc
-      field_is (field ∷ rest) x h = let same = ok_is (field, rest) x h in ap (λ (p : List ℕ × Fields). p.0 ∷ p.1) same
-
-  at_sound : (fields : Fields) (sent : Sent K) → sent_at reading fields ≡ Ok sent → (fields ≡ codes ">" ∷ fields_behind sent) × IsSent sent
-  unfolding sent_at
-  at_sound [] sent h = absurd cc
-  at_sound (mark ∷ rest) sent h =
-      elim (chosen (bytes_eq mark (codes ">")) (sent_behind reading rest) _ (Ok sent) h) [
-        | inl g ↦
-            let b = behind_sound rest sent g.1 in
-            (ap (λ (t : List ℕ). t ∷ rest) (same_bytes mark (codes ">") g.0) ∙ ap (λ (t : Fields). codes ">" ∷ t) b.0, b.1)
-        | inr g ↦ absurd cc
-      ]
-
-  at_complete : (sent : Sent K) → IsSent sent → sent_at reading (codes ">" ∷ fields_behind sent) ≡ Ok sent
+  at_complete : (sent : Sent K) → IsSent sent → sent_at reading (codes ">" ∷ fields_behind printed sent) ≡ Ok sent
   unfolding sent_at sent_behind
   at_complete sent fits =
       let m = message_complete sent.message fits.message in
@@ -329,47 +346,30 @@ module _ {K : Type 0} (cmp : K → K → Ordering) (matching : K → K → Bool)
   clean_message (DeclareSubscriber id expr interest) h = (clean_plain (codes "subscriber") refl, (clean_u32 interest h.1, (clean_u32 id h.0, (clean_key expr, tt))))
   clean_message (DeclareQueryable id expr info interest) h = (clean_plain (codes "queryable") refl, (clean_u32 interest h.1, (clean_u32 id h.0, (clean_flag info.complete, (clean_u16 info.distance h.2, (clean_key expr, tt))))))
 
-  clean_sent : (sent : Sent K) → IsSent sent → AllClean (fields_behind sent)
+  clean_sent : (sent : Sent K) → IsSent sent → AllClean (fields_behind printed sent)
   clean_sent sent fits = (clean_u32 sent.gateway fits.gateway, (clean_u32 sent.face fits.face, clean_message sent.message fits.message))
 
   -- ---- the line
 
-  settled_ok : {A : Type 0} (r : Result A LineError) (x : A) → settled r ≡ Ok x → r ≡ Ok x
-  settled_ok (Ok y) x h = h
-  settled_ok (Err e) x h = absurd cc
-
-  read_sound : (bytes : List ℕ) (sent : Sent K) → sent_read reading bytes ≡ Ok sent → IsSent sent × (bytes ++ 10 ∷ [] ≡ sent_text printed sent)
-  unfolding sent_read
-  read_sound bytes sent h =
-      elim (chosen (is_utf8 bytes) (settled (sent_at reading (fields_of bytes))) (Err errors.NotUtf8) (Ok sent) h) [
-        | inl g ↦
-            let s = at_sound (fields_of bytes) sent (settled_ok (sent_at reading (fields_of bytes)) sent g.1) in
-            (s.1, ap (λ (t : List ℕ). t ++ 10 ∷ []) (line_from_fields bytes (codes ">") (fields_behind sent) s.0) ∙ append_assoc (codes ">") (spaced (fields_behind sent)) (10 ∷ []))
-        | inr g ↦ absurd cc
-      ]
-
-  read_complete : (bytes : List ℕ) (sent : Sent K) → IsSent sent → bytes ++ 10 ∷ [] ≡ sent_text printed sent → sent_read reading bytes ≡ Ok sent
+  pub read_complete : (bytes : List ℕ) (sent : Sent K) → IsSent sent → bytes ++ 10 ∷ [] ≡ sent_text printed sent → sent_read reading bytes ≡ Ok sent
   unfolding sent_read
   read_complete bytes sent fits line =
       let clean = clean_sent sent fits in
       let mark = clean_plain (codes ">") refl in
-      let is : bytes ≡ codes ">" ++ spaced (fields_behind sent) = append_cancel_right bytes (codes ">" ++ spaced (fields_behind sent)) (10 ∷ []) (line ∙ sym (append_assoc (codes ">") (spaced (fields_behind sent)) (10 ∷ []))) in
-      let text : is_utf8 bytes ≡ true = ap is_utf8 is ∙ is_utf8-from_IsUtf8 (codes ">" ++ spaced (fields_behind sent)) (text_of_line (codes ">") (fields_behind sent) mark clean) in
-      let parts : fields_of bytes ≡ codes ">" ∷ fields_behind sent = ap fields_of is ∙ fields_of_line (codes ">") (fields_behind sent) mark clean in
+      let is : bytes ≡ codes ">" ++ spaced (fields_behind printed sent) = append_cancel_right bytes (codes ">" ++ spaced (fields_behind printed sent)) (10 ∷ []) (line ∙ sym (append_assoc (codes ">") (spaced (fields_behind printed sent)) (10 ∷ []))) in
+      let text : is_utf8 bytes ≡ true = ap is_utf8 is ∙ is_utf8-from_IsUtf8 (codes ">" ++ spaced (fields_behind printed sent)) (text_of_line (codes ">") (fields_behind printed sent) mark clean) in
+      let parts : fields_of bytes ≡ codes ">" ∷ fields_behind printed sent = ap fields_of is ∙ fields_of_line (codes ">") (fields_behind printed sent) mark clean in
       cond-true _ _ _ text ∙ ap settled (ap (sent_at reading) parts ∙ at_complete sent fits)
-
-  pub sent_exactly : (bytes : List ℕ) (sent : Sent K) → (sent_read reading bytes ≡ Ok sent) ↔ (IsSent sent × (bytes ++ 10 ∷ [] ≡ sent_text printed sent))
-  sent_exactly bytes sent = (read_sound bytes sent, λ h. read_complete bytes sent h.0 h.1)
 
   -- a message's line, before the line feed
   abbrev pub sent_line : Sent K → List ℕ
-  sent_line sent = codes ">" ++ spaced (fields_behind sent)
+  sent_line sent = codes ">" ++ spaced (fields_behind printed sent)
 
   pub line_feedless : (sent : Sent K) → IsSent sent → AllByRecursion (λ b. is_byte 10 b ≡ false) (sent_line sent)
-  line_feedless sent fits = feedless_line (codes ">") (fields_behind sent) (clean_plain (codes ">") refl) (clean_sent sent fits)
+  line_feedless sent fits = feedless_line (codes ">") (fields_behind printed sent) (clean_plain (codes ">") refl) (clean_sent sent fits)
 
   pub same_sent : (one two : Sent K) → IsSent one → IsSent two → sent_line one ≡ sent_line two → one ≡ two
   same_sent one two p q h =
-      let read = read_complete (sent_line one) one p (append_assoc (codes ">") (spaced (fields_behind one)) (10 ∷ [])) in
-      let also = read_complete (sent_line two) two q (append_assoc (codes ">") (spaced (fields_behind two)) (10 ∷ [])) in
+      let read = read_complete (sent_line one) one p (append_assoc (codes ">") (spaced (fields_behind printed one)) (10 ∷ [])) in
+      let also = read_complete (sent_line two) two q (append_assoc (codes ">") (spaced (fields_behind printed two)) (10 ∷ [])) in
       ok_is one two (sym read ∙ (ap (sent_read reading) h ∙ also))

@@ -1,4 +1,5 @@
-ghost use Rattle.std.specs.Prelude.{◌≡◌, ◌↔◌, ◌++◌, ◌∷◌, [], ℕ, List, Ok};
+ghost use Rattle.std.specs.Prelude.{◌≡◌, ◌++◌, ◌∷◌, [], ℕ, List, Ok};
+ghost use Rattle.zt_keys.specs.Key.{OneSpelling};
 ghost use Rattle.zt_protocol.specs.declared.entries.Sent.{Sent};
 ghost use Rattle.zt_protocol.specs.declared.entries.Report.{Report};
 ghost use Rattle.zt_protocol.specs.Plain.{PlainEntry};
@@ -7,11 +8,13 @@ ghost use Rattle.zt_text.specs.Text.{entries_text, sent_text, transcript_text};
 
 use zt_keys::Key;
 
-/// What `read_sent` gives is the message of which the line is the printed form.
+/// A message's printed form is read as the message, and where a key has one spelling nothing else is: what
+/// `read_sent` gives is then the message of which the line is the printed form.
 ///
 /// So no two messages have one printed form, of those whose options have no bits but the five named ones.
 pub fn printing_is_read<K: Key>()
-    ensures { (bytes : List ℕ) (sent : Sent K) → (sent_read K.reading bytes ≡ Ok sent) ↔ (IsSent sent × (bytes ++ 10 ∷ [] ≡ sent_text K.printed sent)) }
+    ensures printed { (bytes : List ℕ) (sent : Sent K) → IsSent sent → bytes ++ 10 ∷ [] ≡ sent_text K.printed sent → sent_read K.reading bytes ≡ Ok sent }
+    ensures read { OneSpelling K.reading K.printed → (bytes : List ℕ) (sent : Sent K) → sent_read K.reading bytes ≡ Ok sent → IsSent sent × (bytes ++ 10 ∷ [] ≡ sent_text K.printed sent) }
 {}
 
 /// A transcript's text names one transcript: other entries have another text, with the totals behind them or, where
