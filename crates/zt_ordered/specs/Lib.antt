@@ -8,6 +8,8 @@ pub mod Edits
 pub mod OneMore
 pub mod Counts
 pub mod Groups
+pub mod Next
+pub mod Any
 pub mod Body
 pub mod Lends
 pub mod LendsHashed

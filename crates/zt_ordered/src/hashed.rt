@@ -4,9 +4,12 @@ ghost use Rattle.std.specs.Option.{option_copied};
 ghost use Rattle.std.specs.FinMap.Entries.{put, find, is_sorted};
 ghost use Rattle.std.specs.Map.{keys_of};
 ghost use Rattle.std.specs.Map.Iter.{deref_pair};
+ghost use Rattle.zt_ordered.specs.Any.{SaysAny};
+ghost use Rattle.zt_ordered.specs.Next.{next_key};
 ghost use Rattle.zt_ordered.specs.Rows.{without};
 
 use crate::collect::{map_ids, map_rows};
+use crate::next::{any_hashed, next_hashed};
 use crate::sorted::SortedRows;
 use std::alloc::{AllocError, Global};
 use std::collections::HashMap;
@@ -56,6 +59,19 @@ impl<P: Ord + Eq + Hash, X> HashedRows<P, X> {
         ensures { option_copied result ≡ find P.cmp key.now self.now.rows }
     {
         self.map.get(key)
+    }
+
+    pub(crate) fn next_key(&self, after: Option<&P>) -> Option<&P>
+        ensures { option_copied result ≡ next_key P.cmp (option_copied after.entry) self.now.rows }
+    {
+        next_hashed(&self.map, after)
+    }
+
+    pub(crate) fn any<F: Fn(&P, &X) -> bool>(&self, test: F) -> bool
+        requires { F.IsAlwaysCallable test }
+        ensures { SaysAny (F.post test) self.now.rows result }
+    {
+        any_hashed(&self.map, test)
     }
 
     pub(crate) fn get_mut(&mut self, key: &P) -> Option<&mut X>

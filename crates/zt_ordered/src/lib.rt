@@ -3,7 +3,8 @@
 //!
 //! Contracts see a container as a `Table`: its rows as std's entries in the order of the keys (`find`, `put`), and the
 //! room for more. Definitions and laws stand in `specs/`: `Rows` (words), `Found` and `Placing` (what rows in order
-//! find), `Sorting` (a hash map's entries in order), `Edits` (what is found after edits), `OneMore`, `Counts` and
+//! find), `Sorting` (a hash map's entries in order), `Edits` (what is found after edits), `Next` and `Any` (the key that
+//! follows, and whether a row passes), `OneMore`, `Counts` and
 //! `Groups` (indexes that equal what the rows give from scratch).
 #![tactic(auto)]
 
@@ -11,6 +12,7 @@ mod collect;
 mod counts;
 mod groups;
 mod hashed;
+mod next;
 mod rows;
 mod search;
 mod sorted;

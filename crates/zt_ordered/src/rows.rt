@@ -4,6 +4,8 @@ ghost use Rattle.std.specs.Option.{option_copied};
 ghost use Rattle.std.specs.FinMap.Entries.{put, find, is_sorted};
 ghost use Rattle.std.specs.Map.{keys_of};
 ghost use Rattle.std.specs.Map.Iter.{deref_pair};
+ghost use Rattle.zt_ordered.specs.Any.{SaysAny};
+ghost use Rattle.zt_ordered.specs.Next.{next_key};
 ghost use Rattle.zt_ordered.specs.Rows.{without};
 
 use crate::hashed::HashedRows;
@@ -76,6 +78,27 @@ impl<P: Ord + Eq + Hash, X> OrderedRows<P, X> {
         match &self.body {
             Body::Few(few) => few.get(key),
             Body::Many(many) => many.get(key),
+        }
+    }
+
+    /// The first key above the given one, or the first of all where none is given. A scan where the rows are many.
+    pub fn next_key(&self, after: Option<&P>) -> Option<&P>
+        ensures { option_copied result ≡ next_key P.cmp (option_copied after.entry) self.now.rows }
+    {
+        match &self.body {
+            Body::Few(few) => few.next_key(after),
+            Body::Many(many) => many.next_key(after),
+        }
+    }
+
+    /// Whether some row passes the test of its key and of what stands under it. A scan.
+    pub fn any<F: Fn(&P, &X) -> bool>(&self, test: F) -> bool
+        requires { F.IsAlwaysCallable test }
+        ensures { SaysAny (F.post test) self.now.rows result }
+    {
+        match &self.body {
+            Body::Few(few) => few.any(test),
+            Body::Many(many) => many.any(test),
         }
     }
 

@@ -4,9 +4,12 @@ ghost use Rattle.std.specs.Option.{option_copied};
 ghost use Rattle.std.specs.FinMap.Entries.{put, find, is_sorted};
 ghost use Rattle.std.specs.Map.{keys_of};
 ghost use Rattle.std.specs.Map.Iter.{deref_pair};
+ghost use Rattle.zt_ordered.specs.Any.{SaysAny};
+ghost use Rattle.zt_ordered.specs.Next.{next_key};
 ghost use Rattle.zt_ordered.specs.Rows.{without};
 
 use crate::collect::{ids_of, rows_of};
+use crate::next::{any_in_order, next_in_order};
 use crate::search::place_of;
 use std::alloc::{AllocError, Global};
 use std::marker::Model;
@@ -67,6 +70,19 @@ impl<P: Ord, X> SortedRows<P, X> {
             Ok(at) => Some(&self.rows[at].1),
             Err(_) => None,
         }
+    }
+
+    pub(crate) fn next_key(&self, after: Option<&P>) -> Option<&P>
+        ensures { option_copied result ≡ next_key P.cmp (option_copied after.entry) self.now.rows }
+    {
+        next_in_order(&self.rows, after)
+    }
+
+    pub(crate) fn any<F: Fn(&P, &X) -> bool>(&self, test: F) -> bool
+        requires { F.IsAlwaysCallable test }
+        ensures { SaysAny (F.post test) self.now.rows result }
+    {
+        any_in_order(&self.rows, test)
     }
 
     pub(crate) fn get_mut(&mut self, key: &P) -> Option<&mut X>

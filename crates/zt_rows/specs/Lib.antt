@@ -1,0 +1,16 @@
+pub mod ById
+pub mod KeyIds
+pub mod Grouped
+pub mod GroupRoom
+pub mod AnyGroup
+pub mod GroupTable
+pub mod GroupView
+pub mod Plain
+pub mod Ask
+pub mod AskView
+pub mod Face
+pub mod Rooms
+pub mod FaceView
+pub mod Change
+pub mod Waiting
+pub mod OutboxView

@@ -1,0 +1,25 @@
+//! The rows of one face and of one ask in memory, the tokens of router regions, the messages that wait, and the changes
+//! of a plan.
+//!
+//! Contracts see each container as the rows of `zt_model` that it stands for, beside the room that it has. What adds a
+//! row takes no memory, so it needs room, and says that no other row changes.
+#![tactic(auto)]
+
+mod ask;
+mod change;
+mod face;
+mod grouped;
+mod key_ids;
+mod outboxes;
+mod rows;
+
+pub use ask::AskRows;
+pub use change::Change;
+pub use face::FaceRows;
+pub use grouped::GroupedKeys;
+pub use key_ids::KeyIds;
+pub use outboxes::Outboxes;
+pub use rows::{
+    AskRow, FaceRow, HeldRow, PendingRow, RemoteInterest, RouteCurrentDeclareResult,
+    RouteInterestResult, Sources, UpstreamRow,
+};

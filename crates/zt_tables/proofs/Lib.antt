@@ -1,0 +1,2 @@
+pub mod RegionOrder
+pub mod RoutedOrder

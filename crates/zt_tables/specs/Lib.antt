@@ -1,0 +1,14 @@
+pub mod Value
+pub mod Queries
+pub mod Dictionary
+pub mod Faces
+pub mod Asks
+pub mod Routed
+pub mod Live
+pub mod Drawn
+pub mod Folds
+pub mod After
+pub mod FaceActs
+pub mod Told
+pub mod ToldActs
+pub mod View

@@ -1,0 +1,284 @@
+// The tables.
+ghost use Rattle.std.specs.Prelude.{◌≡◌, ◌≤◌, [], IfSome, Some, length, option_map};
+ghost use Rattle.zt_model.specs.Acts.{next_number, outbox_of};
+ghost use Rattle.zt_model.specs.Lists.{at_id, first_of};
+ghost use Rattle.zt_rows.specs.ById.{next_id};
+ghost use Rattle.zt_tables.specs.Asks.{ask_at, number_of_ask};
+ghost use Rattle.zt_rows.specs.Waiting.{outbox_taken};
+ghost use Rattle.std.specs.Option.{option_copied};
+ghost use Rattle.zt_model.specs.Parts.{find_face};
+ghost use Rattle.std.specs.List.{list_any};
+ghost use Rattle.zt_model.specs.Trees.{is_own_row, is_routed_row, row_at};
+ghost use Rattle.zt_protocol.specs.Plain.{trees_of};
+ghost use Rattle.zt_tables.specs.Live.{SaysDeclared, SaysRouted};
+ghost use Rattle.zt_tables.specs.Queries.{next_face_after, next_number_after, numbered, table_set};
+
+use std::alloc::Global;
+use std::marker::Model;
+use zt_keys::Key;
+use zt_ordered::OrderedRows;
+use zt_protocol::{Message, TreeTable};
+use zt_region::{Admission, Region, WhatAmI, Zid};
+use zt_rows::{AskRows, FaceRow, FaceRows, GroupedKeys, KeyIds, Outboxes};
+
+/// The rows of a gateway. Contracts see them as the model's store, and apart from it the room for more.
+#[derive(Drop)]
+pub struct Tables<K: Key> {
+    zid: Zid,
+    mode: WhatAmI,
+    regions: Vec<Region>,
+    admission: Admission,
+    timeout: u64,
+    moment: u64,
+    made: u32,
+    faces: OrderedRows<u32, FaceRows<K>>,
+    asks: OrderedRows<u64, (u32, u32)>,
+    // the least number that no ask has
+    free: u64,
+    dictionary: KeyIds<K>,
+    routed: GroupedKeys<(Region, Zid), K>,
+    trees: OrderedRows<Region, TreeTable>,
+    outboxes: Outboxes<K>,
+}
+
+impl<K: Key> Model for Tables<K> {
+    ghost use Rattle.zt_tables.specs.Value.{TableRows};
+
+    ghost Value = { TableRows K };
+
+    ghost use Rattle.zt_tables.specs.View.{table_rows, AreTables};
+
+    ghost view = { table_rows };
+
+    ghost invariant = { AreTables };
+}
+
+impl<K: Key> Tables<K> {
+    /// A gateway without faces, at moment 0. It takes no memory.
+    pub fn new(
+        alloc: Global,
+        zid: Zid,
+        mode: WhatAmI,
+        regions: Vec<Region>,
+        admission: Admission,
+        timeout: u64,
+    ) -> Self
+        ensures rows { result.store.rows
+            ≡ record {
+              mode = mode;
+              zid = zid;
+              regions = regions.items;
+              refused = admission.refused.items;
+              timeout = timeout;
+              moment = 0;
+              made = 0;
+              trees = [];
+              routed = [];
+              dictionary = [];
+              faces = [];
+            } }
+        ensures numbers { result.store.numbers ≡ [] }
+        ensures outboxes { result.store.outboxes ≡ [] }
+    {
+        Tables {
+            zid,
+            mode,
+            regions,
+            admission,
+            timeout,
+            moment: 0,
+            made: 0,
+            faces: OrderedRows::new(alloc),
+            asks: OrderedRows::new(alloc),
+            free: 1,
+            dictionary: KeyIds::new(alloc),
+            routed: GroupedKeys::new(alloc),
+            trees: OrderedRows::new(alloc),
+            outboxes: Outboxes::new(alloc),
+        }
+    }
+
+    // The rows of an open face.
+    pub(crate) fn rows_of(&self, f: u32) -> Option<&FaceRows<K>>
+        ensures { option_map (λ t. t.face) (option_copied result) ≡ find_face f self.now.store.rows }
+    {
+        self.faces.get(&f)
+    }
+
+    /// The open face of the number.
+    pub fn face(&self, f: u32) -> Option<&FaceRow>
+        ensures region { option_map (λ row. row.region) (option_copied result) ≡ option_map (λ x. x.region) (find_face f self.now.store.rows) }
+        ensures bound { option_map (λ row. row.remote_bound) (option_copied result) ≡ option_map (λ x. x.bound) (find_face f self.now.store.rows) }
+        ensures mode { option_map (λ row. row.whatami) (option_copied result) ≡ option_map (λ x. x.mode) (find_face f self.now.store.rows) }
+        ensures zid { option_map (λ row. row.zid) (option_copied result) ≡ option_map (λ x. x.zid) (find_face f self.now.store.rows) }
+    {
+        match self.rows_of(f) {
+            Some(face) => Some(face.row()),
+            None => None,
+        }
+    }
+
+    /// The least number of an open face above `after`.
+    pub fn next_face(&self, after: u32) -> Option<u32>
+        ensures { result ≡ next_face_after after self.now.store.rows.faces }
+    {
+        self.faces.next_key(Some(&after)).copied()
+    }
+
+    /// The gateway's zid.
+    pub fn zid(&self) -> Zid
+        ensures { result ≡ self.now.store.rows.zid }
+    {
+        self.zid
+    }
+
+    /// The gateway's mode.
+    pub fn mode(&self) -> WhatAmI
+        ensures { result ≡ self.now.store.rows.mode }
+    {
+        self.mode
+    }
+
+    /// The south regions that the gateway was given.
+    pub fn regions(&self) -> &[Region]
+        ensures { result.now ≡ self.now.store.rows.regions }
+    {
+        &self.regions
+    }
+
+    /// The admission table.
+    pub fn admission(&self) -> &Admission
+        ensures { result.now.refused.items ≡ self.now.store.rows.refused }
+    {
+        &self.admission
+    }
+
+    /// After how long a pending ends.
+    pub fn timeout(&self) -> u64
+        ensures { result ≡ self.now.store.rows.timeout }
+    {
+        self.timeout
+    }
+
+    /// The gateway's moment.
+    pub fn moment(&self) -> u64
+        ensures { result ≡ self.now.store.rows.moment }
+    {
+        self.moment
+    }
+
+    /// The number of the next face, `None` exactly where 4294967295 faces were made.
+    pub fn next_face_number(&self) -> Option<u32>
+        ensures { result ≡ next_number_after self.now.store.rows.made }
+    {
+        self.made.checked_add(1)
+    }
+
+    /// The number of the expression in the dictionary.
+    pub fn dictionary(&self, expr: &K) -> Option<u32>
+        ensures { result ≡ numbered K.cmp K.matching expr.now self.now.store.rows.dictionary }
+    {
+        match self.dictionary.id(expr) {
+            Some(number) => Some(number as u32),
+            None => None,
+        }
+    }
+
+    /// How many expressions the dictionary has, at most 65,535.
+    pub fn dictionary_len(&self) -> u32
+        ensures len { result ≡ length self.now.store.rows.dictionary }
+        ensures most { result ≤ 65535 }
+    {
+        self.dictionary.len() as u32
+    }
+
+    /// Whether the source's row of the expression stands in the router region; the gateway's own rows stand under its
+    /// zid.
+    pub fn routed(&self, region: Region, source: Zid, expr: &K) -> bool
+        ensures { result ≡ list_any (is_routed_row K.cmp K.matching (row_at K.cmp K.matching region source expr.now)) self.now.store.rows.routed }
+    {
+        self.routed.contains(&(region, source), expr)
+    }
+
+    /// Whether the gateway itself shows the expression in the router region.
+    pub fn own_row(&self, region: Region, expr: &K) -> bool
+        ensures { result ≡ is_own_row K.cmp K.matching self.now.store.rows region expr.now }
+    {
+        self.routed(region, self.zid, expr)
+    }
+
+    /// The last table of the router region, `None` exactly where none was set.
+    pub fn tree(&self, region: Region) -> Option<&TreeTable>
+        ensures { option_map trees_of (option_copied result) ≡ table_set region self.now.store.rows.trees }
+    {
+        self.trees.get(&region)
+    }
+
+    // Whether a face of a region that passes the test declares the expression. A scan of the faces.
+    pub(crate) fn any_declared<F: Fn(&Region) -> bool>(&self, expr: &K, test: &F) -> bool
+        requires { F.IsAlwaysCallable test.now }
+        ensures { SaysDeclared (F.post test.now) K.cmp expr.now self.now.store.rows result }
+    {
+        self.faces
+            .any(|_, face| test(&face.row().region) && face.declares(expr))
+    }
+
+    // Whether another router's row of the expression stands in a region that passes the test. A scan of the routers.
+    pub(crate) fn any_routed<F: Fn(&Region) -> bool>(&self, expr: &K, test: &F) -> bool
+        requires { F.IsAlwaysCallable test.now }
+        ensures { SaysRouted (F.post test.now) K.cmp expr.now self.now.store.rows result }
+    {
+        let own = self.zid;
+        self.routed
+            .any_group(expr, |group| test(&group.0) && group.1 != own)
+    }
+
+    // The ask of a number, with what belongs to it.
+    pub(crate) fn ask_rows(&self, n: u64) -> Option<&AskRows<K>>
+        ensures ask { option_map (λ a. a.ask) (option_copied result) ≡ ask_at n self.now.store }
+        ensures place { IfSome (option_copied result) (λ a. at_id n self.now.store.numbers ≡ Some (a.face, a.id)) }
+    {
+        match self.asks.get(&n) {
+            Some(place) => match self.rows_of(place.0) {
+                Some(face) => face.ask(place.1),
+                None => None,
+            },
+            None => None,
+        }
+    }
+
+    /// The number of the next ask: the least from 1 that no standing ask has.
+    pub fn next_ask(&self) -> u64
+        ensures { result ≡ next_number self.now.store }
+    {
+        self.free
+    }
+
+    /// The ask of the face under the id, by its number.
+    pub fn ask_of(&self, f: u32, id: u32) -> Option<u64>
+        ensures { result ≡ number_of_ask (f, id) self.now.store.numbers }
+    {
+        match self.faces.get(&f) {
+            Some(face) => match face.ask(id) {
+                Some(ask) => Some(ask.number()),
+                None => None,
+            },
+            None => None,
+        }
+    }
+
+    /// The least number above `after` of a face for which a message waits.
+    pub fn next_outbox(&self, after: u32) -> Option<u32>
+        ensures { result ≡ next_id (Some after) self.now.store.outboxes }
+    {
+        self.outboxes.next(after)
+    }
+
+    /// Takes the oldest message that waits for the face; `None` exactly where there is none.
+    pub fn take_outbox(&mut self, f: u32) -> Option<Message<K>>
+        ensures message { result ≡ first_of (outbox_of f self.old.store.outboxes) }
+        ensures left { self.new ≡ record self.old { store = record self.old.store { outboxes = outbox_taken f self.old.store.outboxes } } }
+    {
+        self.outboxes.take(f)
+    }
+}
