@@ -1,5 +1,6 @@
 -- A declaration leaves the rows sound.
 use Rattle.std.proofs.Common.{◌≡◌, ℕ, Bool, true, false, cond, not, if◌then◌else◌, ◌&&◌, ◌||◌, ◌==◌, List, map, flat_map, Some, refl, sym, ap, ◌∙◌, subst, append-nil}
+use Rattle.std.proofs.Math.Bool.{or-false}
 use Rattle.std.proofs.lemmas.Bool.{and_parts, not-true}
 use Rattle.std.specs.Cmp.{IsTotalOrder}
 use Rattle.std.specs.declared.cmp.Ordering.{Ordering}
@@ -22,10 +23,6 @@ use Rattle.zt_laws.proofs.Telling.{covers_alike, heard_rows_alike, heard_tell, k
 use Rattle.zt_laws.proofs.Told.{in_order_push, names-append}
 use Rattle.zt_laws.proofs.Visible.{admitted_alike, admitted_registered, rise_put, visible_alike, visible_registered}
 
-or_false : (a : Bool) → a ≡ (a || false)
-or_false true = refl
-or_false false = refl
-
 module _ {K : Type 0} (cmp : K → K → Ordering) (matching : K → K → Bool) (total : IsTotalOrder cmp) where
   -- telling keeps a face orderly
   pub orderly_after_telling : (now : ℕ) (g : Rows K) (source : Region) (e : K) (f : Face K) → IsOrderly cmp f → IsOrderly cmp (heard_all cmp now (tell_to cmp matching g source e f) f)
@@ -41,7 +38,7 @@ module _ {K : Type 0} (cmp : K → K → Ordering) (matching : K → K → Bool)
 
   kept_anew : (b : Bool) (x e : K) (f : Face K) → keeps cmp (cond b (told_anew e f) f) x ≡ (keeps cmp f x || (b && same cmp x e))
   kept_anew true x e f = names-append cmp x f.told f.next e
-  kept_anew false x e f = or_false (keeps cmp f x)
+  kept_anew false x e f = sym (or-false (keeps cmp f x))
 
   module _ (equal_is_same : (a b : K) → cmp a b ≡ Equal → a ≡ b) (n id : ℕ) (e : K) (from : Face K) (g : Rows K) where
     -- each face after the declaration: the token is registered, and told

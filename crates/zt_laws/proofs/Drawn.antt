@@ -1,5 +1,6 @@
 -- The ids that a call draws for a face are as many as the call needs for it.
 use Rattle.std.proofs.Common.{◌≡◌, ℕ, ◌+◌, Bool, true, false, if◌then◌else◌, ◌&&◌, ◌||◌, ◌==◌, [], map, length, Option, Some, None, refl, sym, ap, ◌∙◌, subst, arith}
+use Rattle.std.proofs.Math.Bool.{or-false}
 use Rattle.std.proofs.lemmas.Bool.{and_parts}
 use Rattle.std.specs.Cmp.{IsTotalOrder}
 use Rattle.std.specs.declared.cmp.Ordering.{Ordering}
@@ -113,10 +114,6 @@ module _ {K : Type 0} (cmp : K → K → Ordering) (matching : K → K → Bool)
         cases f local None = refl
         cases f local (Some from) = ap (λ b. if b then 1 else 0) (session_is_no_target g from.region mode f local)
 
-    or_nothing : (b : Bool) → (b || false) ≡ b
-    or_nothing true = refl
-    or_nothing false = refl
-
     drawn_by_parts : (c : PlainCall K) (g : Rows K) → is_session_call c ≡ true → RowsAreSound cmp matching g → HasDrawn (need cmp matching c g) g (carried cmp matching (session_parts cmp matching c g) g)
     unfolding need
     drawn_by_parts (DeclareToken n id e node None) g built sound = cases (find_face n g) refl
@@ -126,7 +123,7 @@ module _ {K : Type 0} (cmp : K → K → Ordering) (matching : K → K → Bool)
             (carried cmp matching (elim o [ None ↦ [] | Some from ↦ declaring cmp matching n id e from ]) g)
         cases None found = drawn_nothing g
         cases (Some from) found =
-            drawn_declaring n id e from g (λ f. if is_told cmp matching g from.region e f || false then 1 else 0) (λ f. ap (λ b. if b then 1 else 0) (or_nothing (is_told cmp matching g from.region e f))) sound
+            drawn_declaring n id e from g (λ f. if is_told cmp matching g from.region e f || false then 1 else 0) (λ f. ap (λ b. if b then 1 else 0) (or-false (is_told cmp matching g from.region e f))) sound
     drawn_by_parts (DeclareToken n id e node (Some interest)) g built sound = never (and_parts (node == 0) false built).1 refl
     drawn_by_parts (UndeclareToken n id given node) g built sound = cases (find_face n g)
       where

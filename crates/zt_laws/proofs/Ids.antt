@@ -1,5 +1,6 @@
 -- A call draws no more ids than the transcript shows that it could.
 use Rattle.std.proofs.Common.{◌≡◌, ℕ, ◌+◌, ◌≤◌, ◌<◌, Bool, true, false, cond, not, if◌then◌else◌, ◌&&◌, ◌||◌, ◌==◌, nat_lt, List, [], ◌∷◌, map, filter, length, sum_by, Option, Some, None, refl, sym, ap, ◌∙◌, subst, arith, ltb-true, lt-ltb, le-ltb}
+use Rattle.std.proofs.Math.Bool.{or-false}
 use Rattle.std.proofs.lemmas.Bool.{and_parts, and_from, and_right, or_left, or_right, not-true}
 use Rattle.std.specs.Cmp.{IsTotalOrder}
 use Rattle.std.specs.List.{list_any}
@@ -56,6 +57,10 @@ length_filter_less p q (x ∷ xs) =
     (λ here. rw here (by_test (p x) (λ there. rw there (omega arith)) (λ there. rw there rest)))
     (λ here. rw here (by_test (p x) (λ there. rw there (omega arith)) (λ there. rw there rest)))
 
+-- no face has less than nothing left
+pub none_spent : {K : Type 0} (g : Rows K) (fs : List (Face K)) → list_any (λ f. not (is_routed g f) && nat_lt (left_ids f) 0) fs ≡ true → ⊥
+none_spent g fs some = never some (any_none (λ f. not (is_routed g f) && nat_lt (left_ids f) 0) fs (each_always (λ f. (not (is_routed g f) && nat_lt (left_ids f) 0) ≡ false) (λ f. and_right (not (is_routed g f)) (nat_lt (left_ids f) 0) (le-ltb (left_ids f) 0 (omega arith))) fs))
+
 some_there : {A : Type 0} (p : A → Bool) (xs : List A) → list_any p xs ≡ true → 1 ≤ length xs
 some_there p [] h = never h refl
 some_there p (x ∷ xs) h = omega arith
@@ -92,10 +97,6 @@ module _ {K : Type 0} (cmp : K → K → Ordering) (matching : K → K → Bool)
       length (filter (λ e. not (keeps cmp f e)) (visible_expressions cmp after f.region))
       + (sum_by (λ x. length x.held) after.faces + sum_by (asks_upstream cmp matching) after.faces)
 
-  or_nothing : (b : Bool) → (b || false) ≡ b
-  or_nothing true = refl
-  or_nothing false = refl
-
   -- what a session's token needs, over the rows that its parts leave
   need_declare : (n id : ℕ) (e : K) (g : Rows K) (f : Face K) → ids_for_token cmp matching n None e g f ≤ could_from (altered_by cmp matching (elim (find_face n g) [ None ↦ [] | Some from ↦ declaring cmp matching n id e from ]) g) f
   unfolding altered_by
@@ -106,7 +107,7 @@ module _ {K : Type 0} (cmp : K → K → Ordering) (matching : K → K → Bool)
           ≤ could_from (altered_by cmp matching (elim o [ None ↦ [] | Some from ↦ declaring cmp matching n id e from ]) g) f
       cases None found = omega arith
       cases (Some from) found =
-          subst (λ b. (if b then 1 else 0) ≤ could_from (with_face n (registered id e) g) f) (sym (or_nothing (is_told cmp matching g from.region e f)))
+          subst (λ b. (if b then 1 else 0) ≤ could_from (with_face n (registered id e) g) f) (sym (or-false (is_told cmp matching g from.region e f)))
           (by_test (is_told cmp matching g from.region e f)
           (λ here.
           let whole = and_parts (not (is_routed g f)) (admits g.refused from.region f.region && shows f.region from.region && not (keeps cmp f e) && seeks matching f e) here in
@@ -178,11 +179,8 @@ module _ {K : Type 0} (cmp : K → K → Ordering) (matching : K → K → Bool)
           and_from (not (is_routed g f)) (nat_lt (left_ids f) (could cmp matching c g f)) parts.0 (less_with (left_ids f) (need cmp matching c g f) (could cmp matching c g f) (need_is_less c g built sessions f local) parts.1))
           g.faces sessions.faces h
 
-      none_spent : (fs : List (Face K)) → list_any (λ f. not (is_routed g f) && nat_lt (left_ids f) 0) fs ≡ true → ⊥
-      none_spent fs some = never some (any_none (λ f. not (is_routed g f) && nat_lt (left_ids f) 0) fs (each_always (λ f. (not (is_routed g f) && nat_lt (left_ids f) 0) ≡ false) (λ f. and_right (not (is_routed g f)) (nat_lt (left_ids f) 0) (le-ltb (left_ids f) 0 (omega arith))) fs))
-
       by_kind : (c : PlainCall K) → is_session_call c ≡ true → list_any (λ f. not (is_routed g f) && nat_lt (left_ids f) (need cmp matching c g f)) (faces_with cmp matching c g) ≡ true → (can_draw cmp matching c && list_any (λ f. not (is_routed g f) && nat_lt (left_ids f) (could cmp matching c g f)) (faces_with cmp matching c g)) ≡ true
       by_kind (DeclareToken n id e node interest) built h = more (DeclareToken n id e node interest) built h
       by_kind (Interest n id mode options e) built h = more (Interest n id mode options e) built h
-      by_kind (UndeclareToken n id given node) built h = absurd (none_spent g.faces h)
+      by_kind (UndeclareToken n id given node) built h = absurd (none_spent g g.faces h)
       by_kind c built h = never built refl

@@ -1,5 +1,6 @@
 -- What the answers to an interest leave at the face that asked, and that it keeps what it should then.
 use Rattle.std.proofs.Common.{◌≡◌, ℕ, ◌+◌, ◌≤◌, ◌<◌, max, Bool, true, false, not, ◌&&◌, ◌||◌, ◌==◌, List, [], ◌∷◌, ◌++◌, filter, length, Option, Some, None, refl, sym, ap, ◌∙◌, subst, arith, append_assoc, append-nil, ⊎_elim, eq-eqb}
+use Rattle.std.proofs.Math.Bool.{or-false}
 use Rattle.std.proofs.lemmas.Bool.{and_parts, and_from, or_left, or_right, or_cases, or_parts, not_from_false, not-true}
 use Rattle.std.proofs.lemmas.Cmp.{ranked}
 use Rattle.std.specs.Cmp.{IsTotalOrder}
@@ -177,10 +178,6 @@ absorbed : (a b : Bool) → (a || (not a && b)) ≡ (a || b)
 absorbed true b = refl
 absorbed false b = refl
 
-or_false : (a : Bool) → a ≡ (a || false)
-or_false true = refl
-or_false false = refl
-
 module _ {K : Type 0} (cmp : K → K → Ordering) (matching : K → K → Bool) (total : IsTotalOrder cmp) where
   -- the answers stand in key order
   pub answered_in_order : (g : Rows K) (interest : InterestRow K) (f : Face K) → InKeyOrder cmp (answered_expressions cmp matching g interest f)
@@ -222,7 +219,7 @@ module _ {K : Type 0} (cmp : K → K → Ordering) (matching : K → K → Bool)
         (any-append (λ row. same cmp x row.1) f.told (numbered f.next (not_named cmp f.told es))
         ∙ ap (λ b. names cmp x f.told || b) (names-numbered cmp x f.next (not_named cmp f.told es) ∙ among-filter cmp total equal_is_same (λ e. not (names cmp e f.told)) x es)
         ∙ absorbed (names cmp x f.told) (is_among cmp x es)))
-        (λ future. rw future (or_false (names cmp x f.told)))
+        (λ future. rw future (sym (or-false (names cmp x f.told))))
 
     -- After an interest is held and answered the face keeps what it should.
     pub keeps_after_asking : (g0 g2 : Rows K) (f0 f2 : Face K) (interest : InterestRow K)

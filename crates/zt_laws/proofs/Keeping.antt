@@ -1,5 +1,6 @@
 -- What a face keeps after messages is what they say, one by one.
 use Rattle.std.proofs.Common.{◌≡◌, ℕ, max, Bool, true, false, cond, not, ◌&&◌, ◌||◌, ◌==◌, List, [], ◌∷◌, ◌++◌, filter, Some, None, refl, sym, ap, ◌∙◌, arith, eqb-true}
+use Rattle.std.proofs.Math.Bool.{or-false}
 use Rattle.std.proofs.lemmas.Bool.{and_parts, or_left}
 use Rattle.std.specs.Cmp.{IsTotalOrder}
 use Rattle.std.specs.declared.cmp.Ordering.{Ordering}
@@ -74,12 +75,8 @@ module _ {K : Type 0} (cmp : K → K → Ordering) where
         (λ row. ap (λ j. (j == row.0) && same cmp e row.1) (eqb-true i k ids) ∙ ap (λ b. (k == row.0) && b) (same_left cmp total e x row.1 keys)) rows
 
     pub pair_told : (id token : ℕ) (e k : K) (rows : ById K) → has_pair cmp id e (told_pair cmp token k rows) ≡ (has_pair cmp id e rows || (not (token == 0) && ((id == token) && same cmp e k)))
-    pair_told id token e k rows = by_test (token == 0) (λ none_. rw none_ (or_false (has_pair cmp id e rows))) (λ real. rw real (by_test (has_pair cmp token k rows) there new_))
+    pair_told id token e k rows = by_test (token == 0) (λ none_. rw none_ (sym (or-false (has_pair cmp id e rows)))) (λ real. rw real (by_test (has_pair cmp token k rows) there new_))
       where
-        or_false : (b : Bool) → b ≡ (b || false)
-        or_false true = refl
-        or_false false = refl
-
         there : has_pair cmp token k rows ≡ true → has_pair cmp id e (cond (has_pair cmp token k rows) rows (rows ++ (token, k) ∷ [])) ≡ (has_pair cmp id e rows || ((id == token) && same cmp e k))
         there h =
             ap (λ b. has_pair cmp id e (cond b rows (rows ++ (token, k) ∷ []))) h
@@ -88,13 +85,13 @@ module _ {K : Type 0} (cmp : K → K → Ordering) where
             let parts = and_parts (id == token) (same cmp e k) here in
             let own : has_pair cmp id e rows ≡ true = has_pair_back id token e k rows parts.0 parts.1 ∙ h in
             own ∙ sym (or_left (has_pair cmp id e rows) ((id == token) && same cmp e k) own))
-            (λ here. or_false (has_pair cmp id e rows) ∙ ap (λ b. has_pair cmp id e rows || b) (sym here))
+            (λ here. sym (or-false (has_pair cmp id e rows)) ∙ ap (λ b. has_pair cmp id e rows || b) (sym here))
 
         new_ : has_pair cmp token k rows ≡ false → has_pair cmp id e (cond (has_pair cmp token k rows) rows (rows ++ (token, k) ∷ [])) ≡ (has_pair cmp id e rows || ((id == token) && same cmp e k))
         new_ h =
             ap (λ b. has_pair cmp id e (cond b rows (rows ++ (token, k) ∷ []))) h
             ∙ any-append (λ row. (id == row.0) && same cmp e row.1) rows ((token, k) ∷ [])
-            ∙ ap (λ b. has_pair cmp id e rows || b) (sym (or_false ((id == token) && same cmp e k)))
+            ∙ ap (λ b. has_pair cmp id e rows || b) (or-false ((id == token) && same cmp e k))
 
     -- rows that a test takes away, where it answers the same at each row of the pair
     pair_filtered : (id : ℕ) (e : K) (p : ℕ × K → Bool) (b : Bool) (rows : ById K) → ((row : ℕ × K) → ((id == row.0) && same cmp e row.1) ≡ true → p row ≡ b) → has_pair cmp id e (filter p rows) ≡ (has_pair cmp id e rows && b)

@@ -16,7 +16,7 @@ use Rattle.zt_model.specs.Says.{is_routed}
 use Rattle.zt_model.specs.Sessions.{is_session_call, is_session_line}
 use Rattle.zt_model.specs.Transcript.{IsRefusedByCause}
 use Rattle.zt_laws.specs.Sound.{FabricIsSound}
-use Rattle.zt_laws.proofs.Ids.{spends_could}
+use Rattle.zt_laws.proofs.Ids.{none_spent, spends_could}
 use Rattle.zt_laws.proofs.Lines.{gateway_is_sound, speaking}
 use Rattle.zt_laws.proofs.Lists.{any_none, by_test, each_always, never}
 
@@ -60,9 +60,6 @@ module _ {K : Type 0} (cmp : K → K → Ordering) (matching : K → K → Bool)
     line_spends_could (Gateway mode zid regions south name timeout refused) s built sound h = never h refl
     line_spends_could (Session n first) s built sound h = absurd (silent (nth n s.gateways) h)
       where
-        none_spent : (g : Rows K) (fs : List (Face K)) → list_any (λ f. not (is_routed g f) && nat_lt (left_ids f) 0) fs ≡ true → ⊥
-        none_spent g fs some = never some (any_none (λ f. not (is_routed g f) && nat_lt (left_ids f) 0) fs (each_always (λ f. (not (is_routed g f) && nat_lt (left_ids f) 0) ≡ false) (λ f. and_right (not (is_routed g f)) (nat_lt (left_ids f) 0) (le-ltb (left_ids f) 0 (omega arith))) fs))
-
         silent : (o : Option (Node K)) → is_some_and (elim o [ None ↦ None | Some node ↦ let at : Option (CallAt K) = Some (record { gateway = n; rows = node.rows; call = NewSession first }) in at ]) (λ at. spends_ids cmp matching at.call at.rows) ≡ true → ⊥
         silent None h = never h refl
         silent (Some node) h = none_spent node.rows node.rows.faces h

@@ -1,5 +1,6 @@
 -- What a face was told: rows under ids that rise, one for an expression.
 use Rattle.std.proofs.Common.{◌≡◌, ℕ, ◌+◌, ◌≤◌, ◌<◌, Bool, true, false, cond, not, ◌&&◌, ◌||◌, ◌==◌, List, [], ◌∷◌, ◌++◌, filter, length, Some, None, refl, sym, ap, ◌∙◌, subst, arith, ne_eqb, eq-eqb, append-nil, append_assoc}
+use Rattle.std.proofs.Math.Bool.{or-false}
 use Rattle.std.proofs.lemmas.Bool.{and_left, and_from, or_left, or_right, or_from, not_from_false}
 use Rattle.std.specs.Cmp.{IsTotalOrder}
 use Rattle.std.specs.List.{list_any}
@@ -84,11 +85,7 @@ module _ {K : Type 0} (cmp : K → K → Ordering) where
   told_pair_old id e told here = ap (λ b. cond b told (told ++ (id, e) ∷ [])) (or_right (id == 0) (list_any (λ row. (id == row.0) && same cmp e row.1) told) here)
 
   pub names-append : (x : K) (told : ById K) (id : ℕ) (e : K) → names cmp x (told ++ (id, e) ∷ []) ≡ (names cmp x told || same cmp x e)
-  names-append x told id e = any-append (λ row. same cmp x row.1) told ((id, e) ∷ []) ∙ ap (λ b. names cmp x told || b) (or_false (same cmp x e))
-    where
-      or_false : (b : Bool) → (b || false) ≡ b
-      or_false true = refl
-      or_false false = refl
+  names-append x told id e = any-append (λ row. same cmp x row.1) told ((id, e) ∷ []) ∙ ap (λ b. names cmp x told || b) (or-false (same cmp x e))
 
   pub names-numbered : (x : K) (n : ℕ) (es : List K) → names cmp x (numbered n es) ≡ is_among cmp x es
   names-numbered x n [] = refl

@@ -1,5 +1,6 @@
 -- An interest on the rows in memory is the interest of the definitions.
 use Rattle.std.proofs.Common.{◌≡◌, ℕ, zero, suc, ◌+◌, ◌-◌, ◌≤◌, ◌<◌, Bool, true, false, if◌then◌else◌, ◌==◌, ◌&&◌, ◌||◌, not, nat_lt, nat_eq, List, [], ◌∷◌, ◌++◌, map, filter, length, get_or, Option, Some, None, refl, ap, ap₂, sym, ◌∙◌, subst, arith, eq-eqb, ne_eqb, append-nil}
+use Rattle.std.proofs.Math.Bool.{or-false}
 use Rattle.std.proofs.lemmas.Bool.Decides.{nat_tests}
 use Rattle.std.proofs.lemmas.List.{length-map}
 use Rattle.std.specs.List.{list_any}
@@ -46,10 +47,6 @@ use Rattle.zt_sessions.specs.declared.rows.ToldRow.{ToldRow}
 abbrev pub ask_cause : Bool → Bool → Option Refusal
 ask_cause in_use spent = if in_use then Some refusal.InterestIdInUse else if spent then Some refusal.IdsSpent else None
 
-or_false : (b : Bool) → (b || false) ≡ b
-or_false true = refl
-or_false false = refl
-
 nothing_spent : (k : ℕ) → nat_lt k 0 ≡ false
 nothing_spent k = grind (arith, nat_tests)
 
@@ -70,7 +67,7 @@ any_at : {K : Type 0} (n low place : ℕ) (d : FaceRow K) (p : FaceRow K → Boo
     → RiseFrom (λ row. row.number) low rows → place < length rows → (get_or rows place d).number ≡ n → list_any p rows ≡ p (get_or rows place d)
 any_at n low place d p [] other rises lt is = absurd (omega arith)
 any_at n low zero d p (row ∷ rows) other rises lt is =
-    ap (λ b. p row || b) (any_above n (row.number + 1) p rows other (omega (arith, is)) rises.1) ∙ or_false (p row)
+    ap (λ b. p row || b) (any_above n (row.number + 1) p rows other (omega (arith, is)) rises.1) ∙ or-false (p row)
 any_at n low (suc place) d p (row ∷ rows) other rises lt is =
     let above : row.number + 1 ≤ (get_or rows place d).number = number_above (row.number + 1) place d rows rises.1 (omega arith) in
     let apart : (n == row.number) ≡ false = ne_eqb n row.number (omega arith) in
@@ -118,7 +115,7 @@ is_spent_at cmp matching expr g row = nat_lt (4294967295 - row.next) (new_count 
 module _ {K : Type 0} (cmp : K → K → Ordering) (matching : K → K → Bool) (n id : ℕ) (expr : Option K) where
   -- the session holds it already
   in_use_is : (zid : Zid) (told : List (ToldRow K)) (row : FaceRow K) → is_interest_id_in_use id CurrentFuture (face_of zid told row) ≡ has_id id row.held.items
-  in_use_is zid told row = or_false (has_id id (map held_row row.held.items)) ∙ list_any-map (λ held. id == held.0) held_row row.held.items
+  in_use_is zid told row = or-false (has_id id (map held_row row.held.items)) ∙ list_any-map (λ held. id == held.0) held_row row.held.items
 
   ask_cause_is : (spent : Bool) (zid : Zid) (told : List (ToldRow K)) (row : FaceRow K) (g : Rows K) → find_face n g ≡ Some (face_of zid told row) → g.dictionary ≡ []
       → first_cause (call_causes cmp matching spent (asking_call n id expr) g) ≡ ask_cause (is_interest_id_in_use id CurrentFuture (face_of zid told row)) spent

@@ -1,5 +1,6 @@
 -- A declaration on the rows in memory is the declaration of the definitions.
 use Rattle.std.proofs.Common.{◌≡◌, ℕ, ◌+◌, ◌-◌, ◌<◌, Bool, true, false, cond, if◌then◌else◌, ◌==◌, ◌&&◌, ◌||◌, not, nat_le, nat_lt, List, [], ◌∷◌, ◌++◌, map, length, get_or, Option, Some, None, refl, ap, ap₂, sym, ◌∙◌, arith}
+use Rattle.std.proofs.Math.Bool.{or-false}
 use Rattle.std.proofs.lemmas.Bool.Decides.{nat_tests}
 use Rattle.std.proofs.lemmas.List.{length-map}
 use Rattle.std.specs.Cmp.{IsTotalOrder}
@@ -40,10 +41,6 @@ use Rattle.zt_sessions.specs.declared.rows.ToldRow.{ToldRow}
 abbrev pub declare_cause : Bool → Bool → Bool → Option Refusal
 declare_cause zero_id in_use spent = if zero_id then Some refusal.TokenIdZero else if in_use then Some refusal.TokenIdInUse else if spent then Some refusal.IdsSpent else None
 
-or_false : (b : Bool) → (b || false) ≡ b
-or_false true = refl
-or_false false = refl
-
 module _ {K : Type 0} (cmp : K → K → Ordering) (matching : K → K → Bool) (n id : ℕ) (e : K) where
   pub declare_cause_is : (spent : Bool) (f : Face K) (g : Rows K) → find_face n g ≡ Some f → is_routed g f ≡ false → first_cause (call_causes cmp matching spent (DeclareToken n id e 0 None) g) ≡ declare_cause (id == 0) (is_token_id_in_use cmp id e f) spent
   unfolding first_cause call_causes
@@ -63,7 +60,7 @@ module _ {K : Type 0} (cmp : K → K → Ordering) (matching : K → K → Bool)
       ≡ list_any (λ row. hears cmp matching told e row && nat_le 4294967295 row.next) rows
   spends_each g told [] = refl
   spends_each g told (row ∷ rows) =
-      ap₂ (λ (a b : Bool). a || b) (ap (λ (b : Bool). nat_lt (4294967295 - row.next) (if b then 1 else 0)) (or_false (is_told cmp matching (rows_of g) Local e (face_of g.zid told row)) ∙ is_told_is cmp matching g told e row) ∙ one_id (hears cmp matching told e row) row.next) (spends_each g told rows)
+      ap₂ (λ (a b : Bool). a || b) (ap (λ (b : Bool). nat_lt (4294967295 - row.next) (if b then 1 else 0)) (or-false (is_told cmp matching (rows_of g) Local e (face_of g.zid told row)) ∙ is_told_is cmp matching g told e row) ∙ one_id (hears cmp matching told e row) row.next) (spends_each g told rows)
 
   -- the ids that a face draws, by the face that declares
   ids_by : Option (Face K) → Rows K → Face K → ℕ

@@ -7,7 +7,8 @@ pub use zt_protocol::{
     QueryableInfo, Refusal, Report, RunError, Sent, TokenId, TreeTable,
 };
 pub use zt_text::{
-    print_entry, print_report, printing_is_read, read_sent, write_entry, write_report,
+    print_entry, print_report, printing_is_read, read_sent, texts_tell_transcripts_apart,
+    write_entry, write_report,
 };
 
 #[cfg(test)]
