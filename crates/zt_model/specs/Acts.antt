@@ -27,10 +27,11 @@ use Rattle.zt_model.specs.Telling.{registered, unregistered}
 use Rattle.zt_model.specs.Trees.{is_routed_row, row_at, with_routed, with_table, without_routed}
 use Rattle.zt_model.specs.Visible.{keeps}
 
--- The rows of a gateway, and beside them the face and id of each ask by its number, from 1, and the messages that
--- wait for a face, oldest first. A face for which none waits has no row there.
+-- The rows of a gateway, and beside them how many asks were ever made, the face and id of each that stands by its
+-- number, and the messages that wait for a face, oldest first. A face for which none waits has no row there.
 pub record Store (K : Type 0) : Type 0 where
   pub rows : Rows K
+  pub asks_made : ℕ
   pub numbers : ById (ℕ × ℕ)
   pub outboxes : ById (List (Message K))
 
@@ -94,14 +95,9 @@ told_under id e f = record f { next = next_after id f.next; told = f.told ++ (id
 
 -- ---- asks by number
 
--- the least number from n on that isn't taken, among rows in order of number
-abbrev pub free_from : {A : Type 0} → ℕ → ById A → ℕ
-free_from n [] = n
-free_from n (row ∷ rows) = if n == row.0 then free_from (n + 1) rows else n
-
--- the number of the next ask
+-- the number of the next ask: they count from 1, and none is used twice
 abbrev pub next_number : {K : Type 0} → Store K → ℕ
-next_number s = free_from 1 s.numbers
+next_number s = s.asks_made + 1
 
 abbrev pub is_same_pair : ℕ × ℕ → ℕ × ℕ → Bool
 is_same_pair a b = (a.0 == b.0) && (a.1 == b.1)
@@ -141,10 +137,10 @@ sent_to n m s = record s { outboxes = put nat_cmp n (outbox_of n s.outboxes ++ m
 
 -- a face goes with its rows, the numbers of its asks and what waits for it
 abbrev pub closed : {K : Type 0} → ℕ → Store K → Store K
-closed n s = record { rows = without_face n s.rows; numbers = filter (λ row. not (n == row.1.0)) s.numbers; outboxes = without_id n s.outboxes }
+closed n s = record { rows = without_face n s.rows; asks_made = s.asks_made; numbers = filter (λ row. not (n == row.1.0)) s.numbers; outboxes = without_id n s.outboxes }
 
 abbrev pub asked_under : {K : Type 0} → ℕ → ℕ → InterestRow K → Store K → Store K
-asked_under n id interest s = record (at_face n (ask_added id interest) s) { numbers = put nat_cmp (next_number s) (n, id) s.numbers }
+asked_under n id interest s = record (at_face n (ask_added id interest) s) { asks_made = next_number s; numbers = put nat_cmp (next_number s) (n, id) s.numbers }
 
 abbrev pub pended_under : {K : Type 0} → ℕ → ℕ → Option ℕ → Pending → Store K → Store K
 pended_under n id ask pending s =

@@ -23,3 +23,4 @@ pub use counts::KeyCounts;
 pub use groups::KeyGroups;
 pub use rows::OrderedRows;
 pub use search::{next_above, place_of};
+pub use sorted::SortedRows;

@@ -1,4 +1,4 @@
-// The body for few rows: a vector in the order of the keys.
+//! Rows in a vector, in the order of their keys.
 ghost use Rattle.std.specs.Prelude.{◌≡◌, ◌+◌, ◌<◌, ◌≤◌, [], length, None, IsOk, OnOk, OnErr, IfOk, IsTrue, map};
 ghost use Rattle.std.specs.Option.{option_copied};
 ghost use Rattle.std.specs.FinMap.Entries.{put, find, is_sorted};
@@ -18,8 +18,11 @@ use std::mem::replace;
 // How many rows a vector holds at most, unless it has room for more.
 const FEW: usize = 128;
 
+/// Rows under keys, in a vector in the order of the keys. Contracts see them as `rows`, beside `room`, how many more
+/// rows may be put with no memory taken. A row is found by halves; one that is put or taken moves those behind it, so
+/// it suits few or small rows, and keys that are asked for in their order.
 #[derive(Drop)]
-pub(crate) struct SortedRows<P: Ord, X> {
+pub struct SortedRows<P: Ord, X> {
     rows: Vec<(P, X)>,
 }
 
@@ -42,7 +45,8 @@ impl<P: Ord, X> SortedRows<P, X> {
     ghost use Rattle.std.specs.Option.{option_copied_mut};
     ghost use Rattle.zt_ordered.specs.LendsSorted.{lends_sorted};
 
-    pub(crate) fn new(alloc: Global) -> Self
+    /// A container with no row. It takes no memory.
+    pub fn new(alloc: Global) -> Self
         ensures rows { result.rows ≡ [] }
     {
         SortedRows {
@@ -50,20 +54,23 @@ impl<P: Ord, X> SortedRows<P, X> {
         }
     }
 
-    pub(crate) fn len(&self) -> usize
+    /// How many rows there are.
+    pub fn len(&self) -> usize
         ensures len { result ≡ length self.now.rows }
         ensures in_order { IsTrue (is_sorted P.cmp self.now.rows) }
     {
         self.rows.len()
     }
 
-    pub(crate) fn as_slice(&self) -> &[(P, X)]
+    /// The rows, in the order of their keys.
+    pub fn as_slice(&self) -> &[(P, X)]
         ensures { result.now ≡ self.now.rows }
     {
         &self.rows
     }
 
-    pub(crate) fn get(&self, key: &P) -> Option<&X>
+    /// The row under the key. A search by halves.
+    pub fn get(&self, key: &P) -> Option<&X>
         ensures { option_copied result ≡ find P.cmp key.now self.now.rows }
     {
         match place_of(&self.rows, key) {
@@ -72,20 +79,23 @@ impl<P: Ord, X> SortedRows<P, X> {
         }
     }
 
-    pub(crate) fn next_key(&self, after: Option<&P>) -> Option<&P>
+    /// The first key above the given one, or the first of all where none is given. A search by halves.
+    pub fn next_key(&self, after: Option<&P>) -> Option<&P>
         ensures { option_copied result ≡ next_key P.cmp (option_copied after.entry) self.now.rows }
     {
         next_in_order(&self.rows, after)
     }
 
-    pub(crate) fn any<F: Fn(&P, &X) -> bool>(&self, test: F) -> bool
+    /// Whether some row passes the test of its key and of what stands under it. A scan.
+    pub fn any<F: Fn(&P, &X) -> bool>(&self, test: F) -> bool
         requires { F.IsAlwaysCallable test }
         ensures { SaysAny (F.post test) self.now.rows result }
     {
         any_in_order(&self.rows, test)
     }
 
-    pub(crate) fn get_mut(&mut self, key: &P) -> Option<&mut X>
+    /// The row under the key, to be written. What is written last stands in the row's place once the reference ends.
+    pub fn get_mut(&mut self, key: &P) -> Option<&mut X>
         ensures* writes_back { sem 𝓛 (lends_sorted P.row X.row P.Ord self.entry key.now result) }
         ensures value { option_copied_mut result ≡ find P.cmp key.now self.old.rows }
     {
@@ -95,7 +105,9 @@ impl<P: Ord, X> SortedRows<P, X> {
         }
     }
 
-    pub(crate) fn reserve(&mut self, additional: usize) -> Result<(), AllocError>
+    /// Makes room for so many more rows. The only error is want of memory; the rows stay whatever the result, and no room
+    /// is lost.
+    pub fn reserve(&mut self, additional: usize) -> Result<(), AllocError>
         ensures rows { self.new.rows ≡ self.old.rows }
         ensures ok { OnOk result (additional ≤ self.new.room) }
         ensures room { self.old.room ≤ self.new.room }
@@ -106,7 +118,8 @@ impl<P: Ord, X> SortedRows<P, X> {
 }
 
 impl<P: Ord, X> SortedRows<P, X> {
-    pub(crate) fn in_order(&self, alloc: Global) -> Result<Vec<(&P, &X)>, AllocError>
+    /// The rows with their keys, in the order of the keys. The only error is want of memory.
+    pub fn in_order(&self, alloc: Global) -> Result<Vec<(&P, &X)>, AllocError>
         ensures { IfOk result (λ v. map deref_pair v.items ≡ self.now.rows) }
     {
         rows_of(alloc, &self.rows)
@@ -131,7 +144,8 @@ impl<P: Ord, X> SortedRows<P, X> {
 }
 
 impl<P: Ord + Copy, X> SortedRows<P, X> {
-    pub(crate) fn ids(&self, alloc: Global) -> Result<Vec<P>, AllocError>
+    /// The keys in order, for keys that are copied, as ids. The only error is want of memory.
+    pub fn ids(&self, alloc: Global) -> Result<Vec<P>, AllocError>
         ensures { IfOk result (λ v. v.items ≡ keys_of self.now.rows) }
     {
         ids_of(alloc, &self.rows)
@@ -139,7 +153,9 @@ impl<P: Ord + Copy, X> SortedRows<P, X> {
 }
 
 impl<P: Ord + Drop, X> SortedRows<P, X> {
-    pub(crate) fn put(&mut self, key: P, value: X) -> Option<X>
+    /// Puts the row under the key, in the place of a row that is there, which it returns. A row that is replaced
+    /// leaves its key. It takes no memory, so a new key needs room.
+    pub fn put(&mut self, key: P, value: X) -> Option<X>
         requires { find P.cmp key self.old.rows ≡ None → 0 < self.old.room }
         ensures rows { self.new.rows ≡ put P.cmp key value self.old.rows }
         ensures was { result ≡ find P.cmp key self.old.rows }
@@ -154,10 +170,12 @@ impl<P: Ord + Drop, X> SortedRows<P, X> {
         }
     }
 
-    pub(crate) fn take(&mut self, key: &P) -> Option<X>
+    /// Takes the row under the key out, and leaves its room.
+    pub fn take(&mut self, key: &P) -> Option<X>
         ensures rows { self.new.rows ≡ without P.cmp key.now self.old.rows }
         ensures taken { result ≡ find P.cmp key.now self.old.rows }
         ensures room { self.old.room ≤ self.new.room }
+        ensures left { length self.old.rows + self.old.room ≤ length self.new.rows + self.new.room }
     {
         match place_of(&self.rows, key) {
             Ok(at) => {

@@ -1,1 +1,3 @@
-pub mod Popped
+pub mod KeyOrder
+pub mod AskWrites
+pub mod Unlisting

@@ -1,12 +1,19 @@
-ghost use Rattle.std.specs.Prelude.{◌≡◌, ◌<◌, ◌≤◌, ◌+◌, ◌++◌, ◌∷◌, [], IfOk, OnOk, false};
+ghost use Rattle.std.specs.Prelude.{◌≡◌, ◌<◌, ◌≤◌, ◌+◌, ◌++◌, ◌∷◌, [], IfOk, IsSome, OnOk, false, true, not, filter, vec_len, vec_capacity};
+ghost use Rattle.std.specs.FinMap.Entries.{find, is_sorted};
+ghost use Rattle.std.specs.Ordering.{nat_cmp};
+ghost use Rattle.zt_model.specs.Acts.{is_same_pair};
 ghost use Rattle.zt_model.specs.Lists.{is_among};
+ghost use Rattle.zt_rows.specs.AskEdits.{unlisted, AreUnlisted, WritesUnlisted};
 ghost use Rattle.zt_rows.specs.Plain.{plain_interest};
+ghost use Rattle.zt_rows.specs.Rooms.{room_of_ask};
 
 use crate::key_ids::KeyIds;
 use crate::rows::AskRow;
+use crate::spare::SpareAsk;
 use std::alloc::{AllocError, Global};
 use std::marker::Model;
 use zt_keys::Key;
+use zt_ordered::OrderedRows;
 
 /// An ask with what belongs to it: its number, the interests that it sent upstream, each by its face and id there, and
 /// the expressions that it was answered. Contracts see it as the model's ask, beside the room that it has.
@@ -30,6 +37,15 @@ impl<K: Key> Model for AskRows<K> {
     ghost invariant = { AreAskRows };
 }
 
+// The pair goes from the list.
+fn remove_pair(pairs: &mut Vec<(u32, u32)>, pair: (u32, u32))
+    ensures items { pairs.new.items ≡ filter (λ p. not (is_same_pair pair p)) pairs.old.items }
+    ensures len { vec_len pairs.new ≤ vec_len pairs.old }
+    ensures capacity { vec_capacity pairs.new ≡ vec_capacity pairs.old }
+{
+    pairs.retain(|other| pair.0 != other.0 || pair.1 != other.1);
+}
+
 impl<K: Key> AskRows<K> {
     /// An ask that was sent to nobody yet and not answered. It takes no memory.
     pub fn new(alloc: Global, number: u64, row: AskRow<K>) -> Self
@@ -43,6 +59,22 @@ impl<K: Key> AskRows<K> {
             row,
             pendings: Vec::new(alloc),
             answered: KeyIds::new(alloc),
+        }
+    }
+
+    /// An ask that was sent to nobody yet and not answered, with the spare's room. It takes no memory.
+    pub fn from_spare(number: u64, row: AskRow<K>, spare: SpareAsk<K>) -> Self
+        ensures number { result.number ≡ number }
+        ensures face { result.face ≡ row.face }
+        ensures id { result.id ≡ row.id }
+        ensures ask { result.ask ≡ record { interest = plain_interest row.interest; pendings = []; answered = [] } }
+        ensures room { room_of_ask result ≡ spare }
+    {
+        AskRows {
+            number,
+            row,
+            pendings: spare.pendings,
+            answered: spare.answered,
         }
     }
 
@@ -101,6 +133,14 @@ impl<K: Key> AskRows<K> {
         }
     }
 
+    /// Lists the pending no more.
+    pub fn unlist(&mut self, face: u32, id: u32)
+        ensures ask { self.new ≡ record self.old { ask = unlisted (face, id) self.old.ask; pending_room = self.new.pending_room } }
+        ensures room { self.old.pending_room ≤ self.new.pending_room }
+    {
+        remove_pair(&mut self.pendings, (face, id));
+    }
+
     /// Makes room for so many more pendings and answers. The only error is want of memory; the ask stays whatever the
     /// result, and no room is lost.
     pub fn reserve(
@@ -117,5 +157,32 @@ impl<K: Key> AskRows<K> {
     {
         self.pendings.reserve(pendings)?;
         self.answered.reserve(alloc, answers)
+    }
+}
+
+// The ask of the id, which stands, lists the pending no more.
+fn unlist_one<K: Key>(asks: &mut OrderedRows<u32, AskRows<K>>, id: u32, pending: (u32, u32))
+    requires { IsSome (find nat_cmp id asks.old.rows) }
+    ensures ask { WritesUnlisted pending id asks.old.rows asks.new.rows }
+    ensures room { asks.new.room ≡ asks.old.room }
+    ensures fits { id ≤ 4294967295 }
+{
+    match asks.get_mut(&id) {
+        Some(ask) => ask.unlist(pending.0, pending.1),
+        None => unreachable!(),
+    }
+}
+
+// No ask lists the pending any more.
+pub(crate) fn unlist_each<K: Key>(asks: &mut OrderedRows<u32, AskRows<K>>, pending: (u32, u32))
+    requires { is_sorted nat_cmp asks.old.rows ≡ true }
+    ensures asks { AreUnlisted pending asks.old.rows asks.new.rows }
+    ensures in_order { is_sorted nat_cmp asks.new.rows ≡ true }
+    ensures room { asks.new.room ≡ asks.old.room }
+{
+    let mut after = None;
+    while let Some(id) = asks.next_key(after.as_ref()).copied() {
+        unlist_one(asks, id, pending);
+        after = Some(id);
     }
 }

@@ -14,11 +14,13 @@ pub enum Change<K> {
     CloseFace {
         face: u32,
     },
+    /// The face declared the expression under the id.
     AddLive {
         face: u32,
         id: u32,
         expr: K,
     },
+    /// What the face declared under the id goes.
     DropLive {
         face: u32,
         id: u32,
@@ -29,6 +31,7 @@ pub enum Change<K> {
         source: Zid,
         expr: K,
     },
+    /// The row of that source and expression goes.
     DropRouted {
         region: Region,
         source: Zid,
@@ -40,22 +43,27 @@ pub enum Change<K> {
         id: u32,
         expr: K,
     },
+    /// What the face was told of the expression goes.
     Untell {
         face: u32,
         expr: K,
     },
+    /// An interest of the face, which stays until its final.
     AddHeld {
         face: u32,
         row: HeldRow<K>,
     },
+    /// The face's interest of that id goes.
     DropHeld {
         face: u32,
         id: u32,
     },
+    /// An interest that the face was sent and that stays there until its final.
     AddLocal {
         face: u32,
         row: UpstreamRow<K>,
     },
+    /// The interest that the face was sent under the id goes.
     DropLocal {
         face: u32,
         id: u32,
@@ -64,15 +72,17 @@ pub enum Change<K> {
     FinaliseInitial {
         face: u32,
     },
+    /// A current-mode interest that the face was sent, until its final or its time.
     AddPending {
         face: u32,
         row: PendingRow,
     },
+    /// The pending of the face under the id goes.
     DropPending {
         face: u32,
         id: u32,
     },
-    /// An ask under the least free number. It stands before the pendings that name it.
+    /// An ask under the next number, which none had before. It stands before the pendings that name it.
     AddAsk {
         row: AskRow<K>,
     },
@@ -81,6 +91,7 @@ pub enum Change<K> {
         ask: u64,
         expr: K,
     },
+    /// The ask of this number goes; no other ask gets the number.
     DropAsk {
         ask: u64,
     },
@@ -89,13 +100,16 @@ pub enum Change<K> {
         face: u32,
         message: Message<K>,
     },
+    /// The gateway's moment, by which pendings end.
     SetMoment {
         now: u64,
     },
+    /// The tree of a router region: what its routers and their children are from now on.
     SetTree {
         region: Region,
         table: TreeTable,
     },
+    /// The subscribers and queryables that the face declares now.
     SetEntities {
         face: u32,
         subscribers: Vec<K>,

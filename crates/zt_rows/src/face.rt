@@ -1,23 +1,29 @@
 // The rows of a face.
-ghost use Rattle.std.specs.Prelude.{◌≡◌, ◌<◌, ◌≤◌, ◌+◌, [], None, IfOk, IfSome, IsSome, false, option_map};
+ghost use Rattle.std.specs.Prelude.{◌≡◌, ◌<◌, ◌≤◌, ◌+◌, ◌||◌, [], None, IfOk, IfSome, IsSome, OnOk, false, true, not, option_map};
 ghost use Rattle.std.specs.Map.{keys_of};
 ghost use Rattle.std.specs.FinMap.Entries.{put};
 ghost use Rattle.std.specs.Ordering.{nat_cmp};
 ghost use Rattle.std.specs.Option.{option_copied};
-ghost use Rattle.zt_model.specs.Acts.{ask_added, ask_dropped, entities_set, finalised, held_added, local_added, local_dropped, pending_added, told_ended, told_under};
+ghost use Rattle.zt_model.specs.Acts.{answered_with, ask_added, ask_dropped, entities_set, finalised, held_added, is_drawn, local_added, local_dropped, pending_added, told_ended, told_under, with_listed};
 ghost use Rattle.std.specs.List.{list_any};
-ghost use Rattle.zt_model.specs.Lists.{at_id, same, without_id};
+ghost use Rattle.zt_model.specs.Lists.{at_id, first_where, has_id, in_key_order, is_among, is_some_and, same, without_id};
 ghost use Rattle.zt_model.specs.Parts.{new_face, told_id};
 ghost use Rattle.zt_model.specs.Routing.{ended, unheld};
 ghost use Rattle.zt_model.specs.Telling.{registered, unregistered};
 ghost use Rattle.zt_model.specs.Visible.{keeps};
 ghost use Rattle.zt_model.specs.Wants.{wants};
 ghost use Rattle.zt_rows.specs.ById.{next_id};
-ghost use Rattle.zt_rows.specs.Rooms.{room_of_ask};
+ghost use Rattle.zt_ordered.specs.Next.{is_after};
+ghost use Rattle.zt_rows.specs.AskEdits.{listed_at};
+ghost use Rattle.zt_rows.specs.AskView.{keys_by_id};
+ghost use Rattle.zt_rows.specs.Rooms.{ask_room, room_needed, room_of_ask, HasAskRoom, HasAtLeast, KeepsAskRooms, LosesNoAskRoom};
 ghost use Rattle.zt_rows.specs.Plain.{interest_held, interest_sent, plain_pending};
+ghost use Rattle.std.specs.Prelude.{IsTrue};
+ghost use Rattle.std.specs.FinMap.Entries.{is_sorted};
 
-use crate::ask::AskRows;
+use crate::ask::{AskRows, unlist_each};
 use crate::key_ids::KeyIds;
+use crate::needs::FaceNeeds;
 use crate::rows::{FaceRow, HeldRow, PendingRow, UpstreamRow};
 use std::alloc::{AllocError, Global};
 use std::marker::Model;
@@ -61,6 +67,7 @@ impl<K: Key> FaceRows<K> {
         ensures face { result.face ≡ record (new_face number row.region row.remote_bound row.whatami row.zid row.first) { initial = initial } }
         ensures numbers { result.numbers ≡ [] }
         ensures served { result.served ≡ [] }
+        ensures ask_rooms { result.ask_rooms ≡ [] }
     {
         FaceRows {
             number,
@@ -76,6 +83,13 @@ impl<K: Key> FaceRows<K> {
             subscribers: Vec::new(alloc),
             queryables: Vec::new(alloc),
         }
+    }
+
+    /// The face's number.
+    pub fn number(&self) -> u32
+        ensures { result ≡ self.now.face.number }
+    {
+        self.number
     }
 
     /// The face as it was opened.
@@ -131,6 +145,13 @@ impl<K: Key> FaceRows<K> {
             Some(id) => Some(id as u32),
             None => None,
         }
+    }
+
+    /// The least expression that the face was told, above `after` where one is given. A scan where they are many.
+    pub fn next_told(&self, after: Option<&K>) -> Option<&K>
+        ensures { option_copied result ≡ first_where (is_after K.cmp (option_copied after.entry)) (in_key_order K.cmp (keys_by_id self.now.face.told)) }
+    {
+        self.told.next_key(after)
     }
 
     /// The interest that the face holds under the id.
@@ -195,6 +216,14 @@ impl<K: Key> FaceRows<K> {
         self.asks.get(&id)
     }
 
+    /// The least id of an ask of the face, above `after` where one is given.
+    pub fn next_ask(&self, after: Option<u32>) -> Option<u32>
+        ensures asks { result ≡ next_id after self.now.face.asks }
+        ensures numbers { result ≡ next_id after self.now.numbers }
+    {
+        self.asks.next_key(after.as_ref()).copied()
+    }
+
     /// The ids of the live tokens, in order. The only error is want of memory.
     pub fn live_ids(&self, alloc: Global) -> Result<Vec<u32>, AllocError>
         ensures { IfOk result (λ v. v.items ≡ keys_of self.now.face.live) }
@@ -232,6 +261,21 @@ impl<K: Key> FaceRows<K> {
 }
 
 impl<K: Key> FaceRows<K> {
+    /// Makes room for so many more rows of each kind. The only error is want of memory; the rows stay whatever the
+    /// result, and no room is lost.
+    pub fn reserve(&mut self, alloc: Global, needs: &FaceNeeds) -> Result<(), AllocError>
+        ensures rows { self.new ≡ record self.old { room = self.new.room } }
+        ensures ok { OnOk result (HasAtLeast self.new.room (room_needed needs.now)) }
+        ensures room { HasAtLeast self.new.room self.old.room }
+    {
+        self.live.reserve(alloc, needs.live)?;
+        self.told.reserve(alloc, needs.told)?;
+        self.held.reserve(alloc, needs.held)?;
+        self.locals.reserve(alloc, needs.locals)?;
+        self.pendings.reserve(alloc, needs.pendings)?;
+        self.asks.reserve(alloc, needs.asks)
+    }
+
     /// The face declares a token. It takes no memory, so it needs room.
     pub fn add_live(&mut self, id: u32, expr: K)
         requires { 0 < self.old.room.live }
@@ -288,9 +332,10 @@ impl<K: Key> FaceRows<K> {
         self.held.take(&id)
     }
 
-    /// A future-mode interest was sent to the face. It takes no memory, so it needs room.
+    /// A future-mode interest was sent to the face, under the id of a pending there or the next one. It takes no memory,
+    /// so it needs room.
     pub fn add_local(&mut self, row: UpstreamRow<K>)
-        requires last { row.id + 1 ≤ 4294967295 }
+        requires id { (has_id row.id self.old.face.pendings || is_drawn row.id self.old.face) ≡ true }
         requires room { 0 < self.old.room.locals }
         ensures face { self.new ≡ record self.old { face = local_added row.id (interest_sent row) self.old.face; room = record self.old.room { locals = self.new.room.locals } } }
         ensures room { self.old.room.locals ≤ self.new.room.locals + 1 }
@@ -326,9 +371,10 @@ impl<K: Key> FaceRows<K> {
 }
 
 impl<K: Key> FaceRows<K> {
-    /// A current-mode interest was sent to the face. It takes no memory, so it needs room.
+    /// A current-mode interest was sent to the face, under the id of a local there or the next one. It takes no memory,
+    /// so it needs room.
     pub fn add_pending(&mut self, row: PendingRow)
-        requires last { row.id + 1 ≤ 4294967295 }
+        requires id { (has_id row.id self.old.face.locals || is_drawn row.id self.old.face) ≡ true }
         requires room { 0 < self.old.room.pendings }
         ensures face { self.new
             ≡ record self.old {
@@ -396,5 +442,74 @@ impl<K: Key> FaceRows<K> {
         ensures taken { option_map (λ a. a.ask) result ≡ at_id id self.old.face.asks }
     {
         self.asks.take(&id)
+    }
+}
+
+impl<K: Key> FaceRows<K> {
+    /// Makes room in the ask of the id, if it stands, for so many more pendings and answers. The only error is want of
+    /// memory; the rows stay whatever the result, and no room is lost.
+    pub fn reserve_ask(
+        &mut self,
+        alloc: Global,
+        id: u32,
+        pendings: usize,
+        answers: usize,
+    ) -> Result<(), AllocError>
+        ensures rows { self.new ≡ record self.old { ask_rooms = self.new.ask_rooms } }
+        ensures ok { OnOk result
+            (IsSome (at_id id self.old.face.asks)
+            → HasAskRoom (ask_room id self.new.ask_rooms) (record { pendings = pendings; answers = answers })) }
+        ensures room { LosesNoAskRoom self.old.ask_rooms self.new.ask_rooms }
+    {
+        let Some(ask) = self.asks.get_mut(&id) else {
+            return Ok(());
+        };
+        ask.reserve(alloc, pendings, answers)
+    }
+
+    /// The ask of the id was answered the expression. It takes no memory, so the ask needs room.
+    pub fn answer(&mut self, id: u32, expr: K)
+        requires new { is_some_and (at_id id self.old.face.asks) (λ ask. not (is_among K.cmp expr ask.answered)) ≡ true }
+        requires room { 0 < (ask_room id self.old.ask_rooms).answers }
+        ensures face { self.new ≡ record self.old { face = answered_with K.cmp K.matching expr id self.old.face; ask_rooms = self.new.ask_rooms } }
+        ensures room { KeepsAskRooms id 0 1 self.old.ask_rooms self.new.ask_rooms }
+    {
+        match self.asks.get_mut(&id) {
+            Some(ask) => ask.answer(expr),
+            None => unreachable!(),
+        }
+    }
+
+    /// The ask of the id lists a pending, by its face and id. It takes no memory, so the ask needs room.
+    pub fn list(&mut self, id: u32, pending: (u32, u32))
+        requires { 0 < (ask_room id self.old.ask_rooms).pendings }
+        ensures face { self.new ≡ record self.old { face = listed_at id pending self.old.face; ask_rooms = self.new.ask_rooms } }
+        ensures room { KeepsAskRooms id 1 0 self.old.ask_rooms self.new.ask_rooms }
+    {
+        match self.asks.get_mut(&id) {
+            Some(ask) => ask.list(pending.0, pending.1),
+            None => unreachable!(),
+        }
+    }
+
+    /// No ask of the face lists the pending any more. It goes over the asks.
+    pub fn unlist(&mut self, pending: (u32, u32))
+        ensures face { self.new ≡ record self.old { face = with_listed None pending self.old.face; ask_rooms = self.new.ask_rooms } }
+        ensures room { LosesNoAskRoom self.old.ask_rooms self.new.ask_rooms }
+    {
+        unlist_each(&mut self.asks, pending);
+    }
+
+    /// A fact alone: the rows of each kind stand in order of id.
+    pub fn in_order(&self)
+        ensures live { IsTrue (is_sorted nat_cmp self.now.face.live) }
+        ensures held { IsTrue (is_sorted nat_cmp self.now.face.held) }
+        ensures locals { IsTrue (is_sorted nat_cmp self.now.face.locals) }
+        ensures pendings { IsTrue (is_sorted nat_cmp self.now.face.pendings) }
+    {
+        let _live = self.live.len();
+        let _held = self.held.len();
+        let _locals = self.locals.len();
+        let _pendings = self.pendings.len();
     }
 }

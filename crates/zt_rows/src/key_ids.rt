@@ -1,8 +1,11 @@
 ghost use Rattle.std.specs.Prelude.{◌≡◌, ◌∷◌, ◌++◌, ◌<◌, ◌≤◌, ◌+◌, [], length, not, None, IsOk, IsTrue, OnOk, is_some, filter};
 ghost use Rattle.std.specs.Ordering.{nat_cmp};
 ghost use Rattle.std.specs.FinMap.Entries.{is_sorted};
-ghost use Rattle.zt_model.specs.Lists.{same};
+ghost use Rattle.std.specs.Option.{option_copied};
+ghost use Rattle.zt_model.specs.Lists.{first_where, in_key_order, same};
 ghost use Rattle.zt_model.specs.Parts.{told_id};
+ghost use Rattle.zt_ordered.specs.Next.{is_after};
+ghost use Rattle.zt_rows.specs.AskView.{keys_by_id};
 ghost use Rattle.zt_rows.specs.KeyIds.{IsBelow};
 
 use std::alloc::{AllocError, Global};
@@ -58,6 +61,13 @@ impl<K: Ord + Eq + Hash> KeyIds<K> {
         ensures { result ≡ told_id K.cmp key.now self.now.rows }
     {
         self.ids.get(key).copied()
+    }
+
+    /// The least key, above `after` where one is given. A scan where the keys are many.
+    pub fn next_key(&self, after: Option<&K>) -> Option<&K>
+        ensures { option_copied result ≡ first_where (is_after K.cmp (option_copied after.entry)) (in_key_order K.cmp (keys_by_id self.now.rows)) }
+    {
+        self.ids.next_key(after)
     }
 
     /// Whether the key has an id.

@@ -1,5 +1,4 @@
-//! The rows of one face and of one ask in memory, the tokens of router regions, the messages that wait, and the changes
-//! of a plan.
+//! The rows of one face and of one ask in memory, and the changes of a plan.
 //!
 //! Contracts see each container as the rows of `zt_model` that it stands for, beside the room that it has. What adds a
 //! row takes no memory, so it needs room, and says that no other row changes.
@@ -8,18 +7,18 @@
 mod ask;
 mod change;
 mod face;
-mod grouped;
 mod key_ids;
-mod outboxes;
+mod needs;
 mod rows;
+mod spare;
 
 pub use ask::AskRows;
 pub use change::Change;
 pub use face::FaceRows;
-pub use grouped::GroupedKeys;
 pub use key_ids::KeyIds;
-pub use outboxes::Outboxes;
+pub use needs::FaceNeeds;
 pub use rows::{
     AskRow, FaceRow, HeldRow, PendingRow, RemoteInterest, RouteCurrentDeclareResult,
     RouteInterestResult, Sources, UpstreamRow,
 };
+pub use spare::SpareAsk;

@@ -92,15 +92,20 @@ pub struct AskRow<K> {
 /// Whether an interest was answered by its own call, since it was sent to nobody.
 #[derive(Clone, Copy, PartialEq, Eq, Debug)]
 pub enum RouteInterestResult {
+    /// It was sent upstream, or it asks nothing that is there now: its final isn't due yet, or never is.
     Noop,
+    /// It was answered in full: its final is due in the same call.
     ResolvedCurrentInterest,
 }
 
 /// What an upstream answer belongs to: nothing, an interest that answers nobody, or an ask by its number.
 #[derive(Clone, Copy, PartialEq, Eq, Debug)]
 pub enum RouteCurrentDeclareResult {
+    /// Neither a pending nor a local of that id stands there.
     Noop,
+    /// An interest of that id stands, and no ask that stands is behind it.
     NoBreadcrumb,
+    /// The ask behind the pending of that id.
     Breadcrumb { ask: u64 },
 }
 

@@ -1,2 +1,4 @@
-pub mod RegionOrder
-pub mod RoutedOrder
+pub mod Going
+pub mod FaceFacts
+pub mod Rising
+mod NextRows

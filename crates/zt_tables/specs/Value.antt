@@ -1,19 +1,18 @@
 -- What the tables are seen as: the store of rows, and apart from it the room for more.
-use Rattle.std.specs.Prelude.{ℕ}
+use Rattle.std.specs.Prelude.{ℕ, List}
+use Rattle.zt_region.specs.declared.region.Region.{Region}
+use Rattle.zt_region.specs.declared.region.Zid.{Zid}
 use Rattle.zt_model.specs.Acts.{Store}
 use Rattle.zt_model.specs.Rows.{ById}
-use Rattle.zt_rows.specs.Face.{AskRoom, FaceRoom}
+use Rattle.zt_faces.specs.Table.{FacesRooms}
 
--- the room of a face, and of each of its asks
-pub record RoomWithin : Type 0 where
-  pub rows : FaceRoom
-  pub asks : ById AskRoom
-
+-- the room of the faces, for numbers of the dictionary, for tokens of each router, for trees, and for messages to a face
 pub record Rooms : Type 0 where
-  pub faces : ℕ
-  pub asks : ℕ
+  pub faces : FacesRooms
   pub dictionary : ℕ
-  pub within : ById RoomWithin
+  pub routed : List ((Region × Zid) × ℕ)
+  pub trees : ℕ
+  pub outboxes : ById ℕ
 
 pub record TableRows (K : Type 0) : Type 0 where
   pub store : Store K

@@ -4,7 +4,7 @@ ghost use Rattle.std.specs.Option.{option_copied};
 ghost use Rattle.zt_model.specs.Lists.{at_id, is_among, is_some_and};
 ghost use Rattle.zt_model.specs.Routing.{stands};
 ghost use Rattle.zt_rows.specs.Plain.{plain_interest};
-ghost use Rattle.zt_tables.specs.Asks.{ask_at, one_where, pendings_at};
+ghost use Rattle.zt_changes.specs.Asks.{ask_at, one_where, pendings_at};
 
 use crate::tables::Tables;
 use zt_keys::Key;

@@ -1,10 +1,12 @@
 // Plans.
-ghost use Rattle.std.specs.Prelude.{◌≡◌, ◌∷◌, ◌++◌, [], OnErr, OnOk, length, min, take, map};
+ghost use Rattle.std.specs.Prelude.{◌≡◌, ◌<◌, ◌^◌, ◌∷◌, ◌++◌, [], OnErr, OnOk, length, min, take, map};
 ghost use Rattle.zt_rows.specs.Change.{plain_change};
-ghost use Rattle.zt_tables.specs.Drawn.{count_drawn, ids_of};
+ghost use Rattle.zt_changes.specs.AsksMade.{count_asks};
+ghost use Rattle.zt_changes.specs.Drawn.{count_drawn};
 
 use std::alloc::Global;
 use std::marker::Model;
+use zt_changes::{asks_added, drawn};
 use zt_keys::{Key, Memory};
 use zt_rows::Change;
 
@@ -43,7 +45,8 @@ impl<K: Key> Plan<K> {
 
     /// How many changes there are.
     pub fn len(&self) -> usize
-        ensures { result ≡ length self.now }
+        ensures len { result ≡ length self.now }
+        ensures small { result < 2 ^ 63 }
     {
         self.changes.len()
     }
@@ -57,7 +60,7 @@ impl<K: Key> Plan<K> {
         Ok(())
     }
 
-    /// Leaves the first changes alone, as many as given.
+    /// Keeps the first changes, as many as given; the others go.
     pub fn truncate(&mut self, len: usize)
         ensures { self.new ≡ take len self.old }
     {
@@ -65,26 +68,18 @@ impl<K: Key> Plan<K> {
     }
 
     /// How many ids the plan draws for the face, at most 4294967295: one for each `Tell`, for each `AddPending`, and
-    /// for each `AddLocal` of an interest that has no pending.
+    /// for each `AddLocal` of an interest that doesn't ask what is there now, since one that does takes its pending's id.
     pub fn drawn(&self, f: u32) -> u32
         ensures { result ≡ min 4294967295 (count_drawn f self.now) }
     {
-        let mut drawn = 0u32;
-        for change in &self.changes {
-            drawn = drawn.saturating_add(drawn_by(change, f));
-        }
-        drawn
+        drawn(&self.changes, f)
     }
-}
 
-// How many ids the change draws for the face.
-fn drawn_by<K>(change: &Change<K>, f: u32) -> u32
-    ensures { result ≡ ids_of f (plain_change change.now) }
-{
-    match change {
-        Change::Tell { face, .. } if *face == f => 1,
-        Change::AddPending { face, .. } if *face == f => 1,
-        Change::AddLocal { face, row } if *face == f && !row.interest.mode.is_current() => 1,
-        _ => 0,
+    /// How many asks the plan makes.
+    pub fn asks_added(&self) -> u64
+        ensures added { result ≡ count_asks self.now }
+        ensures most { result < 2 ^ 63 }
+    {
+        asks_added(&self.changes)
     }
 }

@@ -7,7 +7,7 @@ ghost use Rattle.zt_model.specs.Parts.{find_face, told_id};
 ghost use Rattle.zt_model.specs.Wants.{wants};
 ghost use Rattle.zt_rows.specs.ById.{next_id};
 ghost use Rattle.zt_rows.specs.Plain.{interest_held, interest_sent, plain_pending};
-ghost use Rattle.zt_tables.specs.Queries.{from_face, ids_left, list_of_face};
+ghost use Rattle.zt_changes.specs.Queries.{from_face, ids_left, list_of_face};
 
 use crate::tables::Tables;
 use std::alloc::Global;

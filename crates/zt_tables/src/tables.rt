@@ -1,25 +1,31 @@
 // The tables.
-ghost use Rattle.std.specs.Prelude.{◌≡◌, ◌≤◌, [], IfSome, Some, length, option_map};
+ghost use Rattle.std.specs.Prelude.{◌≡◌, ◌≤◌, ◌^◌, [], IfSome, Some, length, option_map};
 ghost use Rattle.zt_model.specs.Acts.{next_number, outbox_of};
 ghost use Rattle.zt_model.specs.Lists.{at_id, first_of};
 ghost use Rattle.zt_rows.specs.ById.{next_id};
-ghost use Rattle.zt_tables.specs.Asks.{ask_at, number_of_ask};
-ghost use Rattle.zt_rows.specs.Waiting.{outbox_taken};
+ghost use Rattle.zt_changes.specs.AskActs.{AreAsksNumbered};
+ghost use Rattle.zt_changes.specs.Asks.{ask_at, number_of_ask};
+ghost use Rattle.zt_grouped.specs.Waiting.{outbox_taken};
 ghost use Rattle.std.specs.Option.{option_copied};
 ghost use Rattle.zt_model.specs.Parts.{find_face};
 ghost use Rattle.std.specs.List.{list_any};
 ghost use Rattle.zt_model.specs.Trees.{is_own_row, is_routed_row, row_at};
 ghost use Rattle.zt_protocol.specs.Plain.{trees_of};
-ghost use Rattle.zt_tables.specs.Live.{SaysDeclared, SaysRouted};
-ghost use Rattle.zt_tables.specs.Queries.{next_face_after, next_number_after, numbered, table_set};
+ghost use Rattle.zt_faces.specs.Declaring.{SaysDeclared};
+ghost use Rattle.zt_tables.specs.Live.{SaysRouted};
+ghost use Rattle.zt_changes.specs.Queries.{next_face_after, next_number_after, numbered, table_set};
+ghost use Rattle.std.specs.Prelude.{IsTrue};
+ghost use Rattle.zt_changes.specs.Opened.{is_rising, numbers_of};
 
 use std::alloc::Global;
 use std::marker::Model;
+use zt_faces::Faces;
+use zt_grouped::{GroupedKeys, Outboxes};
 use zt_keys::Key;
 use zt_ordered::OrderedRows;
 use zt_protocol::{Message, TreeTable};
 use zt_region::{Admission, Region, WhatAmI, Zid};
-use zt_rows::{AskRows, FaceRow, FaceRows, GroupedKeys, KeyIds, Outboxes};
+use zt_rows::{AskRows, FaceRow, FaceRows, KeyIds};
 
 /// The rows of a gateway. Contracts see them as the model's store, and apart from it the room for more.
 #[derive(Drop)]
@@ -29,16 +35,12 @@ pub struct Tables<K: Key> {
     regions: Vec<Region>,
     admission: Admission,
     timeout: u64,
-    moment: u64,
-    made: u32,
-    faces: OrderedRows<u32, FaceRows<K>>,
-    asks: OrderedRows<u64, (u32, u32)>,
-    // the least number that no ask has
-    free: u64,
-    dictionary: KeyIds<K>,
-    routed: GroupedKeys<(Region, Zid), K>,
-    trees: OrderedRows<Region, TreeTable>,
-    outboxes: Outboxes<K>,
+    pub(crate) moment: u64,
+    pub(crate) faces: Faces<K>,
+    pub(crate) dictionary: KeyIds<K>,
+    pub(crate) routed: GroupedKeys<(Region, Zid), K>,
+    pub(crate) trees: OrderedRows<Region, TreeTable>,
+    pub(crate) outboxes: Outboxes<K>,
 }
 
 impl<K: Key> Model for Tables<K> {
@@ -77,6 +79,7 @@ impl<K: Key> Tables<K> {
               dictionary = [];
               faces = [];
             } }
+        ensures asks_made { result.store.asks_made ≡ 0 }
         ensures numbers { result.store.numbers ≡ [] }
         ensures outboxes { result.store.outboxes ≡ [] }
     {
@@ -87,10 +90,7 @@ impl<K: Key> Tables<K> {
             admission,
             timeout,
             moment: 0,
-            made: 0,
-            faces: OrderedRows::new(alloc),
-            asks: OrderedRows::new(alloc),
-            free: 1,
+            faces: Faces::new(alloc),
             dictionary: KeyIds::new(alloc),
             routed: GroupedKeys::new(alloc),
             trees: OrderedRows::new(alloc),
@@ -102,7 +102,7 @@ impl<K: Key> Tables<K> {
     pub(crate) fn rows_of(&self, f: u32) -> Option<&FaceRows<K>>
         ensures { option_map (λ t. t.face) (option_copied result) ≡ find_face f self.now.store.rows }
     {
-        self.faces.get(&f)
+        self.faces.get(f)
     }
 
     /// The open face of the number.
@@ -122,7 +122,7 @@ impl<K: Key> Tables<K> {
     pub fn next_face(&self, after: u32) -> Option<u32>
         ensures { result ≡ next_face_after after self.now.store.rows.faces }
     {
-        self.faces.next_key(Some(&after)).copied()
+        self.faces.next_face(after)
     }
 
     /// The gateway's zid.
@@ -171,7 +171,7 @@ impl<K: Key> Tables<K> {
     pub fn next_face_number(&self) -> Option<u32>
         ensures { result ≡ next_number_after self.now.store.rows.made }
     {
-        self.made.checked_add(1)
+        self.faces.made().checked_add(1)
     }
 
     /// The number of the expression in the dictionary.
@@ -217,10 +217,9 @@ impl<K: Key> Tables<K> {
     // Whether a face of a region that passes the test declares the expression. A scan of the faces.
     pub(crate) fn any_declared<F: Fn(&Region) -> bool>(&self, expr: &K, test: &F) -> bool
         requires { F.IsAlwaysCallable test.now }
-        ensures { SaysDeclared (F.post test.now) K.cmp expr.now self.now.store.rows result }
+        ensures { SaysDeclared (F.post test.now) K.cmp expr.now self.now.store.rows.faces result }
     {
-        self.faces
-            .any(|_, face| test(&face.row().region) && face.declares(expr))
+        self.faces.any_declared(expr, test)
     }
 
     // Whether another router's row of the expression stands in a region that passes the test. A scan of the routers.
@@ -238,33 +237,23 @@ impl<K: Key> Tables<K> {
         ensures ask { option_map (λ a. a.ask) (option_copied result) ≡ ask_at n self.now.store }
         ensures place { IfSome (option_copied result) (λ a. at_id n self.now.store.numbers ≡ Some (a.face, a.id)) }
     {
-        match self.asks.get(&n) {
-            Some(place) => match self.rows_of(place.0) {
-                Some(face) => face.ask(place.1),
-                None => None,
-            },
-            None => None,
-        }
+        self.faces.ask(n)
     }
 
-    /// The number of the next ask: the least from 1 that no standing ask has.
+    /// The number of the next ask. Numbers count from 1, and none is used twice.
     pub fn next_ask(&self) -> u64
-        ensures { result ≡ next_number self.now.store }
+        ensures number { result ≡ next_number self.now.store }
+        ensures most { result ≤ 2 ^ 62 }
+        ensures numbered { AreAsksNumbered self.now.store }
     {
-        self.free
+        self.faces.asks_made() + 1
     }
 
     /// The ask of the face under the id, by its number.
     pub fn ask_of(&self, f: u32, id: u32) -> Option<u64>
         ensures { result ≡ number_of_ask (f, id) self.now.store.numbers }
     {
-        match self.faces.get(&f) {
-            Some(face) => match face.ask(id) {
-                Some(ask) => Some(ask.number()),
-                None => None,
-            },
-            None => None,
-        }
+        self.faces.ask_of(f, id)
     }
 
     /// The least number above `after` of a face for which a message waits.
@@ -277,8 +266,24 @@ impl<K: Key> Tables<K> {
     /// Takes the oldest message that waits for the face; `None` exactly where there is none.
     pub fn take_outbox(&mut self, f: u32) -> Option<Message<K>>
         ensures message { result ≡ first_of (outbox_of f self.old.store.outboxes) }
-        ensures left { self.new ≡ record self.old { store = record self.old.store { outboxes = outbox_taken f self.old.store.outboxes } } }
+        ensures left { self.new ≡ record self.old { store = record self.old.store { outboxes = outbox_taken f self.old.store.outboxes }; rooms = self.new.rooms } }
     {
         self.outboxes.take(f)
+    }
+}
+
+impl<K: Key> Tables<K> {
+    // How many faces were ever made.
+    pub(crate) fn made(&self) -> u32
+        ensures { result ≡ self.now.store.rows.made }
+    {
+        self.faces.made()
+    }
+
+    // A fact alone: the numbers of the open faces rise.
+    pub(crate) fn faces_rise(&self)
+        ensures { IsTrue (is_rising (numbers_of self.now.store.rows.faces)) }
+    {
+        self.faces.rising();
     }
 }

@@ -1,27 +1,13 @@
-use Rattle.std.proofs.Common.{◌∙◌, ap, map, sym, take}
-use Rattle.std.proofs.lemmas.List.{take_all}
-use Rattle.zt_model.specs.Lists.{at_id}
-use Rattle.zt_model.specs.Parts.{find_face}
-use Rattle.zt_rows.specs.Change.{plain_change}
-use Rattle.zt_tables.specs.FaceActs.{held-after, held_step}
-use Rattle.zt_tables.specs.Folds.{folded, folded-more}
-use Rattle.zt_tables.specs.Queries.{from_face}
+use Rattle.std.proofs.Common.{◌∙◌, sym}
+use Rattle.zt_changes.specs.Folds.{folded}
+use Rattle.zt_changes.specs.FaceActs.{held-after, held_step}
 use Rattle.zt_tables.proofs.plan.Plan.held.Goals as goal
 
-pub loop-change-preserved : goal.loop-change-preserved
-loop-change-preserved g c =
-    let step = held_step {K = g.row.K.Denot} c.args.f c.args.id in
-    let before = from_face {K = g.row.K.Denot} (λ face. at_id c.args.id face.held) (find_face c.args.f c.args.tables.now.store.rows) in
-    let items = c.changes-change-items.result.now in
-    c.held_after-found.ensures ∙ ap (step (plain_change c.change-item.result)) c.loop-change.invariant
-    ∙ ap (λ x. step (plain_change x) (folded step (map plain_change (take c.loop-change.change-index items)) before)) c.change-item.is
-    ∙ sym (folded-more step plain_change items c.loop-change.change-index c.change-item.result before c.loop-change-test.true)
-
-pub returns : goal.returns
-returns g c fit =
-    let step = held_step {K = g.row.K.Denot} c.args.f c.args.id in
-    let before = from_face {K = g.row.K.Denot} (λ face. at_id c.args.id face.held) (find_face c.args.f c.args.tables.now.store.rows) in
-    let items = c.changes-change-items.result.now in
-    c.loop-change.invariant ∙ ap (λ xs. folded step (map plain_change xs) before) (take_all c.loop-change.change-index items c.loop-change-test.false)
-    ∙ ap (λ acts. folded step acts before) c.changes-change-items.ensures
+pub returns-clause-interest : goal.returns-clause-interest
+returns-clause-interest g c fit =
+    c.held_after.ensures.interest
+    ∙ (λ i. folded (held_step {K = g.row.K.Denot} c.args.f c.args.id) (c.changes.ensures i) (c.held.ensures.interest i))
     ∙ sym (held-after g.K.Ord.cmp g.K.Key.matching c.args.f c.args.id c.args.self.now c.args.tables.now.store fit)
+
+pub returns-clause-id : goal.returns-clause-id
+returns-clause-id g c = c.held_after.ensures.id c.held.ensures.id

@@ -1,26 +1,10 @@
-use Rattle.std.proofs.Common.{◌∙◌, ap, map, sym, take}
-use Rattle.std.proofs.lemmas.List.{take_all}
-use Rattle.zt_model.specs.Parts.{find_face, told_id}
-use Rattle.zt_rows.specs.Change.{plain_change}
-use Rattle.zt_tables.specs.Folds.{folded, folded-more}
-use Rattle.zt_tables.specs.Queries.{from_face}
-use Rattle.zt_tables.specs.ToldActs.{told-after, told_step}
+use Rattle.std.proofs.Common.{◌∙◌, sym}
+use Rattle.zt_changes.specs.Folds.{folded}
+use Rattle.zt_changes.specs.ToldActs.{told-after, told_step}
 use Rattle.zt_tables.proofs.plan.Plan.told.Goals as goal
-
-pub loop-change-preserved : goal.loop-change-preserved
-loop-change-preserved g c =
-    let step = told_step g.K.Ord.cmp g.K.Key.matching c.args.f c.args.expr.now in
-    let before = from_face (λ face. told_id g.K.Ord.cmp c.args.expr.now face.told) (find_face c.args.f c.args.tables.now.store.rows) in
-    let items = c.changes-change-items.result.now in
-    c.told_after-found.ensures ∙ ap (step (plain_change c.change-item.result)) c.loop-change.invariant
-    ∙ ap (λ x. step (plain_change x) (folded step (map plain_change (take c.loop-change.change-index items)) before)) c.change-item.is
-    ∙ sym (folded-more step plain_change items c.loop-change.change-index c.change-item.result before c.loop-change-test.true)
 
 pub returns : goal.returns
 returns g c fit =
-    let step = told_step g.K.Ord.cmp g.K.Key.matching c.args.f c.args.expr.now in
-    let before = from_face (λ face. told_id g.K.Ord.cmp c.args.expr.now face.told) (find_face c.args.f c.args.tables.now.store.rows) in
-    let items = c.changes-change-items.result.now in
-    c.loop-change.invariant ∙ ap (λ xs. folded step (map plain_change xs) before) (take_all c.loop-change.change-index items c.loop-change-test.false)
-    ∙ ap (λ acts. folded step acts before) c.changes-change-items.ensures
+    c.told_after.ensures
+    ∙ (λ i. folded (told_step g.K.Ord.cmp g.K.Key.matching c.args.f c.args.expr.now) (c.changes.ensures i) (c.told.ensures i))
     ∙ sym (told-after g.K.Ord.cmp g.K.Key.matching g.met.K.Ord.total c.args.f c.args.expr.now c.args.self.now c.args.tables.now.store fit)

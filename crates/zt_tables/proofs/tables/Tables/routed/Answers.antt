@@ -1,5 +1,5 @@
 use Rattle.std.proofs.Common.{◌∙◌}
-use Rattle.zt_tables.proofs.RoutedOrder.{any-routed}
+use Rattle.zt_tables.specs.RoutedOrder.{any-routed}
 use Rattle.zt_tables.proofs.tables.Tables.routed.Goals as goal
 
 pub returns : goal.returns

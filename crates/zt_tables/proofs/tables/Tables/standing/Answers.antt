@@ -1,5 +1,5 @@
 use Rattle.std.proofs.Common.{ap, sym}
-use Rattle.zt_tables.specs.Asks.{one_where, stands-none, stands-some}
+use Rattle.zt_changes.specs.Asks.{one_where, stands-none, stands-some}
 use Rattle.zt_tables.proofs.tables.Tables.standing.Goals as goal
 
 pub returns-in-Some : goal.returns-in-Some

@@ -1,7 +1,7 @@
 use Rattle.std.proofs.Common.{ap, ◌∙◌}
 use Rattle.std.specs.Option.{option_map}
 use Rattle.zt_protocol.specs.Plain.{trees_of}
-use Rattle.zt_tables.proofs.RegionOrder.{table-found}
+use Rattle.zt_tables.specs.RegionOrder.{table-found}
 use Rattle.zt_tables.proofs.tables.Tables.tree.Goals as goal
 
 pub returns : goal.returns

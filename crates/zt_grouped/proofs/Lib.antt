@@ -1,0 +1,5 @@
+mod Following
+mod InGroups
+mod Kept
+mod Popped
+mod Waits

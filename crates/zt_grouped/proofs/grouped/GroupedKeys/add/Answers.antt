@@ -1,0 +1,31 @@
+use Rattle.std.proofs.Common.{ap, arith, subst, sym, ◌∙◌, ◌<◌}
+use Rattle.std.specs.FinMap.Entries.{is_sorted-put, put}
+use Rattle.zt_ordered.specs.Test.{T-from, T-to}
+use Rattle.zt_grouped.specs.GroupRoom.{room-none, room-there, room_of, rooms-put}
+use Rattle.zt_grouped.specs.Grouped.{flattened-put, keys_in}
+use Rattle.zt_grouped.proofs.grouped.GroupedKeys.add.Goals as goal
+
+pub put-requires : goal.put-requires
+put-requires g c none =
+    let is = room-there g.G.Ord.cmp (λ t. t.room) c.args.group.now c.self.inside.groups.rows c.in-Some.keys.now (sym c.in-Some.ensures.value) in
+    let room = subst (λ t. 0 < room_of g.G.Ord.cmp c.args.group.now t.rooms) (sym c.self.view_is) c.requires.room in
+    omega (arith, is, room)
+
+pub unreachable-requires : goal.unreachable-requires
+unreachable-requires g c =
+    let is = room-none g.G.Ord.cmp (λ t. t.room) c.args.group.now c.self.inside.groups.rows (sym c.in-None.ensures.value) in
+    let room = subst (λ t. 0 < room_of g.G.Ord.cmp c.args.group.now t.rooms) (sym c.self.view_is) c.requires.room in
+    omega (arith, is, room)
+
+pub invariant_of-self : goal.invariant_of-self
+invariant_of-self g c = T-to _ (is_sorted-put g.G.Ord.cmp g.met.G.Ord.total c.args.group.now c.put.new.self c.self.inside.groups.rows (T-from _ c.self.invariant))
+
+pub returns : goal.returns
+returns g c =
+    let made = c.put.ensures.rows ∙ ap (λ r. put g.K.Ord.cmp c.args.key tt (keys_in r)) c.in-Some.ensures.value in
+    let rows = c.self.inside.groups.rows in
+    let there = room-there g.G.Ord.cmp (λ t. t.room) c.args.group.now rows c.in-Some.keys.now (sym c.in-Some.ensures.value) in
+    record {
+      pairs = rw (← c.self.view_is) (flattened-put g.G.Ord.cmp g.K.Ord.cmp g.met.G.Ord.total c.requires.one c.args.group.now c.args.key c.put.new.self rows c.self.invariant made);
+      rooms = rw (← c.self.view_is) (rooms-put g.G.Ord.cmp (λ t. t.room) c.args.group.now rows g.met.G.Ord.total c.put.new.self 1 (omega (arith, there, c.put.ensures.room)));
+    }

@@ -1,0 +1,10 @@
+pub mod Grouped
+pub mod GroupRoom
+pub mod AnyGroup
+pub mod GroupTable
+pub mod GroupView
+pub mod NextPair
+pub mod GroupOrder
+pub mod Waiting
+pub mod OutboxTable
+pub mod OutboxView

@@ -1,0 +1,26 @@
+use Rattle.std.proofs.Common.{refl, subst, sym}
+use Rattle.zt_model.specs.Acts.{AddAsk, Fits, acted, fits}
+use Rattle.zt_model.specs.Parts.{with_face}
+use Rattle.zt_changes.specs.AskActs.{numbered-acted}
+use Rattle.zt_tables.specs.Fitting.{number-none}
+use Rattle.zt_tables.specs.View.{table_rows}
+use Rattle.zt_tables.proofs.tables.Tables.add_ask.Goals as goal
+
+pub add_ask-requires-clause-new : goal.add_ask-requires-clause-new
+unfolding fits
+add_ask-requires-clause-new g c =
+    let ask = c.args.ask in
+    let fit = subst (λ t. Fits g.K.Ord.cmp g.K.Key.matching (AddAsk ask.face ask.id ask.ask.interest) t.store) (sym c.self.view_is) c.requires.fits in
+    number-none ask.face ask.id (table_rows c.self.inside).store c.self.invariant.asks_numbered fit
+
+pub invariant_of-self : goal.invariant_of-self
+unfolding acted with_face
+invariant_of-self g c =
+    let ask = c.args.ask in
+    let fit = subst (λ t. Fits g.K.Ord.cmp g.K.Key.matching (AddAsk ask.face ask.id ask.ask.interest) t.store) (sym c.self.view_is) c.requires.fits in
+    let kept = numbered-acted g.K.Ord.cmp g.K.Key.matching (AddAsk ask.face ask.id ask.ask.interest) (table_rows c.self.inside).store c.self.invariant.asks_numbered fit in
+    record { counted = c.self.invariant.counted; dictionary = c.self.invariant.dictionary; asks_numbered = rw (c.add_ask.ensures.faces, c.requires.new) kept }
+
+pub returns-clause-store : goal.returns-clause-store
+unfolding acted with_face
+returns-clause-store g c = rw (← c.self.view_is, c.add_ask.ensures.faces, c.requires.new) refl

@@ -1,0 +1,28 @@
+use Rattle.std.proofs.Common.{arith, refl, subst, sym}
+use Rattle.std.specs.Ordering.{is_eq, nat_cmp}
+use Rattle.zt_model.specs.Acts.{CloseFace, Fits, acted}
+use Rattle.zt_changes.specs.AskActs.{numbered-acted}
+use Rattle.zt_tables.specs.Room.{others-kept}
+use Rattle.zt_tables.specs.View.{table_rows}
+use Rattle.zt_tables.proofs.tables.Tables.close_face.Goals as goal
+
+pub invariant_of-self : goal.invariant_of-self
+unfolding acted
+invariant_of-self g c =
+    let fit = subst (λ t. Fits g.K.Ord.cmp g.K.Key.matching (CloseFace c.args.f) t.store) (sym c.self.view_is) c.requires in
+    let kept = numbered-acted g.K.Ord.cmp g.K.Key.matching (CloseFace c.args.f) (table_rows c.self.inside).store c.self.invariant.asks_numbered fit in
+    record { counted = c.self.invariant.counted; dictionary = c.self.invariant.dictionary; asks_numbered = rw c.close.ensures.faces (record { in_order = kept.in_order; below = kept.below; stand = kept.stand; apart = kept.apart }) }
+
+pub returns-clause-store : goal.returns-clause-store
+unfolding acted
+returns-clause-store g c = rw (← c.self.view_is, c.close.ensures.faces, c.forget.ensures.queues) refl
+
+pub returns-clause-rooms : goal.returns-clause-rooms
+returns-clause-rooms g c =
+    rw (← c.self.view_is) (record {
+      faces = c.close.ensures.rooms;
+      dictionary = omega arith;
+      trees = omega arith;
+      routed = λ group. omega arith;
+      outboxes = λ n other. others-kept (is_eq (nat_cmp n c.args.f)) _ _ _ other (c.forget.ensures.rooms.at n);
+    })

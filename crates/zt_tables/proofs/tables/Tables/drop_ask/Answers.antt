@@ -1,0 +1,20 @@
+use Rattle.std.proofs.Common.{subst, sym}
+use Rattle.zt_model.specs.Acts.{DropAsk, Fits, fits}
+use Rattle.zt_model.specs.Lists.{at_id}
+use Rattle.zt_changes.specs.AskActs.{numbered-acted}
+use Rattle.zt_tables.specs.Fitting.{ask-stands, dropped-store}
+use Rattle.zt_tables.specs.View.{table_rows}
+use Rattle.zt_tables.proofs.tables.Tables.drop_ask.Goals as goal
+
+pub drop_ask-requires : goal.drop_ask-requires
+unfolding fits
+drop_ask-requires g c = ask-stands (at_id c.args.n c.self.inside.faces.numbers) c.self.inside.faces.faces (subst (λ t. Fits g.K.Ord.cmp g.K.Key.matching (DropAsk c.args.n) t.store) (sym c.self.view_is) c.requires)
+
+pub invariant_of-self : goal.invariant_of-self
+invariant_of-self g c =
+    let fit = subst (λ t. Fits g.K.Ord.cmp g.K.Key.matching (DropAsk c.args.n) t.store) (sym c.self.view_is) c.requires in
+    let kept = numbered-acted g.K.Ord.cmp g.K.Key.matching (DropAsk c.args.n) (table_rows c.self.inside).store c.self.invariant.asks_numbered fit in
+    record { counted = c.self.invariant.counted; dictionary = c.self.invariant.dictionary; asks_numbered = rw (c.drop_ask.ensures.faces, dropped-store g.K.Ord.cmp g.K.Key.matching c.args.n (table_rows c.self.inside).store) kept }
+
+pub returns-clause-store : goal.returns-clause-store
+returns-clause-store g c = rw (← c.self.view_is, c.drop_ask.ensures.faces) (dropped-store g.K.Ord.cmp g.K.Key.matching c.args.n (table_rows c.self.inside).store)

@@ -1,0 +1,23 @@
+use Rattle.std.proofs.Common.{refl, subst, sym}
+use Rattle.zt_model.specs.Acts.{Fits, acted, fits}
+use Rattle.zt_model.specs.Parts.{with_face}
+use Rattle.zt_model.specs.Acts.{DropLive}
+use Rattle.zt_tables.specs.Fitting.{has-face}
+use Rattle.zt_changes.specs.AskActs.{numbered-acted}
+use Rattle.zt_tables.specs.View.{table_rows}
+use Rattle.zt_tables.proofs.tables.Tables.drop_live.Goals as goal
+
+pub drop_live-requires : goal.drop_live-requires
+unfolding fits
+drop_live-requires g c = has-face c.args.f _ c.self.inside.faces.faces (subst (λ t. Fits g.K.Ord.cmp g.K.Key.matching (DropLive c.args.f c.args.id) t.store) (sym c.self.view_is) c.requires)
+
+pub invariant_of-self : goal.invariant_of-self
+unfolding acted with_face
+invariant_of-self g c =
+    let fit = subst (λ t. Fits g.K.Ord.cmp g.K.Key.matching (DropLive c.args.f c.args.id) t.store) (sym c.self.view_is) c.requires in
+    let kept = numbered-acted g.K.Ord.cmp g.K.Key.matching (DropLive c.args.f c.args.id) (table_rows c.self.inside).store c.self.invariant.asks_numbered fit in
+    record { counted = c.self.invariant.counted; dictionary = c.self.invariant.dictionary; asks_numbered = rw c.drop_live.ensures.faces kept }
+
+pub returns-clause-store : goal.returns-clause-store
+unfolding acted with_face
+returns-clause-store g c = rw (← c.self.view_is, c.drop_live.ensures.faces) refl

@@ -1,0 +1,30 @@
+use Rattle.std.proofs.Common.{◌+◌, ap, refl, subst, sym, ◌∙◌}
+use Rattle.std.proofs.lemmas.Bool.{leb-true}
+use Rattle.zt_ordered.specs.Test.{and_second}
+use Rattle.zt_model.specs.Acts.{Fits, OpenFace, acted, fits}
+use Rattle.zt_model.specs.Rows.{Face}
+use Rattle.zt_changes.specs.AskActs.{numbered-acted}
+use Rattle.zt_tables.specs.View.{table_rows}
+use Rattle.zt_tables.proofs.tables.Tables.open_face.Goals as goal
+
+pub open-requires-clause-number : goal.open-requires-clause-number
+open-requires-clause-number g c = ap (λ (x : Face _). x.number) c.requires.face ∙ ap (λ t. t.store.rows.made + 1) (sym c.self.view_is)
+
+pub open-requires-clause-last : goal.open-requires-clause-last
+unfolding fits
+open-requires-clause-last g c =
+    let row = c.args.row in
+    let fit = subst (λ t. Fits g.K.Ord.cmp g.K.Key.matching (OpenFace row.zid row.whatami row.region row.remote_bound row.first) t.store) (sym c.self.view_is) c.requires.fits in
+    leb-true (c.self.inside.faces.made + 1) 4294967295 (and_second _ _ fit)
+
+pub invariant_of-self : goal.invariant_of-self
+unfolding acted
+invariant_of-self g c =
+    let row = c.args.row in
+    let fit = subst (λ t. Fits g.K.Ord.cmp g.K.Key.matching (OpenFace row.zid row.whatami row.region row.remote_bound row.first) t.store) (sym c.self.view_is) c.requires.fits in
+    let kept = numbered-acted g.K.Ord.cmp g.K.Key.matching (OpenFace row.zid row.whatami row.region row.remote_bound row.first) (table_rows c.self.inside).store c.self.invariant.asks_numbered fit in
+    record { counted = c.self.invariant.counted; dictionary = c.self.invariant.dictionary; asks_numbered = rw (c.open.ensures.faces, c.requires.face, ← c.self.view_is) (record { in_order = kept.in_order; below = kept.below; stand = kept.stand; apart = kept.apart }) }
+
+pub returns-clause-store : goal.returns-clause-store
+unfolding acted
+returns-clause-store g c = rw (c.open.ensures.faces, c.requires.face, ← c.self.view_is) refl

@@ -1,0 +1,20 @@
+use Rattle.std.proofs.Common.{subst, sym}
+use Rattle.zt_model.specs.Parts.{with_face}
+use Rattle.zt_model.specs.Acts.{Fits}
+use Rattle.zt_model.specs.Acts.{Send}
+use Rattle.std.proofs.Common.{refl}
+use Rattle.zt_model.specs.Acts.{acted}
+use Rattle.zt_changes.specs.AskActs.{numbered-acted}
+use Rattle.zt_tables.specs.View.{table_rows}
+use Rattle.zt_tables.proofs.tables.Tables.send.Goals as goal
+
+pub invariant_of-self : goal.invariant_of-self
+unfolding acted with_face
+invariant_of-self g c =
+    let fit = subst (λ t. Fits g.K.Ord.cmp g.K.Key.matching (Send c.args.f c.args.message) t.store) (sym c.self.view_is) c.requires.fits in
+    let kept = numbered-acted g.K.Ord.cmp g.K.Key.matching (Send c.args.f c.args.message) (table_rows c.self.inside).store c.self.invariant.asks_numbered fit in
+    record { counted = c.self.invariant.counted; dictionary = c.self.invariant.dictionary; asks_numbered = rw c.push.ensures.queues kept }
+
+pub returns-clause-store : goal.returns-clause-store
+unfolding acted
+returns-clause-store g c = rw (← c.self.view_is, c.push.ensures.queues) refl

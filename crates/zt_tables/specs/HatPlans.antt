@@ -1,0 +1,132 @@
+-- Plans that grow, call by call: what the changes of several calls leave, draw and fit.
+--     acted_all-append, fit-append, count_drawn-append    what was planned before, and more
+--     IsSameGateway, acted-same, acted_all-same           changes leave what the gateway was made with
+--     run-after                                           the gateway runs a strategy as long as it stands
+--     plans-added, owned-open                             changes are added that fit; an owned face is open
+use Rattle.std.specs.Prelude.{◌≡◌, IsTrue, ℕ, Bool, ◌+◌, List, [], ◌∷◌, ◌++◌, Option, Some, None, is_some, Result, Ok, Err, OnErr, OnOk, refl}
+use Rattle.std.specs.declared.cmp.Ordering.{Ordering}
+use Rattle.std.proofs.Common.{arith, subst, sym, zero-add, ◌∙◌}
+use Rattle.zt_keys.specs.declared.error.Memory.{Memory}
+use Rattle.zt_region.specs.Region.{region_eq}
+use Rattle.zt_region.specs.declared.region.Region.{Region}
+use Rattle.zt_region.specs.declared.region.WhatAmI.{WhatAmI}
+use Rattle.zt_region.specs.declared.region.Zid.{Zid}
+use Rattle.zt_model.specs.Acts.{Act, OpenFace, CloseFace, AddLive, DropLive, AddRouted, DropRouted, Tell, Untell, AddHeld, DropHeld, AddLocal, DropLocal, FinaliseInitial, AddPending, DropPending, AddAsk, Answered, DropAsk, Send, SetMoment, SetTree, SetEntities, Number, Fit, Store, acted, acted_all, answered_with, ask_added, ask_dropped, at_ask, at_face, entities_set, finalised, held_added, local_added, local_dropped, pended_under, told_ended, told_under}
+use Rattle.zt_model.specs.Lists.{at_id, is_some_and}
+use Rattle.zt_model.specs.Parts.{find_face, with_face}
+use Rattle.zt_model.specs.Routing.{ended, unheld}
+use Rattle.zt_model.specs.Rows.{Face, Pending, Rows}
+use Rattle.zt_model.specs.Strategy.{Strategy, is_region_of, strategy_of}
+use Rattle.zt_model.specs.Telling.{registered, unregistered}
+use Rattle.zt_model.specs.Trees.{with_routed, without_routed}
+use Rattle.zt_changes.specs.Drawn.{count_drawn}
+use Rattle.zt_tables.specs.HatAnswers.{Plans}
+use Rattle.zt_tables.specs.HatConditions.{IsOpen, IsRun, Owns}
+
+pub count_drawn-append : {K : Type 0} (n : ℕ) (before more : List (Act K)) → count_drawn n (before ++ more) ≡ count_drawn n before + count_drawn n more
+count_drawn-append n [] more = sym (zero-add (count_drawn n more))
+count_drawn-append n (act ∷ before) more = let rest = count_drawn-append n before more in omega (arith, rest)
+
+pub owned-open : {K : Type 0} (region : Region) (n : ℕ) (s : Store K) → Owns region n s → IsOpen n s
+owned-open {K = K} region n s owned = at (find_face n s.rows) owned
+  where
+    at : (face : Option (Face K)) → IsTrue (is_some_and face (λ f. region_eq f.region region)) → IsTrue (is_some face)
+    at None h = h
+    at (Some f) h = refl
+
+-- what a gateway is made with
+pub record IsSameGateway {K : Type 0} (g h : Rows K) : Type 0 where
+  pub mode : h.mode ≡ g.mode
+  pub zid : h.zid ≡ g.zid
+  pub regions : h.regions ≡ g.regions
+  pub refused : h.refused ≡ g.refused
+  pub timeout : h.timeout ≡ g.timeout
+
+same-itself : {K : Type 0} (g : Rows K) → IsSameGateway g g
+same-itself g = record { mode = refl; zid = refl; regions = refl; refused = refl; timeout = refl }
+
+same-then : {K : Type 0} (g h i : Rows K) → IsSameGateway g h → IsSameGateway h i → IsSameGateway g i
+same-then g h i one two =
+    record { mode = two.mode ∙ one.mode; zid = two.zid ∙ one.zid; regions = two.regions ∙ one.regions; refused = two.refused ∙ one.refused; timeout = two.timeout ∙ one.timeout }
+
+face-same : {K : Type 0} (n : ℕ) (change : Face K → Face K) (g : Rows K) → IsSameGateway g (with_face n change g)
+unfolding with_face
+face-same n change g = record { mode = refl; zid = refl; regions = refl; refused = refl; timeout = refl }
+
+ask-same : {K : Type 0} (n : ℕ) (change : ℕ → Face K → Face K) (s : Store K) → IsSameGateway s.rows (at_ask n change s).rows
+ask-same {K = K} n change s = found (at_id n s.numbers)
+  where
+    found : (at : Option (ℕ × ℕ)) → IsSameGateway s.rows (elim at as (λ _. Store K) [ None ↦ s | Some p ↦ at_face p.0 (change p.1) s ]).rows
+    found None = same-itself s.rows
+    found (Some p) = face-same p.0 (change p.1) s.rows
+
+run-same : {K : Type 0} (hat : Strategy) (region : Region) (g h : Rows K) → IsSameGateway g h → IsRun hat region g → IsRun hat region h
+run-same hat region g h same run =
+    let Listed : List Region → Type 0 = λ rs. IsTrue (is_region_of rs region) in
+    let Runs : WhatAmI → Type 0 = λ m. strategy_of m region ≡ hat in
+    record { region_listed = subst Listed (sym same.regions) run.region_listed; strategy_same = subst Runs (sym same.mode) run.strategy_same }
+
+module _ {K : Type 0} (cmp : K → K → Ordering) (matching : K → K → Bool) where
+  pub acted_all-append : (before more : List (Act K)) (s : Store K) → acted_all cmp matching (before ++ more) s ≡ acted_all cmp matching more (acted_all cmp matching before s)
+  unfolding acted_all
+  acted_all-append [] more s = refl
+  acted_all-append (act ∷ before) more s = acted_all-append before more (acted cmp matching act s)
+
+  pub fit-append : (before more : List (Act K)) (s : Store K) → Fit cmp matching before s → Fit cmp matching more (acted_all cmp matching before s) → Fit cmp matching (before ++ more) s
+  unfolding acted_all Fit
+  fit-append [] more s fits then = then
+  fit-append (act ∷ before) more s fits then = (fits.0, fit-append before more (acted cmp matching act s) fits.1 then)
+
+  pub plans-added : {A : Type 0} (result : Result A Memory) (before after : List (Act K)) (acts : Store K → List (Act K)) (s : Store K) → Fit cmp matching before s
+      → Fit cmp matching (acts (acted_all cmp matching before s)) (acted_all cmp matching before s) → OnOk result (after ≡ before ++ acts (acted_all cmp matching before s)) → OnErr result (after ≡ before)
+      → Plans cmp matching result before after acts s
+  plans-added (Ok value) before after acts s fits then added stayed =
+      let Fitting : List (Act K) → Type 0 = λ changes. Fit cmp matching changes s in (added, subst Fitting (sym added) (fit-append before (acts (acted_all cmp matching before s)) s fits then))
+  plans-added (Err error) before after acts s fits then added stayed = stayed
+
+  routed-same : (region : Region) (source : Zid) (e : K) (g : Rows K) → IsSameGateway g (with_routed cmp matching region source e g)
+  unfolding with_routed
+  routed-same region source e g = record { mode = refl; zid = refl; regions = refl; refused = refl; timeout = refl }
+
+  unrouted-same : (region : Region) (source : Zid) (e : K) (g : Rows K) → IsSameGateway g (without_routed cmp matching region source e g)
+  unfolding without_routed
+  unrouted-same region source e g = record { mode = refl; zid = refl; regions = refl; refused = refl; timeout = refl }
+
+  pended-same : (n id : ℕ) (ask : Option ℕ) (pending : Pending) (s : Store K) → IsSameGateway s.rows (pended_under n id ask pending s).rows
+  unfolding with_face
+  pended-same n id ask pending s = record { mode = refl; zid = refl; regions = refl; refused = refl; timeout = refl }
+
+  pub acted-same : (act : Act K) (s : Store K) → IsSameGateway s.rows (acted cmp matching act s).rows
+  unfolding acted
+  acted-same (OpenFace zid whatami region bound first) s = record { mode = refl; zid = refl; regions = refl; refused = refl; timeout = refl }
+  acted-same (CloseFace n) s = record { mode = refl; zid = refl; regions = refl; refused = refl; timeout = refl }
+  acted-same (AddLive n id e) s = face-same n (registered id e) s.rows
+  acted-same (DropLive n id) s = face-same n (unregistered id) s.rows
+  acted-same (AddRouted region source e) s = routed-same region source e s.rows
+  acted-same (DropRouted region source e) s = unrouted-same region source e s.rows
+  acted-same (Tell n id e) s = face-same n (told_under id e) s.rows
+  acted-same (Untell n e) s = face-same n (told_ended cmp matching e) s.rows
+  acted-same (AddHeld n id interest) s = face-same n (held_added id interest) s.rows
+  acted-same (DropHeld n id) s = face-same n (unheld id) s.rows
+  acted-same (AddLocal n id interest) s = face-same n (local_added id interest) s.rows
+  acted-same (DropLocal n id) s = face-same n (local_dropped id) s.rows
+  acted-same (FinaliseInitial n) s = face-same n finalised s.rows
+  acted-same (AddPending n id ask pending) s = pended-same n id ask pending s
+  acted-same (DropPending n id) s = face-same n (ended id) s.rows
+  acted-same (AddAsk n id interest) s = face-same n (ask_added id interest) s.rows
+  acted-same (Answered n e) s = ask-same n (answered_with cmp matching e) s
+  acted-same (DropAsk n) s = ask-same n ask_dropped s
+  acted-same (Send n m) s = same-itself s.rows
+  acted-same (SetMoment now) s = record { mode = refl; zid = refl; regions = refl; refused = refl; timeout = refl }
+  acted-same (SetTree region table) s = record { mode = refl; zid = refl; regions = refl; refused = refl; timeout = refl }
+  acted-same (SetEntities n subscribers queryables) s = face-same n (entities_set subscribers queryables) s.rows
+  acted-same (Number e) s = record { mode = refl; zid = refl; regions = refl; refused = refl; timeout = refl }
+
+  pub acted_all-same : (acts : List (Act K)) (s : Store K) → IsSameGateway s.rows (acted_all cmp matching acts s).rows
+  unfolding acted_all
+  acted_all-same [] s = same-itself s.rows
+  acted_all-same (act ∷ acts) s =
+      let next = acted cmp matching act s in same-then s.rows next.rows (acted_all cmp matching acts next).rows (acted-same act s) (acted_all-same acts next)
+
+  pub run-after : (hat : Strategy) (region : Region) (acts : List (Act K)) (s : Store K) → IsRun hat region s.rows → IsRun hat region (acted_all cmp matching acts s).rows
+  run-after hat region acts s run = run-same hat region s.rows (acted_all cmp matching acts s).rows (acted_all-same acts s) run

@@ -1,0 +1,135 @@
+// What a strategy has a part in when tokens come and go.
+ghost use Rattle.std.specs.Prelude.{◌≡◌, ◌&&◌, ℕ, List, Option, Some, None, IfOk, map};
+ghost use Rattle.std.specs.List.{list_any};
+ghost use Rattle.std.specs.Option.{option_copied};
+ghost use Rattle.zt_region.specs.declared.region.Region.{Region};
+ghost use Rattle.zt_region.specs.Region.{region_eq};
+ghost use Rattle.zt_protocol.specs.Plain.{DeclareToken, UndeclareToken};
+ghost use Rattle.zt_model.specs.Acts.{Act, Store, acted_all};
+ghost use Rattle.zt_model.specs.Lists.{same};
+ghost use Rattle.zt_model.specs.Sourced.{sourced};
+ghost use Rattle.zt_model.specs.Visible.{live_rows};
+ghost use Rattle.zt_tables.specs.HatAnswers.{Plans, expression_undeclared, live_matching, plain_sourced};
+ghost use Rattle.zt_tables.specs.HatConditions.{IdsSuffice, IsAccepted, IsRun, IsReady, Owns};
+
+use crate::hat::base::HatBaseTrait;
+use crate::plan::Plan;
+use crate::tables::Tables;
+use std::alloc::Global;
+use zt_keys::{Key, Memory};
+use zt_protocol::TokenId;
+use zt_region::{NodeId, Region};
+use zt_rows::Sources;
+
+/// A strategy's part when a token is declared or undeclared: zenoh's `HatTokenTrait`.
+///
+/// The dispatcher has the strategy of the declaring face register or unregister the token, and then the strategy of
+/// each region tell its own faces.
+pub trait HatTokenTrait<K: Key>: HatBaseTrait<K> {
+    /// What a face's declaration adds, by the face, the id, the expression and the node id: a live row, or the row of
+    /// a router, which goes on along its tree.
+    ghost register_token_acts: { Self → Store K → ℕ → ℕ → K → ℕ → List (Act K) };
+
+    /// What a face's undeclaration takes away, by the face, the id, the given expression and the node id: the live row
+    /// of the id, or the row of a router, and then the tree hears of it.
+    ghost unregister_token_acts: { Self → Store K → ℕ → ℕ → Option K → ℕ → List (Act K) };
+
+    /// What the faces of the region are told of an expression that was registered in a region.
+    ghost propagate_token_acts: { Self → Store K → Region → K → List (Act K) };
+
+    /// What the faces of the region are told of an expression that is gone from a region.
+    ghost unpropagate_token_acts: { Self → Store K → Region → K → List (Act K) };
+
+    /// Who declares each expression that is live in the region: keys in order, and zids ascending. The only error is
+    /// want of memory.
+    fn sourced_tokens(&self, alloc: Global, tables: &Tables<K>) -> Result<Vec<(K, Sources)>, Memory>
+        requires { IsRun (Self.hat self.now) (Self.region self.now) tables.now.store.rows }
+        ensures { IfOk result (λ v. map plain_sourced v.items ≡ sourced K.cmp tables.now.store.rows (Self.region self.now)) };
+
+    /// The face declares the token, where no refusal holds.
+    fn register_token(
+        &self,
+        alloc: Global,
+        tables: &Tables<K>,
+        plan: &mut Plan<K>,
+        face: u32,
+        id: TokenId,
+        expr: &K,
+        node_id: NodeId,
+    ) -> Result<(), Memory>
+        requires ready { IsReady K.cmp K.matching (Self.hat self.now) (Self.region self.now) plan.old tables.now.store }
+        requires owned { Owns (Self.region self.now) face (acted_all K.cmp K.matching plan.old tables.now.store) }
+        requires accepted { IsAccepted K.cmp K.matching (DeclareToken face id expr.now node_id None) (acted_all K.cmp K.matching plan.old tables.now.store) }
+        ensures { Plans K.cmp K.matching result plan.old plan.new (λ s. register_token_acts self.now s face id expr.now node_id) tables.now.store };
+
+    /// The face undeclares a token, where no refusal holds. Answers the expression to forget: that of the id where it
+    /// is live on the face, else the given one.
+    fn unregister_token(
+        &self,
+        alloc: Global,
+        tables: &Tables<K>,
+        plan: &mut Plan<K>,
+        face: u32,
+        id: TokenId,
+        expr: Option<&K>,
+        node_id: NodeId,
+    ) -> Result<K, Memory>
+        requires ready { IsReady K.cmp K.matching (Self.hat self.now) (Self.region self.now) plan.old tables.now.store }
+        requires owned { Owns (Self.region self.now) face (acted_all K.cmp K.matching plan.old tables.now.store) }
+        requires accepted { IsAccepted K.cmp K.matching (UndeclareToken face id (option_copied expr) node_id) (acted_all K.cmp K.matching plan.old tables.now.store) }
+        ensures answer { IfOk result (λ forgotten. Some forgotten ≡ expression_undeclared K.cmp K.matching face id (option_copied expr.entry) (acted_all K.cmp K.matching plan.old tables.now.store).rows) }
+        ensures plans { Plans K.cmp K.matching result plan.old plan.new (λ s. unregister_token_acts self.now s face id (option_copied expr.entry) node_id) tables.now.store };
+
+    /// Tells the faces of the strategy's region of the expression, which was registered in `source`.
+    fn propagate_token(
+        &self,
+        alloc: Global,
+        tables: &Tables<K>,
+        plan: &mut Plan<K>,
+        source: Region,
+        expr: &K,
+    ) -> Result<(), Memory>
+        requires ready { IsReady K.cmp K.matching (Self.hat self.now) (Self.region self.now) plan.old tables.now.store }
+        requires ids { IdsSuffice K.cmp K.matching plan.old (λ s. propagate_token_acts self.now s source expr.now) tables.now.store }
+        ensures { Plans K.cmp K.matching result plan.old plan.new (λ s. propagate_token_acts self.now s source expr.now) tables.now.store };
+
+    /// Tells the faces of the strategy's region that the expression is gone from `source`, where it isn't visible to
+    /// them now.
+    fn unpropagate_token(
+        &self,
+        alloc: Global,
+        tables: &Tables<K>,
+        plan: &mut Plan<K>,
+        source: Region,
+        expr: &K,
+    ) -> Result<(), Memory>
+        requires { IsReady K.cmp K.matching (Self.hat self.now) (Self.region self.now) plan.old tables.now.store }
+        ensures { Plans K.cmp K.matching result plan.old plan.new (λ s. unpropagate_token_acts self.now s source expr.now) tables.now.store };
+
+    /// Zenoh's broker takes its own declaration back from the last region that declares the expression. Here nothing is
+    /// sent then, so the plan stays.
+    fn unpropagate_last_non_owned_token(
+        &self,
+        alloc: Global,
+        tables: &Tables<K>,
+        plan: &mut Plan<K>,
+        source: Region,
+        expr: &K,
+    ) -> Result<(), Memory>
+        requires { IsReady K.cmp K.matching (Self.hat self.now) (Self.region self.now) plan.old tables.now.store }
+        ensures { plan.new ≡ plan.old };
+
+    /// Whether a live row of the expression stands in the strategy's region.
+    fn remote_tokens_of(&self, tables: &Tables<K>, expr: &K) -> bool
+        ensures { result ≡ list_any (λ row. same K.cmp expr.now row.1 && region_eq row.0 (Self.region self.now)) (live_rows tables.now.store.rows) };
+
+    /// The distinct expressions that are live in the strategy's region and match, or all without one to match, in key
+    /// order. The only error is want of memory.
+    fn remote_tokens_matching(
+        &self,
+        alloc: Global,
+        tables: &Tables<K>,
+        matching: Option<&K>,
+    ) -> Result<Vec<K>, Memory>
+        ensures { IfOk result (λ v. v.items ≡ live_matching K.cmp K.matching (Self.region self.now) (option_copied matching.entry) tables.now.store.rows) };
+}
