@@ -2,4 +2,6 @@ mod Following
 mod InGroups
 mod Kept
 mod Popped
+mod Tallied
+mod Tallies
 mod Waits

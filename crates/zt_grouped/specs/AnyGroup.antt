@@ -18,13 +18,16 @@ pub record SaysGroup {G K : Type 0} (answers : Bor G → Bool → Type 0) (cmp :
   pub at : (test : G → Bool) → ((g : Bor G) (answer : Bool) → answers g answer → answer ≡ test g.now) → result ≡ list_any (λ x. same cmp key x.1 && test x.0) pairs
 
 module _ {G K : Type 0} (cmp : K → K → Ordering) (key : K) (test : G → Bool) where
-  any-pairs : (g : G) (es : List (K × Unit {0})) → list_any (λ x. same cmp key x.1 && test x.0) (pairs_of g es) ≡ (test g && is_some (find cmp key es))
-  any-pairs g [] = by_test (test g) (λ t. rw t refl) (λ t. rw t refl)
+  any-pairs : (g : G) (es : List (K × Unit {0})) → list_any (λ x. same cmp key x.1 && test x.0) (pairs_of g es) ≡ (is_some (find cmp key es) && test g)
+  any-pairs g [] = refl
   any-pairs g (e ∷ es) =
       by_test (is_eq (cmp key e.0))
-      (λ t. by_test (test g) (λ u. rw (t, u) refl) (λ u. rw (t, u) (any-pairs g es ∙ rw u refl)))
+      (λ t.
+      by_test (test g)
+      (λ u. rw (t, u) refl)
+      (λ u. rw (t, u) (any-pairs g es ∙ rw u (by_test (is_some (find cmp key es)) (λ v. rw v refl) (λ v. rw v refl)))))
       (λ t. rw t (any-pairs g es))
 
-  pub any-group : (groups : List (G × Table K (Unit {0}))) → any_row (λ g t. test g && is_some (find cmp key t.rows)) groups ≡ list_any (λ x. same cmp key x.1 && test x.0) (flattened groups)
+  pub any-group : (groups : List (G × Table K (Unit {0}))) → any_row (λ g t. is_some (find cmp key t.rows) && test g) groups ≡ list_any (λ x. same cmp key x.1 && test x.0) (flattened groups)
   any-group [] = refl
   any-group (row ∷ rows) = (λ i. sym (any-pairs row.0 row.1.rows) i || any-group rows i) ∙ sym (list_any-append _ (pairs_of row.0 row.1.rows) (flattened rows))

@@ -38,6 +38,10 @@ keys_in (Some t) = t.rows
 abbrev pub keys_at : {G K : Type 0} → (G → G → Ordering) → G → List (G × Table K (Unit {0})) → List (K × Unit {0})
 keys_at by group groups = keys_in (find by group groups)
 
+-- the keys of a group are in order
+abbrev pub AreKeysInOrder : {G K : Type 0} → (K → K → Ordering) → G × Table K (Unit {0}) → Type 0
+AreKeysInOrder cmp row = is_sorted cmp row.1.rows ≡ true
+
 module _ {G K : Type 0} (by : G → G → Ordering) (cmp : K → K → Ordering) (ob : IsTotalOrder by) (one : (x y : G) → by x y ≡ Equal → x ≡ y) where
   itself : (g : G) → by g g ≡ Equal
   itself g = tied_itself ob g

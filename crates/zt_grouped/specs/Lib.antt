@@ -8,3 +8,12 @@ pub mod GroupOrder
 pub mod Waiting
 pub mod OutboxTable
 pub mod OutboxView
+pub mod Tally
+pub mod TallyView
+pub mod Counted
+pub mod CountTable
+pub mod CountView
+pub mod Counting
+pub mod CountingAny
+pub mod CountingKeys
+pub mod Prepared

@@ -1,11 +1,14 @@
-ghost use Rattle.std.specs.Prelude.{◌≡◌, ◌<◌, ◌≤◌, ◌+◌, ◌==◌, [], length, IsTrue, OnOk, filter, is_some, not};
+ghost use Rattle.std.specs.Prelude.{◌≡◌, ◌<◌, ◌≤◌, ◌+◌, ◌==◌, [], length, IfOk, IsTrue, OnOk, filter, is_some, map, not};
 ghost use Rattle.std.specs.List.{list_any};
+ghost use Rattle.std.specs.Map.Iter.{deref_pair};
 ghost use Rattle.std.specs.Option.{option_copied};
 ghost use Rattle.std.specs.Ordering.{is_eq};
 ghost use Rattle.std.specs.declared.cmp.Ordering.TheVariants.{Equal};
 ghost use Rattle.zt_model.specs.Lists.{with_key};
-ghost use Rattle.zt_grouped.specs.Grouped.{keys_at, pair_order};
+ghost use Rattle.zt_rows.specs.Rising.{AreRising};
+ghost use Rattle.zt_grouped.specs.Grouped.{flattened, keys_at, pair_order};
 ghost use Rattle.zt_grouped.specs.GroupRoom.{room_of, KeepsRooms};
+ghost use Rattle.zt_grouped.specs.Prepared.{HasRooms};
 ghost use Rattle.zt_grouped.specs.NextPair.{group_after, key_after};
 ghost use Rattle.zt_grouped.specs.GroupOrder.{is_in_group_order};
 ghost use Rattle.zt_grouped.specs.AnyGroup.{SaysGroup};
@@ -31,7 +34,7 @@ impl<G: Ord + Eq + Hash, K: Ord + Eq + Hash> Model for GroupedKeys<G, K> {
 
     ghost view = { group_table };
 
-    ghost invariant = { AreGroups G.cmp };
+    ghost invariant = { AreGroups G.cmp K.cmp };
 }
 
 fn has_keys<G: Ord + Eq + Hash, K: Ord + Eq + Hash>(
@@ -67,11 +70,19 @@ impl<G: Ord + Eq + Hash, K: Ord + Eq + Hash> GroupedKeys<G, K> {
         }
     }
 
-    /// A fact alone: the pairs are in order of group.
+    /// A fact alone: the pairs are in order of group, and then of key.
     pub fn rising(&self)
-        ensures { IsTrue (is_in_group_order G.cmp self.now.pairs) }
+        ensures groups { IsTrue (is_in_group_order G.cmp self.now.pairs) }
+        ensures pairs { AreRising (pair_order G.cmp K.cmp) self.now.pairs }
     {
         let _groups = &self.groups;
+    }
+
+    /// The groups with their keys, in order. The only error is want of memory.
+    pub fn in_order(&self, alloc: Global) -> Result<Vec<(&G, &OrderedRows<K, ()>)>, AllocError>
+        ensures { IfOk result (λ v. flattened (map deref_pair v.items) ≡ self.now.pairs) }
+    {
+        self.groups.in_order(alloc)
     }
 
     /// The least group above the given one that has a key, or the least of all where none is given. One step for each
@@ -102,13 +113,13 @@ impl<G: Ord + Eq + Hash, K: Ord + Eq + Hash> GroupedKeys<G, K> {
 }
 
 impl<G: Ord + Eq + Hash, K: Ord + Eq + Hash> GroupedKeys<G, K> {
-    /// Whether some group that passes the test has the key. A scan of the groups.
+    /// Whether some group that passes the test has the key. A scan of the groups; those that have the key are tested.
     pub fn any_group<F: Fn(&G) -> bool>(&self, key: &K, test: F) -> bool
         requires { F.IsAlwaysCallable test }
         ensures { SaysGroup (F.post test) K.cmp key.now self.now.pairs result }
     {
         self.groups
-            .any(|group, keys| test(group) && keys.contains(key))
+            .any(|group, keys| keys.contains(key) && test(group))
     }
 }
 
@@ -156,5 +167,36 @@ impl<G: Ord + Eq + Hash + Drop, K: Ord + Eq + Hash + Drop> GroupedKeys<G, K> {
                 Ok(())
             }
         }
+    }
+}
+
+impl<G: Ord + Eq + Hash + Copy + Drop, K: Ord + Eq + Hash + Drop> GroupedKeys<G, K> {
+    // Makes room for so many more keys in each of these groups.
+    fn prepare_groups(&mut self, alloc: Global, needs: &[(&G, &usize)]) -> Result<(), AllocError>
+        requires { (a b : G) → G.cmp a b ≡ Equal → a ≡ b }
+        ensures pairs { self.new.pairs ≡ self.old.pairs }
+        ensures ok { OnOk result (HasRooms G.cmp (map deref_pair needs.now) self.new.rooms) }
+        ensures rooms { HasRooms G.cmp self.old.rooms self.new.rooms }
+    {
+        for row in needs {
+            self.prepare(alloc, *row.0, *row.1)?;
+        }
+        Ok(())
+    }
+
+    /// Makes room for so many more keys in each group that has a row, and the groups that aren't there. The only error
+    /// is want of memory; no key changes by it, and no room is lost.
+    pub fn prepare_each(
+        &mut self,
+        alloc: Global,
+        needs: &OrderedRows<G, usize>,
+    ) -> Result<(), AllocError>
+        requires { (a b : G) → G.cmp a b ≡ Equal → a ≡ b }
+        ensures pairs { self.new.pairs ≡ self.old.pairs }
+        ensures ok { OnOk result (HasRooms G.cmp needs.now.rows self.new.rooms) }
+        ensures rooms { HasRooms G.cmp self.old.rooms self.new.rooms }
+    {
+        let needs = needs.in_order(alloc)?;
+        self.prepare_groups(alloc, &needs)
     }
 }

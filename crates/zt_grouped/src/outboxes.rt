@@ -1,10 +1,12 @@
-ghost use Rattle.std.specs.Prelude.{◌≡◌, ◌+◌, ◌<◌, ◌≤◌, [], ◌∷◌, ◌++◌, length, Some, OnOk};
+ghost use Rattle.std.specs.Prelude.{◌≡◌, ◌+◌, ◌<◌, ◌≤◌, [], ◌∷◌, ◌++◌, length, map, Some, OnOk};
+ghost use Rattle.std.specs.Map.Iter.{deref_pair};
 ghost use Rattle.std.specs.FinMap.Entries.{put};
 ghost use Rattle.std.specs.Ordering.{nat_cmp};
 ghost use Rattle.zt_model.specs.Acts.{outbox_of};
 ghost use Rattle.zt_model.specs.Lists.{first_of, without_id};
 ghost use Rattle.zt_rows.specs.ById.{next_id};
 ghost use Rattle.zt_grouped.specs.GroupRoom.{room_of, KeepsRooms};
+ghost use Rattle.zt_grouped.specs.Prepared.{HasRooms};
 ghost use Rattle.zt_grouped.specs.Waiting.{outbox_taken};
 
 use std::alloc::{AllocError, Global};
@@ -121,6 +123,33 @@ impl<K: Key> Outboxes<K> {
                 Ok(())
             }
         }
+    }
+
+    // Makes room for so many more messages for each of these faces.
+    fn prepare_faces(&mut self, alloc: Global, needs: &[(&u32, &usize)]) -> Result<(), AllocError>
+        ensures queues { self.new.queues ≡ self.old.queues }
+        ensures ok { OnOk result (HasRooms nat_cmp (map deref_pair needs.now) self.new.rooms) }
+        ensures rooms { HasRooms nat_cmp self.old.rooms self.new.rooms }
+    {
+        for row in needs {
+            self.prepare(alloc, *row.0, *row.1)?;
+        }
+        Ok(())
+    }
+
+    /// Makes room for so many more messages for each face that has a row, and the queues that aren't there. The only
+    /// error is want of memory; no message changes by it, and no room is lost.
+    pub fn prepare_each(
+        &mut self,
+        alloc: Global,
+        needs: &OrderedRows<u32, usize>,
+    ) -> Result<(), AllocError>
+        ensures queues { self.new.queues ≡ self.old.queues }
+        ensures ok { OnOk result (HasRooms nat_cmp needs.now.rows self.new.rooms) }
+        ensures rooms { HasRooms nat_cmp self.old.rooms self.new.rooms }
+    {
+        let needs = needs.in_order(alloc)?;
+        self.prepare_faces(alloc, &needs)
     }
 
     /// The queue of the face goes, with what waits in it.

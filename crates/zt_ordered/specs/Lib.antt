@@ -10,6 +10,7 @@ pub mod Counts
 pub mod Groups
 pub mod Next
 pub mod Any
+pub mod Sum
 pub mod Body
 pub mod Lends
 pub mod LendsHashed

@@ -1,15 +1,16 @@
 // The body for many rows: a hash map, whose entries contracts see in the order of their keys.
-ghost use Rattle.std.specs.Prelude.{◌≡◌, ◌+◌, ◌<◌, ◌≤◌, [], length, None, IsOk, OnOk, OnErr, IfOk, IsTrue, map};
+ghost use Rattle.std.specs.Prelude.{◌≡◌, ◌+◌, ◌*◌, ◌<◌, ◌≤◌, [], length, None, IsOk, OnOk, OnErr, IfOk, IsTrue, map};
 ghost use Rattle.std.specs.Option.{option_copied};
 ghost use Rattle.std.specs.FinMap.Entries.{put, find, is_sorted};
 ghost use Rattle.std.specs.Map.{keys_of};
 ghost use Rattle.std.specs.Map.Iter.{deref_pair};
 ghost use Rattle.zt_ordered.specs.Any.{SaysAny};
+ghost use Rattle.zt_ordered.specs.Sum.{SaysSum};
 ghost use Rattle.zt_ordered.specs.Next.{next_key};
 ghost use Rattle.zt_ordered.specs.Rows.{without};
 
 use crate::collect::{map_ids, map_rows};
-use crate::next::{any_hashed, next_hashed};
+use crate::next::{any_hashed, next_hashed, sum_hashed};
 use crate::sorted::SortedRows;
 use std::alloc::{AllocError, Global};
 use std::collections::HashMap;
@@ -72,6 +73,14 @@ impl<P: Ord + Eq + Hash, X> HashedRows<P, X> {
         ensures { SaysAny (F.post test) self.now.rows result }
     {
         any_hashed(&self.map, test)
+    }
+
+    pub(crate) fn sum<F: Fn(&P, &X) -> u64>(&self, gives: F) -> u128
+        requires { F.IsAlwaysCallable gives }
+        ensures sum { SaysSum (F.post gives) self.now.rows result }
+        ensures most { result ≤ length self.now.rows * 18446744073709551615 }
+    {
+        sum_hashed(&self.map, gives)
     }
 
     pub(crate) fn get_mut(&mut self, key: &P) -> Option<&mut X>

@@ -3,9 +3,9 @@
 //!
 //! Contracts see a container as a `Table`: its rows as std's entries in the order of the keys (`find`, `put`), and the
 //! room for more. Definitions and laws stand in `specs/`: `Rows` (words), `Found` and `Placing` (what rows in order
-//! find), `Sorting` (a hash map's entries in order), `Edits` (what is found after edits), `Next` and `Any` (the key that
-//! follows, and whether a row passes), `OneMore`, `Counts` and
-//! `Groups` (indexes that equal what the rows give from scratch).
+//! find), `Sorting` (a hash map's entries in order), `Edits` (what is found after edits), `Next`, `Any` and `Sum` (the key
+//! that follows, whether a row passes, and what the rows give together), `OneMore`, `Counts` and `Groups` (indexes that
+//! equal what the rows give from scratch).
 #![tactic(auto)]
 
 mod collect;

@@ -1,6 +1,7 @@
-// The key that follows, and whether some row passes a test, found in either body.
-ghost use Rattle.std.specs.Prelude.{◌≡◌, IsTrue};
+// The key that follows, whether some row passes a test, and what the rows give together, found in either body.
+ghost use Rattle.std.specs.Prelude.{◌≡◌, ◌≤◌, ◌*◌, IsTrue, length};
 ghost use Rattle.zt_ordered.specs.Any.{SaysAny};
+ghost use Rattle.zt_ordered.specs.Sum.{SaysSum};
 ghost use Rattle.std.specs.Option.{option_copied};
 ghost use Rattle.std.specs.FinMap.Entries.{is_sorted};
 ghost use Rattle.std.specs.HashMap.{IsUnique};
@@ -75,4 +76,32 @@ pub(crate) fn any_hashed<P: Eq + Hash, X, F: Fn(&P, &X) -> bool>(
         }
     }
     false
+}
+
+pub(crate) fn sum_in_order<P, X, F: Fn(&P, &X) -> u64>(rows: &[(P, X)], gives: F) -> u128
+    requires { F.IsAlwaysCallable gives }
+    ensures sum { SaysSum (F.post gives) rows.now result }
+    ensures most { result ≤ length rows.now * 18446744073709551615 }
+{
+    let mut sum = 0u128;
+    for row in rows {
+        sum += u128::from(gives(&row.0, &row.1));
+    }
+    sum
+}
+
+pub(crate) fn sum_hashed<P: Eq + Hash, X, F: Fn(&P, &X) -> u64>(
+    rows: &HashMap<P, X>,
+    gives: F,
+) -> u128
+    requires { F.IsAlwaysCallable gives }
+    ensures sum { SaysSum (F.post gives) rows.now.entries result }
+    ensures most { result ≤ length rows.now.entries * 18446744073709551615 }
+{
+    let _len = rows.len();
+    let mut sum = 0u128;
+    for (key, value) in rows {
+        sum += u128::from(gives(key, value));
+    }
+    sum
 }

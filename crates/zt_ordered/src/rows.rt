@@ -1,10 +1,11 @@
 //! The container.
-ghost use Rattle.std.specs.Prelude.{◌≡◌, ◌+◌, ◌<◌, ◌≤◌, [], length, None, IsOk, OnOk, IfOk, IsTrue, is_some, map, ◌==◌};
+ghost use Rattle.std.specs.Prelude.{◌≡◌, ◌+◌, ◌*◌, ◌<◌, ◌≤◌, [], length, None, IsOk, OnOk, IfOk, IsTrue, is_some, map, ◌==◌};
 ghost use Rattle.std.specs.Option.{option_copied};
 ghost use Rattle.std.specs.FinMap.Entries.{put, find, is_sorted};
 ghost use Rattle.std.specs.Map.{keys_of};
 ghost use Rattle.std.specs.Map.Iter.{deref_pair};
 ghost use Rattle.zt_ordered.specs.Any.{SaysAny};
+ghost use Rattle.zt_ordered.specs.Sum.{SaysSum};
 ghost use Rattle.zt_ordered.specs.Next.{next_key};
 ghost use Rattle.zt_ordered.specs.Rows.{without};
 
@@ -99,6 +100,18 @@ impl<P: Ord + Eq + Hash, X> OrderedRows<P, X> {
         match &self.body {
             Body::Few(few) => few.any(test),
             Body::Many(many) => many.any(test),
+        }
+    }
+
+    /// What the rows give together, where each gives a number by its key and by what stands under it. A scan.
+    pub fn sum<F: Fn(&P, &X) -> u64>(&self, gives: F) -> u128
+        requires { F.IsAlwaysCallable gives }
+        ensures sum { SaysSum (F.post gives) self.now.rows result }
+        ensures most { result ≤ length self.now.rows * 18446744073709551615 }
+    {
+        match &self.body {
+            Body::Few(few) => few.sum(gives),
+            Body::Many(many) => many.sum(gives),
         }
     }
 

@@ -1,15 +1,16 @@
 //! Rows in a vector, in the order of their keys.
-ghost use Rattle.std.specs.Prelude.{◌≡◌, ◌+◌, ◌<◌, ◌≤◌, [], length, None, IsOk, OnOk, OnErr, IfOk, IsTrue, map};
+ghost use Rattle.std.specs.Prelude.{◌≡◌, ◌+◌, ◌*◌, ◌<◌, ◌≤◌, [], length, None, IsOk, OnOk, OnErr, IfOk, IsTrue, map};
 ghost use Rattle.std.specs.Option.{option_copied};
 ghost use Rattle.std.specs.FinMap.Entries.{put, find, is_sorted};
 ghost use Rattle.std.specs.Map.{keys_of};
 ghost use Rattle.std.specs.Map.Iter.{deref_pair};
 ghost use Rattle.zt_ordered.specs.Any.{SaysAny};
+ghost use Rattle.zt_ordered.specs.Sum.{SaysSum};
 ghost use Rattle.zt_ordered.specs.Next.{next_key};
 ghost use Rattle.zt_ordered.specs.Rows.{without};
 
 use crate::collect::{ids_of, rows_of};
-use crate::next::{any_in_order, next_in_order};
+use crate::next::{any_in_order, next_in_order, sum_in_order};
 use crate::search::place_of;
 use std::alloc::{AllocError, Global};
 use std::marker::Model;
@@ -92,6 +93,15 @@ impl<P: Ord, X> SortedRows<P, X> {
         ensures { SaysAny (F.post test) self.now.rows result }
     {
         any_in_order(&self.rows, test)
+    }
+
+    /// What the rows give together, where each gives a number by its key and by what stands under it. A scan.
+    pub fn sum<F: Fn(&P, &X) -> u64>(&self, gives: F) -> u128
+        requires { F.IsAlwaysCallable gives }
+        ensures sum { SaysSum (F.post gives) self.now.rows result }
+        ensures most { result ≤ length self.now.rows * 18446744073709551615 }
+    {
+        sum_in_order(&self.rows, gives)
     }
 
     /// The row under the key, to be written. What is written last stands in the row's place once the reference ends.

@@ -7,6 +7,10 @@ pub mod Face
 pub mod Rooms
 pub mod AskEdits
 pub mod SpareView
+pub mod SpareFaceView
 pub mod FaceView
 pub mod Change
 pub mod DrawnIds
+pub mod Needs
+pub mod Passing
+pub mod Rising

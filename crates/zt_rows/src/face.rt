@@ -1,11 +1,12 @@
 // The rows of a face.
-ghost use Rattle.std.specs.Prelude.{◌≡◌, ◌<◌, ◌≤◌, ◌+◌, ◌||◌, [], None, IfOk, IfSome, IsSome, OnOk, false, true, not, option_map};
+ghost use Rattle.std.specs.Prelude.{◌≡◌, ◌<◌, ◌≤◌, ◌+◌, ◌||◌, [], None, IfOk, IfSome, IsSome, OnOk, false, true, not, map, option_map};
 ghost use Rattle.std.specs.Map.{keys_of};
+ghost use Rattle.std.specs.Map.Iter.{deref_pair};
 ghost use Rattle.std.specs.FinMap.Entries.{put};
 ghost use Rattle.std.specs.Ordering.{nat_cmp};
 ghost use Rattle.std.specs.Option.{option_copied};
 ghost use Rattle.zt_model.specs.Acts.{answered_with, ask_added, ask_dropped, entities_set, finalised, held_added, is_drawn, local_added, local_dropped, pending_added, told_ended, told_under, with_listed};
-ghost use Rattle.std.specs.List.{list_any};
+ghost use Rattle.std.specs.List.{count_by, list_any};
 ghost use Rattle.zt_model.specs.Lists.{at_id, first_where, has_id, in_key_order, is_among, is_some_and, same, without_id};
 ghost use Rattle.zt_model.specs.Parts.{new_face, told_id};
 ghost use Rattle.zt_model.specs.Routing.{ended, unheld};
@@ -16,6 +17,7 @@ ghost use Rattle.zt_rows.specs.ById.{next_id};
 ghost use Rattle.zt_ordered.specs.Next.{is_after};
 ghost use Rattle.zt_rows.specs.AskEdits.{listed_at};
 ghost use Rattle.zt_rows.specs.AskView.{keys_by_id};
+ghost use Rattle.zt_rows.specs.KeyIds.{IsBelow};
 ghost use Rattle.zt_rows.specs.Rooms.{ask_room, room_needed, room_of_ask, HasAskRoom, HasAtLeast, KeepsAskRooms, LosesNoAskRoom};
 ghost use Rattle.zt_rows.specs.Plain.{interest_held, interest_sent, plain_pending};
 ghost use Rattle.std.specs.Prelude.{IsTrue};
@@ -25,6 +27,7 @@ use crate::ask::{AskRows, unlist_each};
 use crate::key_ids::KeyIds;
 use crate::needs::FaceNeeds;
 use crate::rows::{FaceRow, HeldRow, PendingRow, UpstreamRow};
+use crate::spare::SpareFace;
 use std::alloc::{AllocError, Global};
 use std::marker::Model;
 use zt_keys::Key;
@@ -85,6 +88,36 @@ impl<K: Key> FaceRows<K> {
         }
     }
 
+    /// A face with no rows, with the spare's room. It takes no memory.
+    pub fn from_spare(
+        alloc: Global,
+        number: u32,
+        row: FaceRow,
+        initial: Option<bool>,
+        spare: SpareFace<K>,
+    ) -> Self
+        ensures face { result.face ≡ record (new_face number row.region row.remote_bound row.whatami row.zid row.first) { initial = initial } }
+        ensures numbers { result.numbers ≡ [] }
+        ensures served { result.served ≡ [] }
+        ensures ask_rooms { result.ask_rooms ≡ [] }
+        ensures room { result.room ≡ spare }
+    {
+        FaceRows {
+            number,
+            row,
+            next: row.first,
+            initial,
+            live: spare.live,
+            told: spare.told,
+            held: spare.held,
+            locals: spare.locals,
+            pendings: spare.pendings,
+            asks: spare.asks,
+            subscribers: Vec::new(alloc),
+            queryables: Vec::new(alloc),
+        }
+    }
+
     /// The face's number.
     pub fn number(&self) -> u32
         ensures { result ≡ self.now.face.number }
@@ -135,6 +168,14 @@ impl<K: Key> FaceRows<K> {
         ensures { result ≡ list_any (λ row. same K.cmp expr.now row.1) self.now.face.live }
     {
         self.live.any(|_, key| expr == key)
+    }
+
+    /// How many tokens of the expression the face declares. A scan of its tokens.
+    pub fn count_declared(&self, expr: &K) -> u64
+        ensures { result ≡ count_by (λ row. same K.cmp expr.now row.1) self.now.face.live }
+    {
+        let _len = self.live.len();
+        self.live.sum(|_, key| u64::from(expr == key)) as u64
     }
 
     /// The id under which the face was told the expression.
@@ -222,6 +263,13 @@ impl<K: Key> FaceRows<K> {
         ensures numbers { result ≡ next_id after self.now.numbers }
     {
         self.asks.next_key(after.as_ref()).copied()
+    }
+
+    /// The live tokens with their ids, in order. The only error is want of memory.
+    pub fn live_rows(&self, alloc: Global) -> Result<Vec<(&u32, &K)>, AllocError>
+        ensures { IfOk result (λ v. map deref_pair v.items ≡ self.now.face.live) }
+    {
+        self.live.in_order(alloc)
     }
 
     /// The ids of the live tokens, in order. The only error is want of memory.
@@ -401,17 +449,6 @@ impl<K: Key> FaceRows<K> {
         self.pendings.take(&id);
     }
 
-    /// The pending of the id, which stands, serves no ask any more.
-    pub fn release_pending(&mut self, id: u32)
-        requires { IsSome (at_id id self.old.served) }
-        ensures { self.new ≡ record self.old { served = put nat_cmp id None self.old.served } }
-    {
-        match self.pendings.get_mut(&id) {
-            Some(row) => row.ask = None,
-            None => unreachable!(),
-        }
-    }
-
     /// The face asks. It takes no memory, so it needs room.
     pub fn add_ask(&mut self, ask: AskRows<K>)
         requires face { ask.face ≡ self.old.face.number }
@@ -511,5 +548,15 @@ impl<K: Key> FaceRows<K> {
         let _held = self.held.len();
         let _locals = self.locals.len();
         let _pendings = self.pendings.len();
+    }
+
+    /// A fact alone: what was drawn for the face is below its next id.
+    pub fn ids_drawn(&self)
+        ensures told { IsBelow self.now.face.next self.now.face.told }
+        ensures locals { IsBelow self.now.face.next self.now.face.locals }
+        ensures pendings { IsBelow self.now.face.next self.now.face.pendings }
+        ensures last { self.now.face.next ≤ 4294967295 }
+    {
+        let _next = self.next;
     }
 }

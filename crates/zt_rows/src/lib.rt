@@ -16,9 +16,9 @@ pub use ask::AskRows;
 pub use change::Change;
 pub use face::FaceRows;
 pub use key_ids::KeyIds;
-pub use needs::FaceNeeds;
+pub use needs::{AskNeeds, FaceNeeds};
 pub use rows::{
     AskRow, FaceRow, HeldRow, PendingRow, RemoteInterest, RouteCurrentDeclareResult,
     RouteInterestResult, Sources, UpstreamRow,
 };
-pub use spare::SpareAsk;
+pub use spare::{SpareAsk, SpareFace};

@@ -8,3 +8,10 @@ pub struct FaceNeeds {
     pub pendings: usize,
     pub asks: usize,
 }
+
+/// How many more rows of each kind an ask is to have room for.
+#[derive(Clone, Copy, PartialEq, Eq, Debug)]
+pub struct AskNeeds {
+    pub pendings: usize,
+    pub answers: usize,
+}

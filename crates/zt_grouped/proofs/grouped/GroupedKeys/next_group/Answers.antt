@@ -5,7 +5,7 @@ use Rattle.zt_grouped.proofs.grouped.GroupedKeys.next_group.Goals as goal
 
 pub returns-then-has_keys : goal.returns-then-has_keys
 returns-then-has_keys g c =
-    let found = next-group g.G.Ord.cmp g.met.G.Ord.total (option_copied c.loop-group.last) c.self.inside.groups.rows c.self.invariant c.in-Some.group.now c.in-Some.ensures c.if-has_keys.ensures in
+    let found = next-group g.G.Ord.cmp g.met.G.Ord.total (option_copied c.loop-group.last) c.self.inside.groups.rows c.self.invariant.in_order c.in-Some.group.now c.in-Some.ensures c.if-has_keys.ensures in
     rw (← c.self.view_is) (sym found ∙ c.loop-group.invariant)
 
 pub loop-group-smaller : goal.loop-group-smaller
@@ -13,10 +13,10 @@ loop-group-smaller g c = fewer-follow g.G.Ord.cmp g.met.G.Ord.total (option_copi
 
 pub loop-group-preserved : goal.loop-group-preserved
 loop-group-preserved g c =
-    passed-group g.G.Ord.cmp g.met.G.Ord.total (option_copied c.loop-group.last) c.self.inside.groups.rows c.self.invariant c.in-Some.group.now c.in-Some.ensures c.if-has_keys.ensures
+    passed-group g.G.Ord.cmp g.met.G.Ord.total (option_copied c.loop-group.last) c.self.inside.groups.rows c.self.invariant.in_order c.in-Some.group.now c.in-Some.ensures c.if-has_keys.ensures
     ∙ c.loop-group.invariant
 
 pub returns : goal.returns
 returns g c =
-    let none = no-group g.G.Ord.cmp g.met.G.Ord.total (option_copied c.loop-group.last) c.self.inside.groups.rows c.self.invariant c.in_default.ensures in
+    let none = no-group g.G.Ord.cmp g.met.G.Ord.total (option_copied c.loop-group.last) c.self.inside.groups.rows c.self.invariant.in_order c.in_default.ensures in
     rw (← c.self.view_is) (sym none ∙ c.loop-group.invariant)

@@ -10,11 +10,11 @@ returns-in-Some g c =
     let after = option_copied c.args.after in
     rw (← c.self.view_is) (
     c.next_key.ensures ∙ ap (λ found. next_key g.K.Ord.cmp after (keys_in found)) c.in-Some.ensures
-    ∙ next-of-group g.G.Ord.cmp g.met.G.Ord.total g.K.Ord.cmp c.args.group.now after c.self.inside.groups.rows c.self.invariant)
+    ∙ next-of-group g.G.Ord.cmp g.met.G.Ord.total g.K.Ord.cmp c.args.group.now after c.self.inside.groups.rows c.self.invariant.in_order)
 
 pub returns-in-None : goal.returns-in-None
 returns-in-None g c =
     let after = option_copied c.args.after in
     rw (← c.self.view_is) (
     sym (next-nothing (Unit {0}) g.K.Ord.cmp after) ∙ ap (λ found. next_key g.K.Ord.cmp after (keys_in found)) c.in-None.ensures
-    ∙ next-of-group g.G.Ord.cmp g.met.G.Ord.total g.K.Ord.cmp c.args.group.now after c.self.inside.groups.rows c.self.invariant)
+    ∙ next-of-group g.G.Ord.cmp g.met.G.Ord.total g.K.Ord.cmp c.args.group.now after c.self.inside.groups.rows c.self.invariant.in_order)
