@@ -11,9 +11,19 @@ pub mod Edits
 pub mod RowEdits
 pub mod Nexts
 pub mod Kinds
+pub mod NextKeys
+pub mod KeysAdded
+pub mod Picked
+pub mod RoutedKeys
 pub mod Wanted
 pub mod Opened
+pub mod Weights
 pub mod NextFace
+pub mod Orderly
+pub mod LiveCounts
+pub mod LiveTokens
+pub mod RegionTests
+pub mod RoutedLive
 pub mod Regions
 pub mod RoutedActs
 pub mod NumberActs
@@ -25,4 +35,6 @@ pub mod AskQueries
 pub mod AskNumbers
 pub mod AskLives
 pub mod AskPendings
+pub mod AskServed
 pub mod Scans
+pub mod IdsBelow

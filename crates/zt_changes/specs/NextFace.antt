@@ -40,7 +40,7 @@ module _ {K : Type 0} (cmp : K → K → Ordering) (matching : K → K → Bool)
   numbers-closed n [] = refl
   numbers-closed n (x ∷ xs) = by_test (n == x.number) (λ t. rw t (numbers-closed n xs)) (λ t. rw t (ap (λ ns. x.number ∷ ns) (numbers-closed n xs)))
 
-  abbrev numbers_touched : Touch K → List ℕ → List ℕ
+  abbrev pub numbers_touched : Touch K → List ℕ → List ℕ
   numbers_touched (Opens new) ns = ns ++ new.number ∷ []
   numbers_touched (Closes n) ns = filter (λ m. not (n == m)) ns
   numbers_touched (Changes at change) ns = ns
@@ -53,7 +53,7 @@ module _ {K : Type 0} (cmp : K → K → Ordering) (matching : K → K → Bool)
   numbers-touched (Changes (Some n) change) kept faces = numbers-where n change (kept 0) faces
   numbers-touched (ChangesAll n change all) kept faces = numbers-kept all kept.1 (changed_where n change faces) ∙ numbers-where n change kept.0 faces
 
-  numbers-acted : (act : Act K) (s : Store K) → numbers_of (acted cmp matching act s).rows.faces ≡ numbers_touched (touch cmp matching act s) (numbers_of s.rows.faces)
+  pub numbers-acted : (act : Act K) (s : Store K) → numbers_of (acted cmp matching act s).rows.faces ≡ numbers_touched (touch cmp matching act s) (numbers_of s.rows.faces)
   numbers-acted act s = ap numbers_of (faces-acted cmp matching act s) ∙ numbers-touched (touch cmp matching act s) (keeps-number cmp matching act s) s.rows.faces
 
   -- ---- the numbers that stay, and those that come

@@ -43,7 +43,7 @@ region_order-eq (South i m) (South j n) = sym (tied_then (nat_cmp i j) (nat_cmp 
 
 -- ---- one row more, and all rows that tie with one taken away
 
-any-put : {A : Type 0} (by : A → A → Ordering) (p : A → Bool) (x : A) (xs : List A) → list_any (same by x) xs ≡ false → list_any p (with_key by x xs) ≡ (p x || list_any p xs)
+pub any-put : {A : Type 0} (by : A → A → Ordering) (p : A → Bool) (x : A) (xs : List A) → list_any (same by x) xs ≡ false → list_any p (with_key by x xs) ≡ (p x || list_any p xs)
 any-put by p x [] none = refl
 any-put by p x (y ∷ ys) none =
     by_ordering (by x y)
@@ -69,7 +69,7 @@ any-taken by o e k (y ∷ ys) =
     (λ u. rw u (by_test (same by k e) (λ v. absurd (false≢true (sym t ∙ equal.congr k e y v ∙ u))) (λ v. rw v refl)))
     (λ u. rw u rest)))
 
-region_total : IsTotalOrder region_order
+pub region_total : IsTotalOrder region_order
 region_total = then_total (on_total region_rank nat_cmp_total) (then_total (on_total south_id nat_cmp_total) (on_total south_mode nat_cmp_total))
 
 and_assoc : (a b c : Bool) → (a && (b && c)) ≡ (a && b && c)
@@ -77,7 +77,7 @@ and_assoc true b c = refl
 and_assoc false b c = refl
 
 module _ {K : Type 0} (cmp : K → K → Ordering) (matching : K → K → Bool) where
-  routed_total : IsTotalOrder cmp → IsTotalOrder (routed_order cmp matching)
+  pub routed_total : IsTotalOrder cmp → IsTotalOrder (routed_order cmp matching)
   routed_total total =
       then_total (on_total (λ (row : RoutedRow K). row.region) region_total)
       (then_total (on_total (λ (row : RoutedRow K). row.source.0) nat_cmp_total) (on_total (λ (row : RoutedRow K). row.expr) total))
@@ -86,7 +86,7 @@ module _ {K : Type 0} (cmp : K → K → Ordering) (matching : K → K → Bool)
   abbrev pub is_same_name : Region → Zid → K → Region → Zid → K → Bool
   is_same_name region source e r z k = region_eq region r && zid_eq source z && same cmp e k
 
-  named-row : (region : Region) (source : Zid) (e : K) (r : Region) (z : Zid) (k : K)
+  pub named-row : (region : Region) (source : Zid) (e : K) (r : Region) (z : Zid) (k : K)
       → is_routed_row cmp matching (row_at cmp matching region source e) (row_at cmp matching r z k) ≡ is_same_name region source e r z k
   named-row region source e r z k =
       sym (tied_then (region_order region r) (ordering_then (nat_cmp source.0 z.0) (cmp e k)))

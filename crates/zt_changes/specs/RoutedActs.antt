@@ -18,7 +18,7 @@ use Rattle.zt_changes.specs.Regions.{is_same_name, row-added, row-taken}
 use Rattle.zt_ordered.specs.Test.{and_second, by_option}
 
 -- a change at an ask changes the faces alone
-routed-at_ask : {K : Type 0} (n : ℕ) (change : ℕ → Face K → Face K) (s : Store K) → (at_ask n change s).rows.routed ≡ s.rows.routed
+pub routed-at_ask : {K : Type 0} (n : ℕ) (change : ℕ → Face K → Face K) (s : Store K) → (at_ask n change s).rows.routed ≡ s.rows.routed
 unfolding with_face
 routed-at_ask n change s = by_option (at_id n s.numbers) (λ p is. rw (is, at_ask) refl) (λ none. rw (none, at_ask) refl)
 

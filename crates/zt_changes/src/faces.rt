@@ -3,6 +3,7 @@ ghost use Rattle.std.specs.Prelude.{◌≡◌, IfSome, map, option_map};
 ghost use Rattle.std.specs.Option.{option_copied};
 ghost use Rattle.zt_rows.specs.Change.{plain_change};
 ghost use Rattle.zt_rows.specs.Plain.{interest_held, interest_sent, plain_pending};
+ghost use Rattle.zt_changes.specs.AskServed.{served_step};
 ghost use Rattle.zt_changes.specs.FaceActs.{held_step, live_step, locals_step, pendings_step};
 ghost use Rattle.zt_changes.specs.Folds.{folded};
 ghost use Rattle.zt_changes.specs.ToldActs.{told_step};
@@ -86,6 +87,7 @@ fn pending_changed<'a, K>(
     found: Option<&'a PendingRow>,
 ) -> Option<&'a PendingRow>
     ensures pending { option_map plain_pending (option_copied result) ≡ pendings_step f id (plain_change change.now) (option_map plain_pending (option_copied found.entry)) }
+    ensures ask { option_map (λ row. row.ask) (option_copied result) ≡ served_step f id (plain_change change.now) (option_map (λ row. row.ask) (option_copied found.entry)) }
     ensures id { IfSome (option_copied found.entry) (λ row. row.id ≡ id) → IfSome (option_copied result) (λ row. row.id ≡ id) }
 {
     match change {
@@ -151,6 +153,7 @@ pub fn pending_after<'a, K>(
     mut found: Option<&'a PendingRow>,
 ) -> Option<&'a PendingRow>
     ensures pending { option_map plain_pending (option_copied result) ≡ folded (pendings_step f id) (map plain_change changes.now) (option_map plain_pending (option_copied found.entry)) }
+    ensures ask { option_map (λ row. row.ask) (option_copied result) ≡ folded (served_step f id) (map plain_change changes.now) (option_map (λ row. row.ask) (option_copied found.entry)) }
     ensures id { IfSome (option_copied found.entry) (λ row. row.id ≡ id) → IfSome (option_copied result) (λ row. row.id ≡ id) }
 {
     for change in changes {
