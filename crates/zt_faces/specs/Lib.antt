@@ -1,3 +1,6 @@
+pub mod OpenView
+pub mod LendsOpen
+pub mod Served
 pub mod Table
 pub mod Rooms
 pub mod Words
@@ -16,3 +19,4 @@ pub mod AskWritten
 pub mod Reserved
 pub mod Walk
 pub mod Unlisted
+pub mod Needed

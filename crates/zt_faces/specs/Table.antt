@@ -1,6 +1,7 @@
 -- What the faces in memory are seen as: the model's faces, how many faces and asks were ever made, the place of each
--- ask by its number, and apart from them the room for more.
-use Rattle.std.specs.Prelude.{ℕ, List}
+-- ask by its number, what the row of each pending names as the ask that it serves, by face and id, and apart from them
+-- the room for more.
+use Rattle.std.specs.Prelude.{ℕ, List, Option}
 use Rattle.zt_model.specs.Rows.{ById, Face}
 use Rattle.zt_rows.specs.Face.{AskRoom, FaceRoom}
 
@@ -16,4 +17,5 @@ pub record FacesTable (K : Type 0) : Type 0 where
   pub made : ℕ
   pub asks_made : ℕ
   pub numbers : ById (ℕ × ℕ)
+  pub served : ById (ById (Option ℕ))
   pub rooms : FacesRooms

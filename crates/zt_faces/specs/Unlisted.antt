@@ -25,6 +25,7 @@ use Rattle.zt_faces.specs.Listed.{lists-unlisted, lists_in}
 use Rattle.zt_faces.specs.Numbered.{IsNumbered, faces_in}
 use Rattle.zt_faces.specs.Rooms.{KeepsRooms, PendingRows, answers_in, listing_room, listings_in, nothing, one_row, room_in}
 use Rattle.zt_faces.specs.Sent.{has_drawn, one_listing, one_pending, place_of}
+use Rattle.zt_faces.specs.Served.{Served, served_in}
 use Rattle.zt_faces.specs.Table.{FacesRooms, FacesTable}
 use Rattle.zt_faces.specs.View.{AreFaces, IsMade, ask_room_at, lists_at, number_at, or_no_room, room_of_table}
 use Rattle.zt_faces.specs.Walk.{AreChanged}
@@ -108,6 +109,12 @@ module _ {K : Type 0} (pending : ℕ × ℕ) where
   within-unlisted (old ∷ olds) [] all = absurd all
   within-unlisted (old ∷ olds) (new ∷ news) all = λ i. (all.0 i, ap (λ (x : FaceTable K). x.room) all.1.face i) ∷ within-unlisted olds news all.2 i
 
+  pub served-unlisted : (olds news : ById (FaceTable K)) → AreChanged (IsFaceUnlisted pending) olds news → served_in news ≡ served_in olds
+  served-unlisted [] [] all = refl
+  served-unlisted [] (new ∷ news) all = absurd all
+  served-unlisted (old ∷ olds) [] all = absurd all
+  served-unlisted (old ∷ olds) (new ∷ news) all = λ i. (all.0 i, ap (λ (x : FaceTable K). x.served) all.1.face i) ∷ served-unlisted olds news all.2 i
+
   asks-unlisted : (p : ℕ × ℕ) (olds news : ById (FaceTable K)) → AreChanged (IsFaceUnlisted pending) olds news → HasAskRoom (ask_room_at news p) (ask_room_at olds p)
   asks-unlisted p [] [] all = record { pendings = omega arith; answers = omega arith }
   asks-unlisted p [] (new ∷ news) all = absurd all
@@ -169,12 +176,12 @@ changed-unlisted f change pending alike (x ∷ xs) =
     (λ t. rw t (λ i. alike x i ∷ changed-unlisted f change pending alike xs i))
     (λ t. rw t (ap (λ l. with_listed None pending x ∷ l) (changed-unlisted f change pending alike xs)))
 
-pub faces-pended : {K : Type 0} (f : ℕ) (change : Face K → Face K) (pending : ℕ × ℕ) (ask : Option ℕ) (first none put last : FacesTable K) → ((x : Face K) → change (with_listed None pending x) ≡ with_listed None pending (change x))
+pub faces-pended : {K : Type 0} (f : ℕ) (change : Face K → Face K) (serve : Served → Served) (pending : ℕ × ℕ) (ask : Option ℕ) (first none put last : FacesTable K) → ((x : Face K) → change (with_listed None pending x) ≡ with_listed None pending (change x))
     → none ≡ record first { faces = map (with_listed None pending) first.faces; rooms = none.rooms }
-    → put ≡ record none { faces = changed_at f change none.faces; rooms = put.rooms }
+    → put ≡ record none { faces = changed_at f change none.faces; served = serve none.served; rooms = put.rooms }
     → last ≡ record put { faces = change_at (place_of ask put.numbers) (λ id. listed_at id pending) put.faces; rooms = last.rooms }
-    → last ≡ record first { faces = map (with_listed (place_of ask first.numbers) pending) (changed_at f change first.faces); rooms = last.rooms }
-faces-pended f change pending ask first none put last alike is_none is_put is_last =
+    → last ≡ record first { faces = map (with_listed (place_of ask first.numbers) pending) (changed_at f change first.faces); served = serve first.served; rooms = last.rooms }
+faces-pended f change serve pending ask first none put last alike is_none is_put is_last =
     let numbers : put.numbers ≡ first.numbers = ap (λ (s : FacesTable _). s.numbers) is_put ∙ ap (λ (s : FacesTable _). s.numbers) is_none in
     let faces : put.faces ≡ map (with_listed None pending) (changed_at f change first.faces) =
     ap (λ (s : FacesTable _). s.faces) is_put ∙ ap (λ (s : FacesTable _). changed_at f change s.faces) is_none ∙ changed-unlisted f change pending alike first.faces in
@@ -182,7 +189,8 @@ faces-pended f change pending ask first none put last alike is_none is_put is_la
     ap (λ (s : FacesTable _). s.faces) is_last ∙ (λ i. change_at (place_of ask (numbers i)) (λ id. listed_at id pending) (faces i)) ∙ listed-after pending (place_of ask first.numbers) (changed_at f change first.faces) in
     let made : last.made ≡ first.made = ap (λ (s : FacesTable _). s.made) is_last ∙ ap (λ (s : FacesTable _). s.made) is_put ∙ ap (λ (s : FacesTable _). s.made) is_none in
     let asks_made : last.asks_made ≡ first.asks_made = ap (λ (s : FacesTable _). s.asks_made) is_last ∙ ap (λ (s : FacesTable _). s.asks_made) is_put ∙ ap (λ (s : FacesTable _). s.asks_made) is_none in
-    λ i. record { faces = all i; made = made i; asks_made = asks_made i; numbers = (ap (λ (s : FacesTable _). s.numbers) is_last ∙ numbers) i; rooms = last.rooms }
+    let served : last.served ≡ serve first.served = ap (λ (s : FacesTable _). s.served) is_last ∙ ap (λ (s : FacesTable _). s.served) is_put ∙ ap (λ (s : FacesTable _). serve s.served) is_none in
+    λ i. record { faces = all i; made = made i; asks_made = asks_made i; numbers = (ap (λ (s : FacesTable _). s.numbers) is_last ∙ numbers) i; served = served i; rooms = last.rooms }
 
 pub rooms-pended : (f : ℕ) (ask : Option ℕ) (first none put last : FacesRooms) → KeepsRooms nothing first none → KeepsRooms (one_row f PendingRows) none put → KeepsRooms (one_listing ask) put last → KeepsRooms (one_pending f ask) first last
 rooms-pended f ask first none put last a b c = record {

@@ -12,6 +12,7 @@ use Rattle.zt_rows.specs.ById.{map_rows}
 use Rattle.zt_rows.specs.Face.{AskRoom, FaceRoom, FaceTable}
 use Rattle.zt_changes.specs.Asks.{number_of_ask}
 use Rattle.zt_faces.specs.Numbered.{IsNumbered, faces_in}
+use Rattle.zt_faces.specs.Served.{served_in}
 use Rattle.zt_faces.specs.Table.{FacesTable}
 use Rattle.zt_faces.specs.declared.faces.Faces.TheInside.{Inside}
 
@@ -36,6 +37,7 @@ faces_table a = record {
   made = a.made;
   asks_made = a.asks_made;
   numbers = a.asks.rows;
+  served = served_in a.rows.rows;
   rooms = record { faces = a.rows.room; numbers = a.asks.room; within = map_rows room_of_table a.rows.rows; asks = map_rows (ask_room_at a.rows.rows) a.asks.rows };
 }
 

@@ -3,6 +3,7 @@ ghost use Rattle.std.specs.Prelude.{◌≡◌, ◌==◌, IfSome, None, false, tr
 ghost use Rattle.std.specs.FinMap.Entries.{is_sorted};
 ghost use Rattle.std.specs.List.{AllByRecursion};
 ghost use Rattle.std.specs.Ordering.{nat_cmp};
+ghost use Rattle.zt_model.specs.Lists.{without_id};
 ghost use Rattle.zt_rows.specs.ById.{next_id};
 ghost use Rattle.zt_faces.specs.Asks.{IsAskOf, first_value};
 ghost use Rattle.zt_faces.specs.Closing.{KeepsOtherRooms};
@@ -41,7 +42,7 @@ impl<K: Key> Faces<K> {
     // The face goes, which has no ask.
     fn forget(&mut self, f: u32)
         requires { AllByRecursion (λ row. (f == row.1.0) ≡ false) self.old.numbers }
-        ensures faces { self.new ≡ record self.old { faces = filter (λ x. not (f == x.number)) self.old.faces; rooms = self.new.rooms } }
+        ensures faces { self.new ≡ record self.old { faces = filter (λ x. not (f == x.number)) self.old.faces; served = without_id f self.old.served; rooms = self.new.rooms } }
         ensures rooms { KeepsOtherRooms f self.old.numbers self.old.rooms self.new.rooms }
     {
         self.rows.take(&f);
@@ -50,7 +51,7 @@ impl<K: Key> Faces<K> {
     /// The face goes with its rows and its asks.
     pub fn close(&mut self, f: u32)
         ensures faces { self.new
-            ≡ record self.old { faces = filter (λ x. not (f == x.number)) self.old.faces; numbers = filter (λ row. not (f == row.1.0)) self.old.numbers; rooms = self.new.rooms } }
+            ≡ record self.old { faces = filter (λ x. not (f == x.number)) self.old.faces; numbers = filter (λ row. not (f == row.1.0)) self.old.numbers; served = without_id f self.old.served; rooms = self.new.rooms } }
         ensures rooms { KeepsOtherRooms f self.new.numbers self.old.rooms self.new.rooms }
     {
         while let Some(n) = self.first_ask(f) {

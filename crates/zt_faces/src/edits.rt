@@ -7,6 +7,7 @@ ghost use Rattle.zt_model.specs.Telling.{registered, unregistered};
 ghost use Rattle.zt_model.specs.Visible.{keeps};
 ghost use Rattle.zt_rows.specs.Plain.{interest_held, interest_sent};
 ghost use Rattle.zt_faces.specs.Rooms.{HeldRows, KeepsRooms, LiveRows, LocalRows, ToldRows, face_room, nothing, one_row};
+ghost use Rattle.zt_faces.specs.Served.{served_dropped};
 ghost use Rattle.zt_faces.specs.Words.{changed_at, face_at, has_face};
 
 use crate::faces::Faces;
@@ -142,7 +143,7 @@ impl<K: Key> Faces<K> {
     /// The pending of the id ends.
     pub fn drop_pending(&mut self, f: u32, id: u32)
         requires { has_face f self.old.faces ≡ true }
-        ensures faces { self.new ≡ record self.old { faces = changed_at f (ended id) self.old.faces; rooms = self.new.rooms } }
+        ensures faces { self.new ≡ record self.old { faces = changed_at f (ended id) self.old.faces; served = served_dropped f id self.old.served; rooms = self.new.rooms } }
         ensures rooms { KeepsRooms nothing self.old.rooms self.new.rooms }
     {
         match self.rows.get_mut(&f) {

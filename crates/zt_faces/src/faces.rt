@@ -1,13 +1,20 @@
 // The faces, and what is asked of them.
-ghost use Rattle.std.specs.Prelude.{IsTrue, ◌≡◌, ◌+◌, ◌<◌, ◌≤◌, ◌++◌, ◌∷◌, [], option_map};
+ghost use Rattle.std.specs.Prelude.{IfOk, IsTrue, ℕ, ◌≡◌, ◌+◌, ◌<◌, ◌≤◌, ◌++◌, ◌∷◌, [], map, option_map, true};
+ghost use Rattle.std.specs.FinMap.Entries.{put};
+ghost use Rattle.std.specs.List.{AllByRecursion};
+ghost use Rattle.std.specs.Map.{keys_of};
+ghost use Rattle.std.specs.Map.Iter.{deref_pair};
 ghost use Rattle.std.specs.Option.{option_copied};
+ghost use Rattle.std.specs.Ordering.{nat_cmp};
 ghost use Rattle.zt_changes.specs.Opened.{is_rising, numbers_of};
 ghost use Rattle.zt_changes.specs.Queries.{next_face_after};
-ghost use Rattle.zt_faces.specs.Declaring.{SaysDeclared};
+ghost use Rattle.zt_faces.specs.Declaring.{CountsDeclared, SaysDeclared};
+ghost use Rattle.zt_faces.specs.Numbered.{faces_in};
 ghost use Rattle.zt_faces.specs.Rooms.{KeepsRooms, OpensRoom, one_face};
-ghost use Rattle.zt_faces.specs.Words.{face_at};
+ghost use Rattle.zt_faces.specs.Words.{face_at, has_face};
 
-use std::alloc::Global;
+use crate::open::OpenRows;
+use std::alloc::{AllocError, Global};
 use std::marker::Model;
 use zt_keys::Key;
 use zt_ordered::OrderedRows;
@@ -15,10 +22,11 @@ use zt_region::Region;
 use zt_rows::FaceRows;
 
 /// The open faces by number, and the place of each of their asks by its number. Contracts see the faces as the model's,
-/// in order of number, and apart from them the room for more.
+/// in order of number, beside them what the row of each pending names as the ask that it serves, and apart from them
+/// the room for more.
 #[derive(Drop)]
 pub struct Faces<K: Key> {
-    pub(crate) rows: OrderedRows<u32, FaceRows<K>>,
+    pub(crate) rows: OpenRows<FaceRows<K>>,
     pub(crate) asks: OrderedRows<u64, (u32, u32)>,
     // how many faces, and how many asks, were ever made
     pub(crate) made: u32,
@@ -44,9 +52,10 @@ impl<K: Key> Faces<K> {
         ensures made { result.made ≡ 0 }
         ensures asks_made { result.asks_made ≡ 0 }
         ensures numbers { result.numbers ≡ [] }
+        ensures served { result.served ≡ [] }
     {
         Faces {
-            rows: OrderedRows::new(alloc),
+            rows: OpenRows::new(alloc),
             asks: OrderedRows::new(alloc),
             made: 0,
             asks_made: 0,
@@ -60,16 +69,31 @@ impl<K: Key> Faces<K> {
         self.rows.get(&f)
     }
 
-    /// The least number of an open face above `after`.
+    /// The number of each open face, in order.
+    pub fn numbers(&self) -> &[(u32, ())]
+        ensures { keys_of result.now ≡ numbers_of self.now.faces }
+    {
+        self.rows.numbers()
+    }
+
+    /// The least number of an open face above `after`. A search by halves.
     pub fn next_face(&self, after: u32) -> Option<u32>
         ensures { result ≡ next_face_after after self.now.faces }
     {
         self.rows.next_key(Some(&after)).copied()
     }
 
-    /// A fact alone: the numbers of the faces rise.
+    /// A fact alone: the numbers of the faces rise, and were given out.
     pub fn rising(&self)
-        ensures { IsTrue (is_rising (numbers_of self.now.faces)) }
+        ensures rising { IsTrue (is_rising (numbers_of self.now.faces)) }
+        ensures made { AllByRecursion (λ number. number ≤ self.now.made) (numbers_of self.now.faces) }
+    {
+        let _made = self.made;
+    }
+
+    /// A fact alone: the number of a face that is open was given out.
+    pub fn open_given(&self)
+        ensures { (f : ℕ) → has_face f self.now.faces ≡ true → f ≤ self.now.made }
     {
         let _made = self.made;
     }
@@ -81,6 +105,29 @@ impl<K: Key> Faces<K> {
     {
         self.rows
             .any(|_, face| test(&face.row().region) && face.declares(expr))
+    }
+
+    /// How many tokens of the expression faces of regions that pass the test declare. A scan of the faces.
+    pub fn count_declared<F: Fn(&Region) -> bool>(&self, expr: &K, test: &F) -> u128
+        requires { F.IsAlwaysCallable test.now }
+        ensures count { CountsDeclared (F.post test.now) K.cmp expr.now self.now.faces result }
+        ensures most { result ≤ 340282366920938463426481119284349108225 }
+    {
+        let _len = self.rows.len();
+        self.rows.sum(|_, face| {
+            if test(&face.row().region) {
+                face.count_declared(expr)
+            } else {
+                0
+            }
+        })
+    }
+
+    /// The rows of the open faces with their numbers, in order. The only error is want of memory.
+    pub fn in_order(&self, alloc: Global) -> Result<Vec<(&u32, &FaceRows<K>)>, AllocError>
+        ensures { IfOk result (λ v. faces_in (map deref_pair v.items) ≡ self.now.faces) }
+    {
+        self.rows.in_order(alloc)
     }
 
     /// How many faces were ever made.
@@ -98,7 +145,7 @@ impl<K: Key> Faces<K> {
         requires none_asked { face.ask_rooms ≡ [] }
         requires unasked { face.face.asks ≡ [] }
         requires room { 0 < self.old.rooms.faces }
-        ensures faces { self.new ≡ record self.old { faces = self.old.faces ++ face.face ∷ []; made = self.old.made + 1; rooms = self.new.rooms } }
+        ensures faces { self.new ≡ record self.old { faces = self.old.faces ++ face.face ∷ []; made = self.old.made + 1; served = put nat_cmp (self.old.made + 1) face.served self.old.served; rooms = self.new.rooms } }
         ensures rooms { KeepsRooms one_face self.old.rooms self.new.rooms }
         ensures own_rooms { OpensRoom face.room (self.old.made + 1) self.new.rooms }
     {

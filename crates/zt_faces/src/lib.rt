@@ -8,6 +8,7 @@ mod asks;
 mod closing;
 mod edits;
 mod faces;
+mod open;
 mod room;
 mod upstream;
 

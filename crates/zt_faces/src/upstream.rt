@@ -1,25 +1,28 @@
 // What is sent upstream for asks, and what they are answered.
-ghost use Rattle.std.specs.Prelude.{◌≡◌, ◌<◌, ◌≤◌, ◌||◌, IfSome, IsSome, None, Some, not, map, true};
+ghost use Rattle.std.specs.Prelude.{◌≡◌, ◌<◌, ◌≤◌, ◌||◌, IfSome, IsSome, None, Some, not, map, option_map, true};
 ghost use Rattle.std.specs.FinMap.Entries.{find, is_sorted};
+ghost use Rattle.std.specs.Option.{option_copied};
 ghost use Rattle.std.specs.Ordering.{nat_cmp};
 ghost use Rattle.zt_model.specs.Acts.{answered_with, is_drawn, pending_added, with_listed};
 ghost use Rattle.zt_model.specs.Lists.{at_id, has_id, is_among, is_some_and};
 ghost use Rattle.zt_rows.specs.AskEdits.{listed_at};
 ghost use Rattle.zt_rows.specs.Plain.{plain_pending};
+ghost use Rattle.zt_changes.specs.Queries.{from_face};
 ghost use Rattle.zt_faces.specs.Asks.{ask_in, change_at};
 ghost use Rattle.zt_faces.specs.Rooms.{KeepsRooms, PendingRows, answer_room, face_room, listing_room, nothing, one_row};
 ghost use Rattle.zt_faces.specs.Sent.{has_drawn, one_answer, one_listing, one_pending, place_of, will_draw};
+ghost use Rattle.zt_faces.specs.Served.{served_at, served_put};
 ghost use Rattle.zt_faces.specs.Unlisted.{IsFaceUnlisted};
 ghost use Rattle.zt_faces.specs.Walk.{AreChanged, Writes};
 ghost use Rattle.zt_faces.specs.Words.{changed_at, face_at};
 
 use crate::faces::Faces;
+use crate::open::OpenRows;
 use zt_keys::Key;
-use zt_ordered::OrderedRows;
 use zt_rows::{FaceRows, PendingRow};
 
 // No ask of the face of the number, which is there, lists the pending any more.
-fn unlist_at<K: Key>(rows: &mut OrderedRows<u32, FaceRows<K>>, f: u32, pending: (u32, u32))
+fn unlist_at<K: Key>(rows: &mut OpenRows<FaceRows<K>>, f: u32, pending: (u32, u32))
     requires { IsSome (find nat_cmp f rows.old.rows) }
     ensures face { Writes (IsFaceUnlisted pending) f rows.old.rows rows.new.rows }
     ensures room { rows.new.room ≡ rows.old.room }
@@ -32,7 +35,7 @@ fn unlist_at<K: Key>(rows: &mut OrderedRows<u32, FaceRows<K>>, f: u32, pending: 
 }
 
 // No ask of any face lists the pending any more.
-fn unlist_each<K: Key>(rows: &mut OrderedRows<u32, FaceRows<K>>, pending: (u32, u32))
+fn unlist_each<K: Key>(rows: &mut OpenRows<FaceRows<K>>, pending: (u32, u32))
     requires { is_sorted nat_cmp rows.old.rows ≡ true }
     ensures faces { AreChanged (IsFaceUnlisted pending) rows.old.rows rows.new.rows }
     ensures in_order { is_sorted nat_cmp rows.new.rows ≡ true }
@@ -93,6 +96,18 @@ impl<K: Key> Faces<K> {
         self.list(n, pending)
     }
 
+    /// The current-mode interest that was sent to the face under the id and isn't finished.
+    pub fn pending(&self, f: u32, id: u32) -> Option<&PendingRow>
+        ensures pending { option_map plain_pending (option_copied result) ≡ from_face (λ x. at_id id x.pendings) (face_at f self.now.faces) }
+        ensures ask { option_map (λ row. row.ask) (option_copied result) ≡ served_at (f, id) self.now.served }
+        ensures id { IfSome (option_copied result) (λ row. row.id ≡ id) }
+    {
+        match self.rows.get(&f) {
+            Some(face) => face.pending(id),
+            None => None,
+        }
+    }
+
     // Whether the face is still to draw the id. No ask lists such a pending.
     fn will_draw(&self, pending: (u32, u32)) -> bool
         ensures { result ≡ will_draw pending self.now.faces }
@@ -118,7 +133,7 @@ impl<K: Key> Faces<K> {
     fn put_pending(&mut self, f: u32, row: PendingRow)
         requires id { is_some_and (face_at f self.old.faces) (λ x. has_id row.id x.locals || is_drawn row.id x) ≡ true }
         requires room { 0 < face_room f PendingRows self.old.rooms }
-        ensures faces { self.new ≡ record self.old { faces = changed_at f (pending_added row.id (plain_pending row)) self.old.faces; rooms = self.new.rooms } }
+        ensures faces { self.new ≡ record self.old { faces = changed_at f (pending_added row.id (plain_pending row)) self.old.faces; served = served_put f row.id row.ask self.old.served; rooms = self.new.rooms } }
         ensures rooms { KeepsRooms (one_row f PendingRows) self.old.rooms self.new.rooms }
     {
         match self.rows.get_mut(&f) {
@@ -137,6 +152,7 @@ impl<K: Key> Faces<K> {
         ensures faces { self.new
             ≡ record self.old {
               faces = map (with_listed (place_of row.ask self.old.numbers) (f, row.id)) (changed_at f (pending_added row.id (plain_pending row)) self.old.faces);
+              served = served_put f row.id row.ask self.old.served;
               rooms = self.new.rooms;
             } }
         ensures rooms { KeepsRooms (one_pending f row.ask) self.old.rooms self.new.rooms }

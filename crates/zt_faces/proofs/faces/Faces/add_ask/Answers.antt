@@ -13,6 +13,7 @@ use Rattle.zt_faces.specs.Numbered.{IsNumbered}
 use Rattle.zt_faces.specs.Put.{faces-put, one-here, room-none, room-there, rows-put, took-asks, not-less}
 use Rattle.zt_faces.specs.Rooms.{AskedRows, answers_in, face_room, is_kind, listings_in, room_in}
 use Rattle.zt_faces.specs.View.{AreFaces, room_of_table}
+use Rattle.zt_faces.specs.Served.{served-kept}
 use Rattle.zt_faces.proofs.faces.Faces.add_ask.Goals as goal
 
 pub add_ask-requires-clause-face : goal.add_ask-requires-clause-face
@@ -57,6 +58,7 @@ returns-clause-faces g c =
       ← c.self.view_is,
       c.put.ensures.rows,
       faces-put c.row.result.now.face (ask_put c.args.ask.id c.args.ask.ask) c.in-Some.rows.now c.add_ask.new.self c.self.inside.rows.rows c.self.invariant.numbered c.self.invariant.in_order c.in-Some.ensures.value (ap (λ (x : FaceTable _). x.face) is),
+      served-kept c.row.result.now.face c.in-Some.rows.now c.add_ask.new.self c.self.inside.rows.rows c.self.invariant.in_order c.in-Some.ensures.value (ap (λ (x : FaceTable _). x.served) is),
       c.row.ensures.face,
       c.row-2.ensures.id,
     ) refl

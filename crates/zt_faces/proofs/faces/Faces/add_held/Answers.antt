@@ -4,6 +4,7 @@ use Rattle.zt_rows.specs.Plain.{interest_held}
 use Rattle.zt_rows.specs.Face.{FaceTable}
 use Rattle.zt_faces.specs.Put.{faces-kept, faces-put, room-none, room-there, rooms-put, one-here, took-held, not-less}
 use Rattle.zt_faces.specs.Rooms.{HeldRows, face_room, is_kind}
+use Rattle.zt_faces.specs.Served.{served-kept}
 use Rattle.zt_faces.proofs.faces.Faces.add_held.Goals as goal
 
 pub add_held-requires : goal.add_held-requires
@@ -26,7 +27,7 @@ invariant_of-self g c =
 pub returns-clause-faces : goal.returns-clause-faces
 returns-clause-faces g c =
     let is = c.add_held.ensures.face in
-    rw (← c.self.view_is, faces-put c.args.f (held_added c.args.row.id (interest_held c.args.row)) c.in-Some.face.now c.add_held.new.self c.self.inside.rows.rows c.self.invariant.numbered c.self.invariant.in_order c.in-Some.ensures.value (ap (λ (x : FaceTable _). x.face) is)) refl
+    rw (← c.self.view_is, faces-put c.args.f (held_added c.args.row.id (interest_held c.args.row)) c.in-Some.face.now c.add_held.new.self c.self.inside.rows.rows c.self.invariant.numbered c.self.invariant.in_order c.in-Some.ensures.value (ap (λ (x : FaceTable _). x.face) is), served-kept c.args.f c.in-Some.face.now c.add_held.new.self c.self.inside.rows.rows c.self.invariant.in_order c.in-Some.ensures.value (ap (λ (x : FaceTable _). x.served) is)) refl
 
 pub returns-clause-rooms : goal.returns-clause-rooms
 returns-clause-rooms g c =

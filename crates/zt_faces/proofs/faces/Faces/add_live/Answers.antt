@@ -3,6 +3,7 @@ use Rattle.zt_model.specs.Telling.{registered}
 use Rattle.zt_rows.specs.Face.{FaceTable}
 use Rattle.zt_faces.specs.Put.{faces-kept, faces-put, room-none, room-there, rooms-put, one-here, took-live, not-less}
 use Rattle.zt_faces.specs.Rooms.{LiveRows, face_room, is_kind}
+use Rattle.zt_faces.specs.Served.{served-kept}
 use Rattle.zt_faces.proofs.faces.Faces.add_live.Goals as goal
 
 pub add_live-requires : goal.add_live-requires
@@ -25,7 +26,7 @@ invariant_of-self g c =
 pub returns-clause-faces : goal.returns-clause-faces
 returns-clause-faces g c =
     let is = c.add_live.ensures.face in
-    rw (← c.self.view_is, faces-put c.args.f (registered c.args.id c.args.expr) c.in-Some.face.now c.add_live.new.self c.self.inside.rows.rows c.self.invariant.numbered c.self.invariant.in_order c.in-Some.ensures.value (ap (λ (x : FaceTable _). x.face) is)) refl
+    rw (← c.self.view_is, faces-put c.args.f (registered c.args.id c.args.expr) c.in-Some.face.now c.add_live.new.self c.self.inside.rows.rows c.self.invariant.numbered c.self.invariant.in_order c.in-Some.ensures.value (ap (λ (x : FaceTable _). x.face) is), served-kept c.args.f c.in-Some.face.now c.add_live.new.self c.self.inside.rows.rows c.self.invariant.in_order c.in-Some.ensures.value (ap (λ (x : FaceTable _). x.served) is)) refl
 
 pub returns-clause-rooms : goal.returns-clause-rooms
 returns-clause-rooms g c =

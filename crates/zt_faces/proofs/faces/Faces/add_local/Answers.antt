@@ -6,6 +6,7 @@ use Rattle.zt_rows.specs.Face.{FaceTable}
 use Rattle.zt_faces.specs.Put.{face-there, faces-kept, faces-put, room-none, room-there, rooms-put, one-here, took-locals, not-below}
 use Rattle.zt_faces.specs.Rooms.{LocalRows, face_room, is_kind}
 use Rattle.zt_faces.specs.Words.{face_at}
+use Rattle.zt_faces.specs.Served.{served-kept}
 use Rattle.zt_faces.proofs.faces.Faces.add_local.Goals as goal
 
 pub add_local-requires-clause-room : goal.add_local-requires-clause-room
@@ -34,7 +35,7 @@ invariant_of-self g c =
 pub returns-clause-faces : goal.returns-clause-faces
 returns-clause-faces g c =
     let is = c.add_local.ensures.face in
-    rw (← c.self.view_is, faces-put c.args.f (local_added c.args.row.id (interest_sent c.args.row)) c.in-Some.face.now c.add_local.new.self c.self.inside.rows.rows c.self.invariant.numbered c.self.invariant.in_order c.in-Some.ensures.value (ap (λ (x : FaceTable _). x.face) is)) refl
+    rw (← c.self.view_is, faces-put c.args.f (local_added c.args.row.id (interest_sent c.args.row)) c.in-Some.face.now c.add_local.new.self c.self.inside.rows.rows c.self.invariant.numbered c.self.invariant.in_order c.in-Some.ensures.value (ap (λ (x : FaceTable _). x.face) is), served-kept c.args.f c.in-Some.face.now c.add_local.new.self c.self.inside.rows.rows c.self.invariant.in_order c.in-Some.ensures.value (ap (λ (x : FaceTable _). x.served) is)) refl
 
 pub returns-clause-rooms : goal.returns-clause-rooms
 returns-clause-rooms g c =

@@ -5,6 +5,7 @@ use Rattle.zt_model.specs.Rows.{Face}
 use Rattle.zt_rows.specs.Plain.{plain_pending}
 use Rattle.zt_faces.specs.Rooms.{PendingRows}
 use Rattle.zt_faces.specs.Sent.{has_drawn}
+use Rattle.zt_faces.specs.Served.{served_put}
 use Rattle.zt_faces.specs.Table.{FacesTable}
 use Rattle.zt_faces.specs.Unlisted.{drawn-pended, faces-pended, listing-left, rooms-pended, where-unlisted}
 use Rattle.zt_faces.specs.Words.{face_at}
@@ -29,7 +30,7 @@ list_for-requires-clause-drawn g c =
 
 pub returns-clause-faces : goal.returns-clause-faces
 returns-clause-faces g c =
-    faces-pended c.args.f (pending_added c.args.row.id (plain_pending c.args.row)) (c.args.f, c.args.row.id) c.args.row.ask c.args.self.now c.unlist.new.self c.put_pending.new.self c.list_for.new.self (λ x. refl)
+    faces-pended c.args.f (pending_added c.args.row.id (plain_pending c.args.row)) (served_put c.args.f c.args.row.id c.args.row.ask) (c.args.f, c.args.row.id) c.args.row.ask c.args.self.now c.unlist.new.self c.put_pending.new.self c.list_for.new.self (λ x. refl)
     c.unlist.ensures.faces c.put_pending.ensures.faces c.list_for.ensures.faces
 
 pub returns-clause-rooms : goal.returns-clause-rooms

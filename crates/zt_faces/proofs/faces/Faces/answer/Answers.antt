@@ -9,6 +9,7 @@ use Rattle.zt_faces.specs.Numbered.{faces_in}
 use Rattle.zt_faces.specs.Put.{face-there, faces-written, faces-put, rows-put, took-none, not-less}
 use Rattle.zt_faces.specs.Rooms.{answer_room, answers_in, listings_in}
 use Rattle.zt_faces.specs.Listed.{lists-answered, lists_in, own-listed}
+use Rattle.zt_faces.specs.Served.{served-kept}
 use Rattle.zt_faces.proofs.faces.Faces.answer.Goals as goal
 
 pub answer-requires-clause-new : goal.answer-requires-clause-new
@@ -56,6 +57,7 @@ returns-clause-faces g c =
       ← c.self.view_is,
       at,
       faces-put c.in-Some.place.0 (answered_with g.K.Ord.cmp g.K.Key.matching c.args.expr c.in-Some.place.1) c.in-Some-get_mut.face.now c.answer.new.self c.self.inside.rows.rows c.self.invariant.numbered c.self.invariant.in_order c.in-Some-get_mut.ensures.value (ap (λ (x : FaceTable _). x.face) is),
+      served-kept c.in-Some.place.0 c.in-Some-get_mut.face.now c.answer.new.self c.self.inside.rows.rows c.self.invariant.in_order c.in-Some-get_mut.ensures.value (ap (λ (x : FaceTable _). x.served) is),
     ) refl
 
 pub returns-clause-rooms : goal.returns-clause-rooms

@@ -8,6 +8,7 @@ invariant-loop-n g l = record {
   faces : filter (λ x. not (l.f == x.number)) l.self.faces ≡ filter (λ x. not (l.f == x.number)) l.fn.self.faces;
   numbers : filter (λ row. not (l.f == row.1.0)) l.self.numbers ≡ filter (λ row. not (l.f == row.1.0)) l.fn.self.numbers;
   made : l.self.made ≡ l.fn.self.made;
+  served : l.self.served ≡ l.fn.self.served;
   asks_made : l.self.asks_made ≡ l.fn.self.asks_made;
   rooms : KeepsOtherRooms l.f l.self.numbers l.fn.self.rooms l.self.rooms;
 }

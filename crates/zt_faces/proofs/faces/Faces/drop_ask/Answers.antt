@@ -13,6 +13,7 @@ use Rattle.zt_faces.specs.Numbered.{faces_in, find-face}
 use Rattle.zt_faces.specs.Put.{faces-put, less-nothing, rows-put, took-asks, took-nothing, not-less}
 use Rattle.zt_faces.specs.Rooms.{AskedRows, answers_in, listings_in}
 use Rattle.zt_faces.specs.View.{AreFaces}
+use Rattle.zt_faces.specs.Served.{served-kept}
 use Rattle.zt_faces.proofs.faces.Faces.drop_ask.Goals as goal
 
 pub invariant_of-self : goal.invariant_of-self
@@ -46,6 +47,7 @@ returns-clause-faces g c =
       c.take.ensures.rows,
       without-without_id c.args.n c.self.inside.asks.rows,
       faces-put c.in-Some.place.0 (ask_dropped c.in-Some.place.1) c.in-Some-get_mut.face.now c.drop_ask.new.self c.self.inside.rows.rows c.self.invariant.numbered c.self.invariant.in_order c.in-Some-get_mut.ensures.value (ap (λ (x : FaceTable _). x.face) is),
+      served-kept c.in-Some.place.0 c.in-Some-get_mut.face.now c.drop_ask.new.self c.self.inside.rows.rows c.self.invariant.in_order c.in-Some-get_mut.ensures.value (ap (λ (x : FaceTable _). x.served) is),
     ) refl
 
 pub returns-clause-rooms : goal.returns-clause-rooms

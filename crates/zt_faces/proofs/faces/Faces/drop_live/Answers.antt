@@ -5,6 +5,7 @@ use Rattle.zt_rows.specs.Face.{FaceTable}
 use Rattle.zt_faces.specs.Put.{face-none, faces-kept, faces-put, rooms-put, less-nothing, took-live, took-nothing, not-less}
 use Rattle.zt_faces.specs.Rooms.{LiveRows}
 use Rattle.zt_faces.specs.Words.{has_face}
+use Rattle.zt_faces.specs.Served.{served-kept}
 use Rattle.zt_faces.proofs.faces.Faces.drop_live.Goals as goal
 
 pub unreachable-requires : goal.unreachable-requires
@@ -21,7 +22,7 @@ invariant_of-self g c =
 pub returns-clause-faces : goal.returns-clause-faces
 returns-clause-faces g c =
     let is = c.drop_live.ensures.face in
-    rw (← c.self.view_is, faces-put c.args.f (unregistered c.args.id) c.in-Some.face.now c.drop_live.new.self c.self.inside.rows.rows c.self.invariant.numbered c.self.invariant.in_order c.in-Some.ensures.value (ap (λ (x : FaceTable _). x.face) is)) refl
+    rw (← c.self.view_is, faces-put c.args.f (unregistered c.args.id) c.in-Some.face.now c.drop_live.new.self c.self.inside.rows.rows c.self.invariant.numbered c.self.invariant.in_order c.in-Some.ensures.value (ap (λ (x : FaceTable _). x.face) is), served-kept c.args.f c.in-Some.face.now c.drop_live.new.self c.self.inside.rows.rows c.self.invariant.in_order c.in-Some.ensures.value (ap (λ (x : FaceTable _). x.served) is)) refl
 
 pub returns-clause-rooms : goal.returns-clause-rooms
 returns-clause-rooms g c =

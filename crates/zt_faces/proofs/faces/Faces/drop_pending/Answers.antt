@@ -5,6 +5,8 @@ use Rattle.zt_rows.specs.Face.{FaceTable}
 use Rattle.zt_faces.specs.Put.{face-none, faces-kept, faces-put, rooms-put, less-nothing, took-pendings, took-nothing, not-less}
 use Rattle.zt_faces.specs.Rooms.{PendingRows}
 use Rattle.zt_faces.specs.Words.{has_face}
+use Rattle.zt_model.specs.Lists.{without_id}
+use Rattle.zt_faces.specs.Served.{served-changed}
 use Rattle.zt_faces.proofs.faces.Faces.drop_pending.Goals as goal
 
 pub unreachable-requires : goal.unreachable-requires
@@ -21,7 +23,7 @@ invariant_of-self g c =
 pub returns-clause-faces : goal.returns-clause-faces
 returns-clause-faces g c =
     let is = c.drop_pending.ensures.face in
-    rw (← c.self.view_is, faces-put c.args.f (ended c.args.id) c.in-Some.face.now c.drop_pending.new.self c.self.inside.rows.rows c.self.invariant.numbered c.self.invariant.in_order c.in-Some.ensures.value (ap (λ (x : FaceTable _). x.face) is)) refl
+    rw (← c.self.view_is, faces-put c.args.f (ended c.args.id) c.in-Some.face.now c.drop_pending.new.self c.self.inside.rows.rows c.self.invariant.numbered c.self.invariant.in_order c.in-Some.ensures.value (ap (λ (x : FaceTable _). x.face) is), served-changed c.args.f (without_id c.args.id) c.in-Some.face.now c.drop_pending.new.self c.self.inside.rows.rows c.in-Some.ensures.value (ap (λ (x : FaceTable _). x.served) is)) refl
 
 pub returns-clause-rooms : goal.returns-clause-rooms
 returns-clause-rooms g c =

@@ -1,6 +1,8 @@
 use Rattle.std.proofs.Common.{◌≡◌, ◌==◌, false, refl, subst, sym}
 use Rattle.std.specs.List.{AllByRecursion}
 use Rattle.zt_faces.specs.Closing.{faces-without, kept-without, rooms-without}
+use Rattle.zt_rows.specs.ById.{without-map}
+use Rattle.zt_faces.specs.Served.{own_served}
 use Rattle.zt_faces.specs.View.{AreFaces}
 use Rattle.zt_faces.proofs.faces.Faces.forget.Goals as goal
 
@@ -11,7 +13,7 @@ invariant_of-self g c =
     (kept-without c.args.f c.self.inside.rows.rows c.self.inside.made c.self.inside.asks_made c.self.inside.asks.rows c.self.invariant alone)
 
 pub returns-clause-faces : goal.returns-clause-faces
-returns-clause-faces g c = rw (← c.self.view_is, c.take.ensures.rows, faces-without c.args.f c.self.inside.rows.rows c.self.invariant.numbered) refl
+returns-clause-faces g c = rw (← c.self.view_is, c.take.ensures.rows, faces-without c.args.f c.self.inside.rows.rows c.self.invariant.numbered, without-map own_served c.args.f c.self.inside.rows.rows) refl
 
 pub returns-clause-rooms : goal.returns-clause-rooms
 returns-clause-rooms g c =

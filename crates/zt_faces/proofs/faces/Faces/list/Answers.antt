@@ -7,6 +7,7 @@ use Rattle.zt_faces.specs.Put.{faces-written, faces-put, rows-put, took-none, no
 use Rattle.zt_faces.specs.Rooms.{answers_in, listing_room, listings_in}
 use Rattle.zt_faces.specs.Listed.{drawn-there, listed-more, lists_in}
 use Rattle.zt_faces.specs.Sent.{has_drawn}
+use Rattle.zt_faces.specs.Served.{served-kept}
 use Rattle.zt_faces.proofs.faces.Faces.list.Goals as goal
 
 pub list-requires : goal.list-requires
@@ -45,6 +46,7 @@ returns-clause-faces g c =
       ← c.self.view_is,
       at,
       faces-put c.in-Some.place.0 (listed_at c.in-Some.place.1 c.args.pending) c.in-Some-get_mut.face.now c.list.new.self c.self.inside.rows.rows c.self.invariant.numbered c.self.invariant.in_order c.in-Some-get_mut.ensures.value (ap (λ (x : FaceTable _). x.face) is),
+      served-kept c.in-Some.place.0 c.in-Some-get_mut.face.now c.list.new.self c.self.inside.rows.rows c.self.invariant.in_order c.in-Some-get_mut.ensures.value (ap (λ (x : FaceTable _). x.served) is),
     ) refl
 
 pub returns-clause-rooms : goal.returns-clause-rooms

@@ -6,6 +6,9 @@ use Rattle.zt_rows.specs.Face.{FaceTable}
 use Rattle.zt_faces.specs.Put.{face-there, faces-kept, faces-put, room-none, room-there, rooms-put, one-here, took-pendings, not-below}
 use Rattle.zt_faces.specs.Rooms.{PendingRows, face_room, is_kind}
 use Rattle.zt_faces.specs.Words.{face_at}
+use Rattle.std.specs.FinMap.Entries.{put}
+use Rattle.std.specs.Ordering.{nat_cmp}
+use Rattle.zt_faces.specs.Served.{served-changed}
 use Rattle.zt_faces.proofs.faces.Faces.put_pending.Goals as goal
 
 pub add_pending-requires-clause-room : goal.add_pending-requires-clause-room
@@ -34,7 +37,7 @@ invariant_of-self g c =
 pub returns-clause-faces : goal.returns-clause-faces
 returns-clause-faces g c =
     let is = c.add_pending.ensures.face in
-    rw (← c.self.view_is, faces-put c.args.f (pending_added c.args.row.id (plain_pending c.args.row)) c.in-Some.face.now c.add_pending.new.self c.self.inside.rows.rows c.self.invariant.numbered c.self.invariant.in_order c.in-Some.ensures.value (ap (λ (x : FaceTable _). x.face) is)) refl
+    rw (← c.self.view_is, faces-put c.args.f (pending_added c.args.row.id (plain_pending c.args.row)) c.in-Some.face.now c.add_pending.new.self c.self.inside.rows.rows c.self.invariant.numbered c.self.invariant.in_order c.in-Some.ensures.value (ap (λ (x : FaceTable _). x.face) is), served-changed c.args.f (put nat_cmp c.args.row.id c.args.row.ask) c.in-Some.face.now c.add_pending.new.self c.self.inside.rows.rows c.in-Some.ensures.value (ap (λ (x : FaceTable _). x.served) is)) refl
 
 pub returns-clause-rooms : goal.returns-clause-rooms
 returns-clause-rooms g c =

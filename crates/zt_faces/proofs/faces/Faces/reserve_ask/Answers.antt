@@ -12,6 +12,7 @@ use Rattle.zt_faces.specs.Numbered.{faces_in, find-face}
 use Rattle.zt_faces.specs.Put.{face-there, faces-kept, rows-put, took-none, not-less}
 use Rattle.zt_faces.specs.Reserved.{faces-same, on-ok, own-found}
 use Rattle.zt_faces.specs.Rooms.{answers_in, listings_in}
+use Rattle.zt_faces.specs.Served.{served-kept}
 use Rattle.zt_faces.proofs.faces.Faces.reserve_ask.Goals as goal
 
 pub returns-in_default-clause-ok : goal.returns-in_default-clause-ok
@@ -36,7 +37,7 @@ invariant_of-self-2 g c =
 pub returns-clause-rows : goal.returns-clause-rows
 returns-clause-rows g c =
     let is = c.reserve_ask.ensures.rows in
-    rw (← c.self.view_is, faces-same c.in-Some.place.0 c.reserve_ask.new.self c.self.inside.rows.rows c.in-Some-get_mut.face.now c.self.invariant.numbered c.self.invariant.in_order c.in-Some-get_mut.ensures.value (ap (λ (x : FaceTable _). x.face) is)) refl
+    rw (← c.self.view_is, faces-same c.in-Some.place.0 c.reserve_ask.new.self c.self.inside.rows.rows c.in-Some-get_mut.face.now c.self.invariant.numbered c.self.invariant.in_order c.in-Some-get_mut.ensures.value (ap (λ (x : FaceTable _). x.face) is), served-kept c.in-Some.place.0 c.in-Some-get_mut.face.now c.reserve_ask.new.self c.self.inside.rows.rows c.self.invariant.in_order c.in-Some-get_mut.ensures.value (ap (λ (x : FaceTable _). x.served) is)) refl
 
 pub returns-clause-ok : goal.returns-clause-ok
 returns-clause-ok g c =

@@ -7,6 +7,7 @@ use Rattle.zt_rows.specs.Rooms.{room_needed}
 use Rattle.zt_faces.specs.Put.{face-none, faces-kept, room-there, rooms-put, not-less}
 use Rattle.zt_faces.specs.Reserved.{faces-same, kinds-kept, kinds-needed, on-ok, own-found}
 use Rattle.zt_faces.specs.Words.{has_face}
+use Rattle.zt_faces.specs.Served.{served-kept}
 use Rattle.zt_faces.proofs.faces.Faces.reserve_face.Goals as goal
 
 pub returns-in_default-clause-ok : goal.returns-in_default-clause-ok
@@ -23,7 +24,7 @@ invariant_of-self-2 g c =
 pub returns-clause-rows : goal.returns-clause-rows
 returns-clause-rows g c =
     let is = c.reserve.ensures.rows in
-    rw (← c.self.view_is, faces-same c.args.f c.reserve.new.self c.self.inside.rows.rows c.in-Some.face.now c.self.invariant.numbered c.self.invariant.in_order c.in-Some.ensures.value (ap (λ (x : FaceTable _). x.face) is)) refl
+    rw (← c.self.view_is, faces-same c.args.f c.reserve.new.self c.self.inside.rows.rows c.in-Some.face.now c.self.invariant.numbered c.self.invariant.in_order c.in-Some.ensures.value (ap (λ (x : FaceTable _). x.face) is), served-kept c.args.f c.in-Some.face.now c.reserve.new.self c.self.inside.rows.rows c.self.invariant.in_order c.in-Some.ensures.value (ap (λ (x : FaceTable _). x.served) is)) refl
 
 pub returns-clause-ok : goal.returns-clause-ok
 returns-clause-ok g c =

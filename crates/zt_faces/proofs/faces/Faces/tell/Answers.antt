@@ -8,6 +8,7 @@ use Rattle.zt_rows.specs.Face.{FaceTable}
 use Rattle.zt_faces.specs.Put.{face-there, faces-kept, faces-put, room-none, room-there, rooms-put, one-here, took-told, not-below}
 use Rattle.zt_faces.specs.Rooms.{ToldRows, face_room, is_kind}
 use Rattle.zt_faces.specs.Words.{face_at}
+use Rattle.zt_faces.specs.Served.{served-kept}
 use Rattle.zt_faces.proofs.faces.Faces.tell.Goals as goal
 
 pub tell-requires-clause-room : goal.tell-requires-clause-room
@@ -48,7 +49,7 @@ invariant_of-self g c =
 pub returns-clause-faces : goal.returns-clause-faces
 returns-clause-faces g c =
     let is = c.tell.ensures.face in
-    rw (← c.self.view_is, faces-put c.args.f (told_under c.args.id c.args.expr) c.in-Some.face.now c.tell.new.self c.self.inside.rows.rows c.self.invariant.numbered c.self.invariant.in_order c.in-Some.ensures.value (ap (λ (x : FaceTable _). x.face) is)) refl
+    rw (← c.self.view_is, faces-put c.args.f (told_under c.args.id c.args.expr) c.in-Some.face.now c.tell.new.self c.self.inside.rows.rows c.self.invariant.numbered c.self.invariant.in_order c.in-Some.ensures.value (ap (λ (x : FaceTable _). x.face) is), served-kept c.args.f c.in-Some.face.now c.tell.new.self c.self.inside.rows.rows c.self.invariant.in_order c.in-Some.ensures.value (ap (λ (x : FaceTable _). x.served) is)) refl
 
 pub returns-clause-rooms : goal.returns-clause-rooms
 returns-clause-rooms g c =

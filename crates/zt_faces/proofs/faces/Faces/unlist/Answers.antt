@@ -5,7 +5,7 @@ use Rattle.zt_faces.specs.Listed.{nowhere-listed, undrawn-nowhere}
 use Rattle.zt_faces.specs.Numbered.{find-face}
 use Rattle.zt_faces.specs.Sent.{will_draw}
 use Rattle.zt_faces.specs.Table.{FacesTable}
-use Rattle.zt_faces.specs.Unlisted.{faces-unlisted, kept-unlisted, rooms-unlisted}
+use Rattle.zt_faces.specs.Unlisted.{faces-unlisted, kept-unlisted, rooms-unlisted, served-unlisted}
 use Rattle.zt_faces.proofs.faces.Faces.unlist.Goals as goal
 
 pub invariant_of-self : goal.invariant_of-self
@@ -13,7 +13,7 @@ invariant_of-self g c =
     kept-unlisted c.args.pending c.self.inside.rows.rows c.unlist_each.new.rows.rows c.self.inside.made c.self.inside.asks_made c.self.inside.asks.rows c.self.invariant c.unlist_each.ensures.faces c.unlist_each.ensures.in_order
 
 pub returns-clause-faces : goal.returns-clause-faces
-returns-clause-faces g c = rw (← c.self.view_is, faces-unlisted c.args.pending c.self.inside.rows.rows c.unlist_each.new.rows.rows c.unlist_each.ensures.faces) refl
+returns-clause-faces g c = rw (← c.self.view_is, faces-unlisted c.args.pending c.self.inside.rows.rows c.unlist_each.new.rows.rows c.unlist_each.ensures.faces, served-unlisted c.args.pending c.self.inside.rows.rows c.unlist_each.new.rows.rows c.unlist_each.ensures.faces) refl
 
 pub returns-clause-rooms : goal.returns-clause-rooms
 returns-clause-rooms g c =
