@@ -18,7 +18,7 @@ use Rattle.zt_grouped.specs.NextPair.{group_after, key_after}
 use Rattle.zt_tables.specs.NextRows.{expression_after, source_after}
 use Rattle.zt_tables.specs.RegionOrder.{is_eq-then, region_cmp-order, region_order-eq}
 use Rattle.zt_tables.specs.Routed.{routed_row}
-use Rattle.zt_tables.specs.RoutedOrder.{group_order}
+use Rattle.zt_needs.specs.Need.{group_order}
 
 -- ---- ties
 region-tie : (a b : Region) → is_eq (ghosts.cmp a b) ≡ region_eq a b

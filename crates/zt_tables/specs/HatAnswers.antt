@@ -1,5 +1,5 @@
 -- What the calls of a strategy answer, and what they make of a plan.
-use Rattle.std.specs.Prelude.{◌≡◌, ◌++◌, Result, MatchResult, ℕ, Bool, true, false, ◌&&◌, not, if◌then◌else◌, List, [], Option, Some, None, option_map, map, filter}
+use Rattle.std.specs.Prelude.{◌≡◌, ◌++◌, Result, MatchResult, ℕ, Bool, true, false, ◌&&◌, not, if◌then◌else◌, List, [], Option, Some, None, map, filter}
 use Rattle.std.specs.List.{flat_map, list_any}
 use Rattle.std.specs.declared.cmp.Ordering.{Ordering}
 use Rattle.zt_keys.specs.declared.error.Memory.{Memory}
@@ -10,18 +10,19 @@ use Rattle.zt_region.specs.declared.region.Zid.{Zid}
 use Rattle.zt_region.specs.Region.{is_north, region_eq}
 use Rattle.zt_protocol.specs.Interest.{is_current}
 use Rattle.zt_protocol.specs.declared.interests.InterestMode.TheVariants.{CurrentFuture}
-use Rattle.zt_model.specs.Acts.{Act, AddPending, Fit, Store, acted_all, is_ask_where, is_face_where}
-use Rattle.zt_model.specs.Lists.{at_id, first_where, in_key_order, is_some_and}
+use Rattle.zt_model.specs.Acts.{Act, AddPending, Fit, Store, acted_all, is_face_where}
+use Rattle.zt_model.specs.Lists.{at_id, in_key_order, is_some_and}
 use Rattle.zt_model.specs.Parts.{find_face}
 use Rattle.zt_model.specs.Refusals.{names_nothing}
-use Rattle.zt_model.specs.Routing.{interest_order, is_held_south, stands}
+use Rattle.zt_model.specs.Routing.{interest_order, is_held_south}
 use Rattle.zt_model.specs.Rows.{InterestRow, Rows}
 use Rattle.zt_model.specs.Sourced.{PlainSources}
 use Rattle.zt_model.specs.Strategy.{Strategy, BrokerHat, ClientHat, PeerHat, RouterHat, is_router_hat}
-use Rattle.zt_model.specs.Telling.{undeclared, was_sent_as}
+use Rattle.zt_model.specs.Telling.{undeclared}
 use Rattle.zt_model.specs.Trees.{source_of}
 use Rattle.zt_model.specs.Visible.{live_rows}
 use Rattle.zt_model.specs.Wants.{is_about}
+use Rattle.zt_changes.specs.AskServed.{ask_served}
 use Rattle.zt_changes.specs.Queries.{from_face, list_of_face}
 use Rattle.zt_rows.specs.declared.rows.RouteCurrentDeclareResult.{RouteCurrentDeclareResult}
 use Rattle.zt_rows.specs.declared.rows.RouteCurrentDeclareResult.TheVariants as declared
@@ -70,11 +71,6 @@ adds_pending _ = false
 abbrev pub route_result : {K : Type 0} → InterestRow K → List (Act K) → RouteInterestResult
 route_result interest acts = if is_current interest.mode && not (list_any adds_pending acts) then routed.ResolvedCurrentInterest else routed.Noop
 
--- the ask, by its number, that the pending of a face serves, where both stand
-abbrev pub ask_served : {K : Type 0} → ℕ → ℕ → Store K → Option ℕ
-ask_served n id s =
-    if stands s.rows (n, id) then option_map (λ row. row.0) (first_where (λ row. is_ask_where row.0 (was_sent_as n id) s) s.numbers) else None
-
 -- what an answer of a face to the interest of an id belongs to
 abbrev pub declare_result : {K : Type 0} → ℕ → ℕ → Store K → RouteCurrentDeclareResult
 declare_result n id s =
@@ -97,9 +93,9 @@ module _ {K : Type 0} (cmp : K → K → Ordering) (matching : K → K → Bool)
   abbrev pub live_matching : Region → Option K → Rows K → List K
   live_matching region expr g = filter (is_about matching expr) (live_in region g)
 
-  -- what an undeclaration of a face is about
-  abbrev pub expression_undeclared : ℕ → ℕ → Option K → Rows K → Option K
-  expression_undeclared n id given g = from_face (undeclared cmp matching id given) (find_face n g)
+  -- what an undeclaration of a face is about; in a router region it names its expression
+  abbrev pub expression_undeclared : Strategy → ℕ → ℕ → Option K → Rows K → Option K
+  expression_undeclared hat n id given g = if is_router_hat hat then given else from_face (undeclared cmp matching id given) (find_face n g)
 
   -- what south-bound faces of the region hold, each pair of expression and options once, asked for now and later
   abbrev pub held_in : Region → Rows K → List (InterestRow K)

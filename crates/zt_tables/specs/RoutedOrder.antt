@@ -1,24 +1,22 @@
 -- The order of routed rows that is computed is the model's.
 use Rattle.std.specs.Prelude.{◌≡◌, ◌||◌, not, List, [], ◌∷◌, filter, map, refl}
-use Rattle.std.specs.List.{list_any}
+use Rattle.std.specs.List.{AllByRecursion, list_any}
 use Rattle.std.specs.Ordering.{is_eq, nat_cmp, ordering_then}
 use Rattle.std.specs.declared.cmp.Ordering.{Ordering}
 use Rattle.std.specs.declared.cmp.Ordering.TheVariants.{Less, Equal, Greater}
-use Rattle.std.proofs.Common.{ap, ◌∙◌}
+use Rattle.std.proofs.Common.{ap, sym, ◌∙◌}
 use Rattle.std.specs.Prelude.{Bool}
 use Rattle.zt_region.specs.contracts.region.RegionOrd.TheImpl.{ghosts}
 use Rattle.zt_region.specs.declared.region.Region.{Region}
 use Rattle.zt_region.specs.declared.region.Zid.{Zid}
 use Rattle.zt_ordered.specs.Test.{by_ordering, by_test}
 use Rattle.zt_grouped.specs.Grouped.{pair_order}
+use Rattle.zt_needs.specs.Need.{group_order}
 use Rattle.zt_model.specs.Lists.{with_key}
 use Rattle.zt_model.specs.Trees.{is_routed_row, routed_order, row_at}
+use Rattle.zt_rows.specs.Rising.{AreRising}
 use Rattle.zt_tables.specs.Routed.{routed_row}
 use Rattle.zt_tables.specs.RegionOrder.{region_cmp-order}
-
--- by region, then by zid
-abbrev pub group_order : Region × Zid → Region × Zid → Ordering
-group_order a b = ordering_then (ghosts.cmp a.0 b.0) (nat_cmp a.1.0 b.1.0)
 
 then-assoc : (x y z : Ordering) → ordering_then (ordering_then x y) z ≡ ordering_then x (ordering_then y z)
 then-assoc Less y z = refl
@@ -58,3 +56,12 @@ module _ {K : Type 0} (cmp : K → K → Ordering) (matching : K → K → Bool)
   routed-dropped region source e pairs =
       (λ i. map routed_row (filter (λ x. not (is_eq (routed-order cmp matching ((region, source), e) x i))) pairs))
       ∙ map-filter routed_row (λ row. not (is_routed_row cmp matching (row_at cmp matching region source e) row)) pairs
+
+  -- rows in order are read as rows in order
+  pub routed-rises : (pairs : List ((Region × Zid) × K)) → AreRising (pair_order group_order cmp) pairs → AreRising (routed_order cmp matching) (map routed_row pairs)
+  routed-rises [] rising = tt
+  routed-rises (x ∷ xs) rising = (below xs rising.0, routed-rises xs rising.1)
+    where
+      below : (ys : List ((Region × Zid) × K)) → AllByRecursion (λ y. pair_order group_order cmp x y ≡ Less) ys → AllByRecursion (λ row. routed_order cmp matching (routed_row x) row ≡ Less) (map routed_row ys)
+      below [] all = tt
+      below (y ∷ ys) all = (sym (routed-order cmp matching x y) ∙ all.0, below ys all.1)

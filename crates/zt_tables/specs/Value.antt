@@ -4,15 +4,19 @@ use Rattle.zt_region.specs.declared.region.Region.{Region}
 use Rattle.zt_region.specs.declared.region.Zid.{Zid}
 use Rattle.zt_model.specs.Acts.{Store}
 use Rattle.zt_model.specs.Rows.{ById}
+use Rattle.zt_rows.specs.Face.{AskRoom, FaceRoom}
 use Rattle.zt_faces.specs.Table.{FacesRooms}
 
--- the room of the faces, for numbers of the dictionary, for tokens of each router, for trees, and for messages to a face
+-- the room of the faces, for numbers of the dictionary, for tokens of each router, for trees, and for messages to a face,
+-- and that of the lists that wait for faces and asks to come, the next one first
 pub record Rooms : Type 0 where
   pub faces : FacesRooms
   pub dictionary : ℕ
   pub routed : List ((Region × Zid) × ℕ)
   pub trees : ℕ
   pub outboxes : ById ℕ
+  pub spare_faces : List FaceRoom
+  pub spare_asks : List AskRoom
 
 pub record TableRows (K : Type 0) : Type 0 where
   pub store : Store K

@@ -8,8 +8,9 @@ ghost use Rattle.zt_model.specs.Routing.{face_opened};
 ghost use Rattle.zt_rows.specs.Plain.{interest_held, interest_sent, plain_pending};
 ghost use Rattle.zt_faces.specs.Rooms.{AskedRows, HeldRows, LiveRows, LocalRows, OpensRoom, PendingRows, ToldRows, all_of_ask, answer_room, face_room, listing_room, nothing, one_ask, one_face, one_row};
 ghost use Rattle.zt_faces.specs.Sent.{one_answer, one_pending};
-ghost use Rattle.zt_tables.specs.RoutedOrder.{group_order};
-ghost use Rattle.zt_tables.specs.Room.{KeepsOthers, KeepsTables, of_faces, one_message, one_number, one_routed, one_tree};
+ghost use Rattle.zt_needs.specs.Need.{group_order};
+ghost use Rattle.zt_tables.specs.Room.{KeepsOthers, KeepsTables};
+ghost use Rattle.zt_needs.specs.Need.{of_faces, one_message, one_number, one_routed, one_tree};
 
 use crate::tables::Tables;
 use zt_keys::Key;
@@ -199,7 +200,9 @@ impl<K: Key> Tables<K> {
         requires { Fits K.cmp K.matching (CloseFace f) self.old.store }
         ensures store { self.new.store ≡ acted K.cmp K.matching (CloseFace f) self.old.store }
         ensures rooms { KeepsOthers f self.new.store.numbers self.old.rooms self.new.rooms }
+        ensures given { f ≤ self.old.store.rows.made }
     {
+        self.faces.open_given();
         self.faces.close(f);
         self.outboxes.forget(f);
     }
@@ -209,6 +212,7 @@ impl<K: Key> Tables<K> {
         requires fits { Fits K.cmp K.matching (OpenFace row.zid row.whatami row.region row.remote_bound row.first) self.old.store }
         requires face { face.face ≡ face_opened row.zid row.whatami row.region row.remote_bound row.first self.old.store.rows }
         requires alone { face.numbers ≡ [] }
+        requires served { face.served ≡ [] }
         requires none_asked { face.ask_rooms ≡ [] }
         requires room { 0 < self.old.rooms.faces.faces }
         ensures store { self.new.store ≡ acted K.cmp K.matching (OpenFace row.zid row.whatami row.region row.remote_bound row.first) self.old.store }

@@ -43,6 +43,12 @@ impl<K: Key> Plan<K> {
         &self.changes
     }
 
+    pub(crate) fn into_changes(self) -> Vec<Change<K>>
+        ensures { map plain_change result.items ≡ self }
+    {
+        self.changes
+    }
+
     /// How many changes there are.
     pub fn len(&self) -> usize
         ensures len { result ≡ length self.now }

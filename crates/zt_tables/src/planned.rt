@@ -5,6 +5,7 @@ ghost use Rattle.zt_model.specs.Acts.{Fit, acted_all};
 ghost use Rattle.zt_model.specs.Lists.{at_id};
 ghost use Rattle.zt_model.specs.Parts.{find_face, told_id};
 ghost use Rattle.zt_rows.specs.Plain.{interest_held, interest_sent, plain_pending};
+ghost use Rattle.zt_changes.specs.AskServed.{ask_served, standing_ask};
 ghost use Rattle.zt_changes.specs.Queries.{from_face};
 
 use crate::plan::Plan;
@@ -48,12 +49,16 @@ impl<K: Key> Plan<K> {
         local_after(self.changes(), f, id, tables.local(f, id))
     }
 
-    /// The current-mode interest that was sent to the face under the id and isn't finished.
+    /// The current-mode interest that was sent to the face under the id and isn't finished. The ask that its row names,
+    /// where that stands, is the one that lists it.
     pub fn pending<'a>(&'a self, tables: &'a Tables<K>, f: u32, id: u32) -> Option<&'a PendingRow>
         ensures pending { Fit K.cmp K.matching self.now tables.now.store
             → option_map plain_pending (option_copied result) ≡ from_face (λ face. at_id id face.pendings) (find_face f (acted_all K.cmp K.matching self.now tables.now.store).rows) }
+        ensures ask { Fit K.cmp K.matching self.now tables.now.store
+            → IfSome (option_copied result) (λ row. standing_ask row.ask (acted_all K.cmp K.matching self.now tables.now.store) ≡ ask_served f id (acted_all K.cmp K.matching self.now tables.now.store)) }
         ensures id { IfSome (option_copied result) (λ row. row.id ≡ id) }
     {
-        pending_after(self.changes(), f, id, tables.pending(f, id))
+        let _made = tables.next_ask();
+        pending_after(self.changes(), f, id, tables.pending_row(f, id))
     }
 }

@@ -25,7 +25,7 @@ use zt_keys::Key;
 use zt_rows::FaceRow;
 
 // A fact alone: the rows of each kind that a face has stand in order of id.
-fn in_order<K: Key>(tables: &Tables<K>, f: u32)
+pub(crate) fn in_order<K: Key>(tables: &Tables<K>, f: u32)
     ensures live { IsTrue (is_sorted nat_cmp (list_of_face (λ x. x.live) (find_face f tables.now.store.rows))) }
     ensures held { IsTrue (is_sorted nat_cmp (list_of_face (λ x. x.held) (find_face f tables.now.store.rows))) }
     ensures locals { IsTrue (is_sorted nat_cmp (list_of_face (λ x. x.locals) (find_face f tables.now.store.rows))) }

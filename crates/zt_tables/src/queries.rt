@@ -1,5 +1,5 @@
 // What is asked of one face.
-ghost use Rattle.std.specs.Prelude.{◌≡◌, IfOk, IfSome, option_map};
+ghost use Rattle.std.specs.Prelude.{◌≡◌, ◌<◌, ◌^◌, IfOk, IfSome, option_map};
 ghost use Rattle.std.specs.Map.{keys_of};
 ghost use Rattle.std.specs.Option.{option_copied};
 ghost use Rattle.zt_model.specs.Lists.{at_id, is_some_and};
@@ -7,7 +7,9 @@ ghost use Rattle.zt_model.specs.Parts.{find_face, told_id};
 ghost use Rattle.zt_model.specs.Wants.{wants};
 ghost use Rattle.zt_rows.specs.ById.{next_id};
 ghost use Rattle.zt_rows.specs.Plain.{interest_held, interest_sent, plain_pending};
+ghost use Rattle.zt_changes.specs.AskServed.{Serves, ask_served, standing_ask};
 ghost use Rattle.zt_changes.specs.Queries.{from_face, ids_left, list_of_face};
+ghost use Rattle.zt_changes.specs.Weights.{tokens_of};
 
 use crate::tables::Tables;
 use std::alloc::Global;
@@ -33,6 +35,17 @@ impl<K: Key> Tables<K> {
         match self.rows_of(f) {
             Some(face) => face.next_live(after),
             None => None,
+        }
+    }
+
+    // How many tokens of the expression the face declared. A scan of its tokens.
+    pub(crate) fn count_tokens(&self, f: u32, expr: &K) -> u128
+        ensures tokens { result ≡ tokens_of K.cmp expr.now (list_of_face (λ face. face.live) (find_face f self.now.store.rows)) }
+        ensures most { result < 2 ^ 64 }
+    {
+        match self.rows_of(f) {
+            Some(face) => u128::from(face.count_declared(expr)),
+            None => 0,
         }
     }
 
@@ -108,15 +121,23 @@ impl<K: Key> Tables<K> {
         }
     }
 
-    /// The current-mode interest that was sent to the face under the id and isn't finished.
+    /// The current-mode interest that was sent to the face under the id and isn't finished. The ask that its row names,
+    /// where that stands, is the one that lists it.
     pub fn pending(&self, f: u32, id: u32) -> Option<&PendingRow>
         ensures pending { option_map plain_pending (option_copied result) ≡ from_face (λ face. at_id id face.pendings) (find_face f self.now.store.rows) }
+        ensures ask { IfSome (option_copied result) (λ row. standing_ask row.ask self.now.store ≡ ask_served f id self.now.store) }
         ensures id { IfSome (option_copied result) (λ row. row.id ≡ id) }
     {
-        match self.rows_of(f) {
-            Some(face) => face.pending(id),
-            None => None,
-        }
+        self.pending_row(f, id)
+    }
+
+    // The same, with what its row names.
+    pub(crate) fn pending_row(&self, f: u32, id: u32) -> Option<&PendingRow>
+        ensures pending { option_map plain_pending (option_copied result) ≡ from_face (λ face. at_id id face.pendings) (find_face f self.now.store.rows) }
+        ensures serves { IfSome (option_map (λ row. row.ask) (option_copied result)) (Serves (f, id) self.now.store) }
+        ensures id { IfSome (option_copied result) (λ row. row.id ≡ id) }
+    {
+        self.faces.pending(f, id)
     }
 
     /// The least id of a pending of the face, above `after` where one is given.

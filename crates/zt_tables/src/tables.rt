@@ -12,20 +12,27 @@ ghost use Rattle.std.specs.List.{list_any};
 ghost use Rattle.zt_model.specs.Trees.{is_own_row, is_routed_row, row_at};
 ghost use Rattle.zt_protocol.specs.Plain.{trees_of};
 ghost use Rattle.zt_faces.specs.Declaring.{SaysDeclared};
+ghost use Rattle.std.specs.List.{AllByRecursion};
+ghost use Rattle.std.specs.Prelude.{◌&&◌, map};
+ghost use Rattle.zt_rows.specs.Change.{plain_change};
+ghost use Rattle.zt_changes.specs.RegionTests.{passes};
+ghost use Rattle.zt_changes.specs.RoutedLive.{is_live_row, routed_kept};
+ghost use Rattle.zt_changes.specs.Weights.{declared};
 ghost use Rattle.zt_tables.specs.Live.{SaysRouted};
+ghost use Rattle.zt_tables.specs.Routed.{is_other_router};
 ghost use Rattle.zt_changes.specs.Queries.{next_face_after, next_number_after, numbered, table_set};
-ghost use Rattle.std.specs.Prelude.{IsTrue};
-ghost use Rattle.zt_changes.specs.Opened.{is_rising, numbers_of};
 
 use std::alloc::Global;
+use std::collections::VecDeque;
 use std::marker::Model;
+use zt_changes::{RegionTest, routed_stays};
 use zt_faces::Faces;
 use zt_grouped::{GroupedKeys, Outboxes};
 use zt_keys::Key;
 use zt_ordered::OrderedRows;
 use zt_protocol::{Message, TreeTable};
 use zt_region::{Admission, Region, WhatAmI, Zid};
-use zt_rows::{AskRows, FaceRow, FaceRows, KeyIds};
+use zt_rows::{AskRows, Change, FaceRow, FaceRows, KeyIds, SpareAsk, SpareFace};
 
 /// The rows of a gateway. Contracts see them as the model's store, and apart from it the room for more.
 #[derive(Drop)]
@@ -41,6 +48,33 @@ pub struct Tables<K: Key> {
     pub(crate) routed: GroupedKeys<(Region, Zid), K>,
     pub(crate) trees: OrderedRows<Region, TreeTable>,
     pub(crate) outboxes: Outboxes<K>,
+    pub(crate) alloc: Global,
+    // Lists with room for the faces and the asks that a plan makes, the next one's first.
+    pub(crate) spare_faces: VecDeque<SpareFace<K>>,
+    pub(crate) spare_asks: VecDeque<SpareAsk<K>>,
+}
+
+// Whether rows of the router are live in a region that passes, and the changes leave its row of the expression.
+fn is_left<K: Key>(
+    group: &(Region, Zid),
+    own: Zid,
+    changes: &[Change<K>],
+    expr: &K,
+    test: RegionTest,
+) -> bool
+    ensures { result ≡ (is_other_router own (passes test) group.now && routed_kept K.cmp K.matching (map plain_change changes.now) (row_at K.cmp K.matching group.now.0 group.now.1 expr.now)) }
+{
+    if is_other_router(group, own, test) {
+        routed_stays(changes, group.0, group.1, expr)
+    } else {
+        false
+    }
+}
+
+fn is_other_router(group: &(Region, Zid), own: Zid, test: RegionTest) -> bool
+    ensures { result ≡ is_other_router own (passes test) group.now }
+{
+    test.passes(group.0) && group.1 != own
 }
 
 impl<K: Key> Model for Tables<K> {
@@ -95,6 +129,9 @@ impl<K: Key> Tables<K> {
             routed: GroupedKeys::new(alloc),
             trees: OrderedRows::new(alloc),
             outboxes: Outboxes::new(alloc),
+            alloc,
+            spare_faces: VecDeque::new(alloc),
+            spare_asks: VecDeque::new(alloc),
         }
     }
 
@@ -118,7 +155,7 @@ impl<K: Key> Tables<K> {
         }
     }
 
-    /// The least number of an open face above `after`.
+    /// The least number of an open face above `after`. A search by halves.
     pub fn next_face(&self, after: u32) -> Option<u32>
         ensures { result ≡ next_face_after after self.now.store.rows.faces }
     {
@@ -232,6 +269,24 @@ impl<K: Key> Tables<K> {
             .any_group(expr, |group| test(&group.0) && group.1 != own)
     }
 
+    // The same of rows that the changes leave, where the regions are those of a plain test.
+    pub(crate) fn any_routed_left(&self, changes: &[Change<K>], expr: &K, test: RegionTest) -> bool
+        ensures { result ≡ list_any (λ row. is_live_row K.cmp self.now.store.rows.zid expr.now (passes test) row && routed_kept K.cmp K.matching (map plain_change changes.now) row) self.now.store.rows.routed }
+    {
+        let own = self.zid;
+        self.routed
+            .any_group(expr, |group| is_left(group, own, changes, expr, test))
+    }
+
+    // How many tokens of the expression faces of regions that pass declare. A scan of the faces.
+    pub(crate) fn count_declared(&self, expr: &K, test: RegionTest) -> u128
+        ensures count { result ≡ declared K.cmp expr.now (passes test) self.now.store.rows.faces }
+        ensures most { result ≤ 340282366920938463426481119284349108225 }
+    {
+        self.faces
+            .count_declared(expr, &|source: &Region| test.passes(*source))
+    }
+
     // The ask of a number, with what belongs to it.
     pub(crate) fn ask_rows(&self, n: u64) -> Option<&AskRows<K>>
         ensures ask { option_map (λ a. a.ask) (option_copied result) ≡ ask_at n self.now.store }
@@ -278,12 +333,5 @@ impl<K: Key> Tables<K> {
         ensures { result ≡ self.now.store.rows.made }
     {
         self.faces.made()
-    }
-
-    // A fact alone: the numbers of the open faces rise.
-    pub(crate) fn faces_rise(&self)
-        ensures { IsTrue (is_rising (numbers_of self.now.store.rows.faces)) }
-    {
-        self.faces.rising();
     }
 }

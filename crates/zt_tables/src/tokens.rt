@@ -4,32 +4,13 @@ ghost use Rattle.std.specs.List.{list_any};
 ghost use Rattle.zt_region.specs.Region.{region_eq};
 ghost use Rattle.zt_model.specs.Lists.{is_some_and, same};
 ghost use Rattle.zt_model.specs.Parts.{find_face};
-ghost use Rattle.zt_model.specs.Strategy.{is_broker};
-ghost use Rattle.zt_model.specs.Visible.{is_visible, live_rows, shows};
+ghost use Rattle.zt_model.specs.Visible.{is_visible, live_rows};
 ghost use Rattle.zt_tables.specs.Live.{SaysLive};
 
 use crate::tables::Tables;
+use zt_changes::RegionTest;
 use zt_keys::Key;
-use zt_region::{Region, WhatAmI};
-
-fn is_broker(region: Region) -> bool
-    ensures { result ≡ is_broker region }
-{
-    matches!(
-        region,
-        Region::Local
-            | Region::South {
-                mode: WhatAmI::Client,
-                ..
-            }
-    )
-}
-
-fn is_shown(own: Region, source: Region) -> bool
-    ensures { result ≡ shows own source }
-{
-    is_broker(own) || source != own
-}
+use zt_region::Region;
 
 impl<K: Key> Tables<K> {
     // Whether a live row of the expression stands in a region that passes the test. A scan.
@@ -52,7 +33,10 @@ impl<K: Key> Tables<K> {
         ensures { result ≡ is_some_and (find_face f self.now.store.rows) (λ face. is_visible K.cmp self.now.store.rows face.region expr.now) }
     {
         match self.face(f) {
-            Some(row) => self.any_live(expr, |source| is_shown(row.region, *source)),
+            Some(row) => {
+                let test = RegionTest::ShownTo(row.region);
+                self.any_live(expr, |source| test.passes(*source))
+            }
             None => false,
         }
     }

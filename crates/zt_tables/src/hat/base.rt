@@ -1,12 +1,13 @@
 // What a strategy is, and how its faces open and close.
-ghost use Rattle.std.specs.Prelude.{◌≡◌, [], ℕ, List, None};
+ghost use Rattle.std.specs.Prelude.{◌≡◌, [], None};
 ghost use Rattle.zt_region.specs.declared.region.Region.{Region};
-ghost use Rattle.zt_model.specs.Acts.{Act, Store, acted_all};
+ghost use Rattle.zt_model.specs.Acts.{acted_all};
 ghost use Rattle.zt_model.specs.Parts.{find_face};
 ghost use Rattle.zt_model.specs.Strategy.{BrokerHat, Strategy};
 ghost use Rattle.zt_changes.specs.Queries.{list_of_face};
 ghost use Rattle.zt_tables.specs.HatAnswers.{Plans, is_owned, mode_of, named_source};
 ghost use Rattle.zt_tables.specs.HatConditions.{IdsSuffice, IsReady, Owns};
+ghost use Rattle.zt_tables.specs.HatInterestActs.{close_face_acts, new_transport_unicast_face_acts};
 
 use crate::plan::Plan;
 use crate::tables::Tables;
@@ -17,24 +18,18 @@ use zt_region::{NodeId, Region, WhatAmI, Zid};
 /// What a strategy is, which faces are its own, and what it plans when one opens or closes: zenoh's `HatBaseTrait`.
 ///
 /// A strategy keeps no rows: it reads the tables, and what it would change it adds to a plan. A call that takes a plan
-/// reads the rows as the changes so far would leave them. It adds exactly the changes that a ghost member gives, by the
-/// strategy, the rows that it reads and its arguments, and all changes still fit. Want of memory is the only error, and
-/// leaves the plan as it was. The dispatcher asks a strategy only where the gateway runs it, with a plan whose changes
-/// fit, and where the ids that the call draws are left; a face that a call names is open and, but where the call says
-/// otherwise, of the strategy's region. It has found before that no refusal holds.
+/// reads the rows as the changes so far would leave them. It adds exactly the changes that the definition of its name
+/// gives (`specs/HatTokenActs.antt`, `specs/HatInterestActs.antt`) by which of the four strategies it is, its region, the rows
+/// that it reads and its arguments, and all changes still fit. So two strategies that meet the traits plan the same. Want
+/// of memory is the only error, and leaves the plan as it was. The dispatcher asks a strategy only where the gateway
+/// runs it, with a plan whose changes fit, and where the ids that the call draws are left; a face that a call names is
+/// open and, but where the call says otherwise, of the strategy's region. It has found before that no refusal holds.
 pub trait HatBaseTrait<K: Key> {
     /// Which of the four strategies it is.
     ghost hat: { Self → Strategy };
 
     /// The region that it serves.
     ghost region: { Self → Region };
-
-    /// What greets a face that opens, by the face: the interests of the south, the visible tokens and the final of a
-    /// mutual peer's initial interest.
-    ghost new_transport_unicast_face_acts: { Self → Store K → ℕ → List (Act K) };
-
-    /// What takes away a face that closes, by the face.
-    ghost close_face_acts: { Self → Store K → ℕ → List (Act K) };
 
     /// The region that the strategy serves.
     fn region(&self, tables: &Tables<K>) -> Region
@@ -61,7 +56,8 @@ pub trait HatBaseTrait<K: Key> {
         requires broker { hat self.now ≡ BrokerHat }
         ensures { plan.new ≡ plan.old };
 
-    /// A face of another node opens: the plan opens it, and it is told nothing yet.
+    /// A face of another node opens: the plan opens it, and it is told nothing yet. What greets it are the interests of the
+    /// south, the tokens that it sees, and the final of a mutual peer's initial interest, where its region asks for them.
     fn new_transport_unicast_face(
         &self,
         alloc: Global,
@@ -73,10 +69,10 @@ pub trait HatBaseTrait<K: Key> {
         requires owned { Owns (region self.now) face (acted_all K.cmp K.matching plan.old tables.now.store) }
         requires opened { find_face face tables.now.store.rows ≡ None }
         requires untold { list_of_face (λ f. f.told) (find_face face (acted_all K.cmp K.matching plan.old tables.now.store).rows) ≡ [] }
-        requires ids { IdsSuffice K.cmp K.matching plan.old (λ s. new_transport_unicast_face_acts self.now s face) tables.now.store }
-        ensures { Plans K.cmp K.matching result plan.old plan.new (λ s. new_transport_unicast_face_acts self.now s face) tables.now.store };
+        requires ids { IdsSuffice K.cmp K.matching plan.old (λ s. new_transport_unicast_face_acts K.cmp K.matching (hat self.now) (region self.now) s face) tables.now.store }
+        ensures { Plans K.cmp K.matching result plan.old plan.new (λ s. new_transport_unicast_face_acts K.cmp K.matching (hat self.now) (region self.now) s face) tables.now.store };
 
-    /// A face closes.
+    /// A face closes, and goes with its rows and what waits for it.
     fn close_face(
         &self,
         alloc: Global,
@@ -86,7 +82,7 @@ pub trait HatBaseTrait<K: Key> {
     ) -> Result<(), Memory>
         requires ready { IsReady K.cmp K.matching (hat self.now) (region self.now) plan.old tables.now.store }
         requires owned { Owns (region self.now) face (acted_all K.cmp K.matching plan.old tables.now.store) }
-        ensures { Plans K.cmp K.matching result plan.old plan.new (λ s. close_face_acts self.now s face) tables.now.store };
+        ensures { Plans K.cmp K.matching result plan.old plan.new (λ s. close_face_acts K.cmp K.matching (hat self.now) (region self.now) s face) tables.now.store };
 
     /// The router that the face means by the node id; `None` exactly where the strategy isn't that of routers, or the
     /// id isn't in the face's link table or stands there for the gateway itself.

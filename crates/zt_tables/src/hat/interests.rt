@@ -1,12 +1,12 @@
 // What a strategy has a part in when interests come, are answered and go.
-ghost use Rattle.std.specs.Prelude.{◌≡◌, ◌≢◌, ℕ, List, IfOk, map, option_map};
+ghost use Rattle.std.specs.Prelude.{◌≡◌, ◌≢◌, IfOk, map, option_map};
 ghost use Rattle.zt_region.specs.declared.region.Region.TheVariants.{North};
-ghost use Rattle.zt_model.specs.Acts.{Act, Store, acted_all};
-ghost use Rattle.zt_model.specs.Rows.{InterestRow};
+ghost use Rattle.zt_model.specs.Acts.{acted_all};
 ghost use Rattle.zt_model.specs.Strategy.{ClientHat};
 ghost use Rattle.zt_rows.specs.Plain.{plain_interest};
 ghost use Rattle.zt_tables.specs.HatAnswers.{Plans, declare_result, held_in, interest_ended, route_result};
 ghost use Rattle.zt_tables.specs.HatConditions.{IsNotAsked, IsHeld, IsNotHeld, IdsSuffice, IsAskedIn, IsOpen, IsReady, Owns};
+ghost use Rattle.zt_tables.specs.HatInterestActs.{propagate_current_token_acts, register_interest_acts, route_declare_final_acts, route_interest_acts, route_interest_final_acts, send_current_queryables_acts, send_current_subscribers_acts, send_current_tokens_acts, send_declare_final_acts, unregister_interest_acts};
 
 use crate::hat::base::HatBaseTrait;
 use crate::plan::Plan;
@@ -21,45 +21,10 @@ use zt_rows::{RemoteInterest, RouteCurrentDeclareResult, RouteInterestResult};
 /// The strategy of North sends interests on and finds what its answers belong to. The strategy of the face that asks
 /// answers it, and holds what stays.
 pub trait HatInterestTrait<K: Key>: HatBaseTrait<K> {
-    /// What sends an interest on, by the face that asks, its id there and the interest: the ask, if what is there now
-    /// is asked for, and for each target the message with its pending and its local.
-    ghost route_interest_acts: { Self → Store K → ℕ → ℕ → InterestRow K → List (Act K) };
-
-    /// What ends the locals of an interest that no face of the south holds any more.
-    ghost route_interest_final_acts: { Self → Store K → InterestRow K → List (Act K) };
-
-    /// What a final takes away, by the face that it comes from and its interest id: the pending, and that the initial
-    /// interest isn't finalised.
-    ghost route_declare_final_acts: { Self → Store K → ℕ → ℕ → List (Act K) };
-
-    /// What an answer changes where it comes from, by the face and the interest id, before it is handed to the ask.
-    ghost route_current_token_acts: { Self → Store K → ℕ → ℕ → List (Act K) };
-
-    /// The subscribers that an interest is answered, by the face, its id there and the interest.
-    ghost send_current_subscribers_acts: { Self → Store K → ℕ → ℕ → InterestRow K → List (Act K) };
-
-    /// The queryables that an interest is answered, by the face, its id there and the interest.
-    ghost send_current_queryables_acts: { Self → Store K → ℕ → ℕ → InterestRow K → List (Act K) };
-
-    /// The tokens that an interest is answered, by the face, its id there and the interest.
-    ghost send_current_tokens_acts: { Self → Store K → ℕ → ℕ → InterestRow K → List (Act K) };
-
-    /// What an ask is answered later, by its number and the expression.
-    ghost propagate_current_token_acts: { Self → Store K → ℕ → K → List (Act K) };
-
-    /// The final of an ask, by its face and its id there, with which the ask ends.
-    ghost send_declare_final_acts: { Self → Store K → ℕ → ℕ → List (Act K) };
-
-    /// What holds an interest, by the face, its id there and the interest.
-    ghost register_interest_acts: { Self → Store K → ℕ → ℕ → InterestRow K → List (Act K) };
-
-    /// What ends a held interest, by the face and its id there: the row goes, the face is told that what it doesn't
-    /// want now is gone, and an ask that came with the interest gets its final.
-    ghost unregister_interest_acts: { Self → Store K → ℕ → ℕ → List (Act K) };
-
-    /// The face's interest is sent on to its targets, under ids that are drawn there; the face is of any region. Answers
-    /// whether its final is due: it is where what is there now is asked for and no pending was planned. Asked of the
-    /// strategy of North.
+    /// The face's interest is sent on to its targets, under ids that are drawn there; the face is of any region. It is an ask
+    /// where it asks for what is there now, and the pendings of its targets name it; where it asks for what comes later, each
+    /// target has a local. Answers whether its final is due: it is where what is there now is asked for and no pending was
+    /// planned. Asked of the strategy of North.
     fn route_interest(
         &self,
         alloc: Global,
@@ -73,11 +38,12 @@ pub trait HatInterestTrait<K: Key>: HatBaseTrait<K> {
         requires north { Self.region self.now ≡ North }
         requires opened { IsOpen face (acted_all K.cmp K.matching plan.old tables.now.store) }
         requires not_asked { IsNotAsked interest.now.mode face id (acted_all K.cmp K.matching plan.old tables.now.store) }
-        requires ids { IdsSuffice K.cmp K.matching plan.old (λ s. route_interest_acts self.now s face id (plain_interest interest.now)) tables.now.store }
-        ensures answer { IfOk result (λ answer. answer ≡ route_result (plain_interest interest.now) (route_interest_acts self.now (acted_all K.cmp K.matching plan.old tables.now.store) face id (plain_interest interest.now))) }
-        ensures plans { Plans K.cmp K.matching result plan.old plan.new (λ s. route_interest_acts self.now s face id (plain_interest interest.now)) tables.now.store };
+        requires ids { IdsSuffice K.cmp K.matching plan.old (λ s. route_interest_acts K.cmp K.matching (Self.hat self.now) (Self.region self.now) s face id (plain_interest interest.now)) tables.now.store }
+        ensures answer { IfOk result (λ answer. answer ≡ route_result (plain_interest interest.now) (route_interest_acts K.cmp K.matching (Self.hat self.now) (Self.region self.now) (acted_all K.cmp K.matching plan.old tables.now.store) face id (plain_interest interest.now))) }
+        ensures plans { Plans K.cmp K.matching result plan.old plan.new (λ s. route_interest_acts K.cmp K.matching (Self.hat self.now) (Self.region self.now) s face id (plain_interest interest.now)) tables.now.store };
 
-    /// The interest ends upstream, since no face of the south holds it any more. Asked of the strategy of North.
+    /// The interest ends upstream, since no face of the south holds it any more: each local of its expression and options
+    /// goes, whatever its mode. Asked of the strategy of North.
     fn route_interest_final(
         &self,
         alloc: Global,
@@ -87,9 +53,10 @@ pub trait HatInterestTrait<K: Key>: HatBaseTrait<K> {
     ) -> Result<(), Memory>
         requires ready { IsReady K.cmp K.matching (Self.hat self.now) (Self.region self.now) plan.old tables.now.store }
         requires north { Self.region self.now ≡ North }
-        ensures { Plans K.cmp K.matching result plan.old plan.new (λ s. route_interest_final_acts self.now s (plain_interest interest.now)) tables.now.store };
+        ensures { Plans K.cmp K.matching result plan.old plan.new (λ s. route_interest_final_acts K.cmp K.matching (Self.hat self.now) (Self.region self.now) s (plain_interest interest.now)) tables.now.store };
 
-    /// A final comes from the face. Answers as before the call: `Breadcrumb` with the ask that the face's pending of that
+    /// A final comes from the face: the pending of its id goes, if it is there, and a final 0 finalises the initial
+    /// interest. Answers as before the call: `Breadcrumb` with the ask that the face's pending of that
     /// id serves, where both stand; `NoBreadcrumb` where the id is that of another pending or of a local; else `Noop`.
     /// Asked of the strategy of North.
     fn route_declare_final(
@@ -104,10 +71,10 @@ pub trait HatInterestTrait<K: Key>: HatBaseTrait<K> {
         requires owned { Owns (Self.region self.now) face (acted_all K.cmp K.matching plan.old tables.now.store) }
         requires north { Self.region self.now ≡ North }
         ensures answer { IfOk result (λ answer. answer ≡ declare_result face interest_id (acted_all K.cmp K.matching plan.old tables.now.store)) }
-        ensures plans { Plans K.cmp K.matching result plan.old plan.new (λ s. route_declare_final_acts self.now s face interest_id) tables.now.store };
+        ensures plans { Plans K.cmp K.matching result plan.old plan.new (λ s. route_declare_final_acts K.cmp K.matching (Self.hat self.now) (Self.region self.now) s face interest_id) tables.now.store };
 
-    /// A token comes from the face in answer to an interest. Answers as `route_declare_final` does. Asked of the strategy
-    /// of North.
+    /// A token comes from the face in answer to an interest. Answers as `route_declare_final` does, and changes nothing.
+    /// Asked of the strategy of North.
     fn route_current_token(
         &self,
         alloc: Global,
@@ -120,9 +87,10 @@ pub trait HatInterestTrait<K: Key>: HatBaseTrait<K> {
         requires owned { Owns (Self.region self.now) face (acted_all K.cmp K.matching plan.old tables.now.store) }
         requires north { Self.region self.now ≡ North }
         ensures answer { IfOk result (λ answer. answer ≡ declare_result face interest_id (acted_all K.cmp K.matching plan.old tables.now.store)) }
-        ensures plans { Plans K.cmp K.matching result plan.old plan.new (λ s. route_current_token_acts self.now s face interest_id) tables.now.store };
+        ensures plan { plan.new ≡ plan.old };
 
-    /// Answers an interest the subscribers that are there now. Never asked of the client strategy.
+    /// Answers an interest in what is there now and later the subscribers that it asks for. A router's strategy answers none,
+    /// since no router asks. Never asked of the client strategy.
     fn send_current_subscribers(
         &self,
         alloc: Global,
@@ -135,9 +103,10 @@ pub trait HatInterestTrait<K: Key>: HatBaseTrait<K> {
         requires ready { IsReady K.cmp K.matching (Self.hat self.now) (Self.region self.now) plan.old tables.now.store }
         requires owned { Owns (Self.region self.now) face (acted_all K.cmp K.matching plan.old tables.now.store) }
         requires not_client { Self.hat self.now ≢ ClientHat }
-        ensures { Plans K.cmp K.matching result plan.old plan.new (λ s. send_current_subscribers_acts self.now s face id (plain_interest interest.now)) tables.now.store };
+        ensures { Plans K.cmp K.matching result plan.old plan.new (λ s. send_current_subscribers_acts K.cmp K.matching (Self.hat self.now) (Self.region self.now) s face id (plain_interest interest.now)) tables.now.store };
 
-    /// Answers an interest the queryables that are there now. Never asked of the client strategy.
+    /// Answers an interest in what is there now and later the queryables that it asks for. A router's strategy answers none.
+    /// Never asked of the client strategy.
     fn send_current_queryables(
         &self,
         alloc: Global,
@@ -150,9 +119,10 @@ pub trait HatInterestTrait<K: Key>: HatBaseTrait<K> {
         requires ready { IsReady K.cmp K.matching (Self.hat self.now) (Self.region self.now) plan.old tables.now.store }
         requires owned { Owns (Self.region self.now) face (acted_all K.cmp K.matching plan.old tables.now.store) }
         requires not_client { Self.hat self.now ≢ ClientHat }
-        ensures { Plans K.cmp K.matching result plan.old plan.new (λ s. send_current_queryables_acts self.now s face id (plain_interest interest.now)) tables.now.store };
+        ensures { Plans K.cmp K.matching result plan.old plan.new (λ s. send_current_queryables_acts K.cmp K.matching (Self.hat self.now) (Self.region self.now) s face id (plain_interest interest.now)) tables.now.store };
 
-    /// Answers an interest the tokens that are there now. Never asked of the client strategy.
+    /// Answers an interest the tokens that are there now, and notes them at its ask, if one stands. The face keeps them where
+    /// it asks for what comes later too. A router's strategy answers none. Never asked of the client strategy.
     fn send_current_tokens(
         &self,
         alloc: Global,
@@ -165,11 +135,11 @@ pub trait HatInterestTrait<K: Key>: HatBaseTrait<K> {
         requires ready { IsReady K.cmp K.matching (Self.hat self.now) (Self.region self.now) plan.old tables.now.store }
         requires owned { Owns (Self.region self.now) face (acted_all K.cmp K.matching plan.old tables.now.store) }
         requires not_client { Self.hat self.now ≢ ClientHat }
-        requires ids { IdsSuffice K.cmp K.matching plan.old (λ s. send_current_tokens_acts self.now s face id (plain_interest interest.now)) tables.now.store }
-        ensures { Plans K.cmp K.matching result plan.old plan.new (λ s. send_current_tokens_acts self.now s face id (plain_interest interest.now)) tables.now.store };
+        requires ids { IdsSuffice K.cmp K.matching plan.old (λ s. send_current_tokens_acts K.cmp K.matching (Self.hat self.now) (Self.region self.now) s face id (plain_interest interest.now)) tables.now.store }
+        ensures { Plans K.cmp K.matching result plan.old plan.new (λ s. send_current_tokens_acts K.cmp K.matching (Self.hat self.now) (Self.region self.now) s face id (plain_interest interest.now)) tables.now.store };
 
-    /// Hands an answer from upstream to an ask that stands, whose face is of the strategy's region. Never asked of the
-    /// client strategy.
+    /// Hands an answer from upstream to an ask that stands, whose face is of the strategy's region, where it asks for tokens
+    /// of the expression and wasn't answered it. Never asked of the client strategy.
     fn propagate_current_token(
         &self,
         alloc: Global,
@@ -181,10 +151,10 @@ pub trait HatInterestTrait<K: Key>: HatBaseTrait<K> {
         requires ready { IsReady K.cmp K.matching (Self.hat self.now) (Self.region self.now) plan.old tables.now.store }
         requires not_client { Self.hat self.now ≢ ClientHat }
         requires asked { IsAskedIn (Self.region self.now) ask (acted_all K.cmp K.matching plan.old tables.now.store) }
-        requires ids { IdsSuffice K.cmp K.matching plan.old (λ s. propagate_current_token_acts self.now s ask expr.now) tables.now.store }
-        ensures { Plans K.cmp K.matching result plan.old plan.new (λ s. propagate_current_token_acts self.now s ask expr.now) tables.now.store };
+        requires ids { IdsSuffice K.cmp K.matching plan.old (λ s. propagate_current_token_acts K.cmp K.matching (Self.hat self.now) (Self.region self.now) s ask expr.now) tables.now.store }
+        ensures { Plans K.cmp K.matching result plan.old plan.new (λ s. propagate_current_token_acts K.cmp K.matching (Self.hat self.now) (Self.region self.now) s ask expr.now) tables.now.store };
 
-    /// The ask of the face under the id gets its final, and ends.
+    /// The ask of the face under the id gets its final, and ends; where none stands nothing is planned.
     fn send_declare_final(
         &self,
         alloc: Global,
@@ -195,7 +165,7 @@ pub trait HatInterestTrait<K: Key>: HatBaseTrait<K> {
     ) -> Result<(), Memory>
         requires ready { IsReady K.cmp K.matching (Self.hat self.now) (Self.region self.now) plan.old tables.now.store }
         requires owned { Owns (Self.region self.now) face (acted_all K.cmp K.matching plan.old tables.now.store) }
-        ensures { Plans K.cmp K.matching result plan.old plan.new (λ s. send_declare_final_acts self.now s face id) tables.now.store };
+        ensures { Plans K.cmp K.matching result plan.old plan.new (λ s. send_declare_final_acts K.cmp K.matching (Self.hat self.now) (Self.region self.now) s face id) tables.now.store };
 
     /// The face holds the interest until its final. Never asked of the client strategy.
     fn register_interest(
@@ -211,9 +181,10 @@ pub trait HatInterestTrait<K: Key>: HatBaseTrait<K> {
         requires owned { Owns (Self.region self.now) face (acted_all K.cmp K.matching plan.old tables.now.store) }
         requires not_client { Self.hat self.now ≢ ClientHat }
         requires not_held { IsNotHeld face id (acted_all K.cmp K.matching plan.old tables.now.store) }
-        ensures { Plans K.cmp K.matching result plan.old plan.new (λ s. register_interest_acts self.now s face id (plain_interest interest.now)) tables.now.store };
+        ensures { Plans K.cmp K.matching result plan.old plan.new (λ s. register_interest_acts K.cmp K.matching (Self.hat self.now) (Self.region self.now) s face id (plain_interest interest.now)) tables.now.store };
 
-    /// The interest that the face holds under the id ends. Answers it exactly where no south-bound face holds its
+    /// The interest that the face holds under the id ends: a face of the south is told that what it doesn't want now is
+    /// gone, and an ask that came with the interest gets its final. Answers it exactly where no south-bound face holds its
     /// expression and options after that: then it is to end upstream.
     fn unregister_interest(
         &self,
@@ -230,7 +201,7 @@ pub trait HatInterestTrait<K: Key>: HatBaseTrait<K> {
             ≡ interest_ended K.cmp K.matching face id
             (acted_all K.cmp K.matching plan.old tables.now.store).rows
             (acted_all K.cmp K.matching plan.new tables.now.store).rows) }
-        ensures plans { Plans K.cmp K.matching result plan.old plan.new (λ s. unregister_interest_acts self.now s face id) tables.now.store };
+        ensures plans { Plans K.cmp K.matching result plan.old plan.new (λ s. unregister_interest_acts K.cmp K.matching (Self.hat self.now) (Self.region self.now) s face id) tables.now.store };
 
     /// What south-bound faces of the strategy's region hold: each pair of expression and kept options once, asked for
     /// now and later, ordered by expression, none first, and then by options. The only error is want of memory.

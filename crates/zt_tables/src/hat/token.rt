@@ -1,16 +1,16 @@
 // What a strategy has a part in when tokens come and go.
-ghost use Rattle.std.specs.Prelude.{◌≡◌, ◌&&◌, ℕ, List, Option, Some, None, IfOk, map};
+ghost use Rattle.std.specs.Prelude.{◌≡◌, ◌&&◌, Some, None, IfOk, map};
 ghost use Rattle.std.specs.List.{list_any};
 ghost use Rattle.std.specs.Option.{option_copied};
-ghost use Rattle.zt_region.specs.declared.region.Region.{Region};
 ghost use Rattle.zt_region.specs.Region.{region_eq};
 ghost use Rattle.zt_protocol.specs.Plain.{DeclareToken, UndeclareToken};
-ghost use Rattle.zt_model.specs.Acts.{Act, Store, acted_all};
+ghost use Rattle.zt_model.specs.Acts.{acted_all};
 ghost use Rattle.zt_model.specs.Lists.{same};
-ghost use Rattle.zt_model.specs.Sourced.{sourced};
+ghost use Rattle.zt_model.specs.Sourced.{sourced_by};
 ghost use Rattle.zt_model.specs.Visible.{live_rows};
 ghost use Rattle.zt_tables.specs.HatAnswers.{Plans, expression_undeclared, live_matching, plain_sourced};
-ghost use Rattle.zt_tables.specs.HatConditions.{IdsSuffice, IsAccepted, IsRun, IsReady, Owns};
+ghost use Rattle.zt_tables.specs.HatConditions.{IdsSuffice, IsAccepted, IsReady, Owns};
+ghost use Rattle.zt_tables.specs.HatTokenActs.{propagate_token_acts, register_token_acts, unpropagate_token_acts, unregister_token_acts};
 
 use crate::hat::base::HatBaseTrait;
 use crate::plan::Plan;
@@ -26,27 +26,13 @@ use zt_rows::Sources;
 /// The dispatcher has the strategy of the declaring face register or unregister the token, and then the strategy of
 /// each region tell its own faces.
 pub trait HatTokenTrait<K: Key>: HatBaseTrait<K> {
-    /// What a face's declaration adds, by the face, the id, the expression and the node id: a live row, or the row of
-    /// a router, which goes on along its tree.
-    ghost register_token_acts: { Self → Store K → ℕ → ℕ → K → ℕ → List (Act K) };
-
-    /// What a face's undeclaration takes away, by the face, the id, the given expression and the node id: the live row
-    /// of the id, or the row of a router, and then the tree hears of it.
-    ghost unregister_token_acts: { Self → Store K → ℕ → ℕ → Option K → ℕ → List (Act K) };
-
-    /// What the faces of the region are told of an expression that was registered in a region.
-    ghost propagate_token_acts: { Self → Store K → Region → K → List (Act K) };
-
-    /// What the faces of the region are told of an expression that is gone from a region.
-    ghost unpropagate_token_acts: { Self → Store K → Region → K → List (Act K) };
-
     /// Who declares each expression that is live in the region: keys in order, and zids ascending. The only error is
     /// want of memory.
     fn sourced_tokens(&self, alloc: Global, tables: &Tables<K>) -> Result<Vec<(K, Sources)>, Memory>
-        requires { IsRun (Self.hat self.now) (Self.region self.now) tables.now.store.rows }
-        ensures { IfOk result (λ v. map plain_sourced v.items ≡ sourced K.cmp tables.now.store.rows (Self.region self.now)) };
+        ensures { IfOk result (λ v. map plain_sourced v.items ≡ sourced_by K.cmp (Self.hat self.now) tables.now.store.rows (Self.region self.now)) };
 
-    /// The face declares the token, where no refusal holds.
+    /// The face declares the token, where no refusal holds: a live row, unless it is there. In a router region it is the row
+    /// of the router that the node id means, and the token goes on to the other faces of that router's tree.
     fn register_token(
         &self,
         alloc: Global,
@@ -60,10 +46,11 @@ pub trait HatTokenTrait<K: Key>: HatBaseTrait<K> {
         requires ready { IsReady K.cmp K.matching (Self.hat self.now) (Self.region self.now) plan.old tables.now.store }
         requires owned { Owns (Self.region self.now) face (acted_all K.cmp K.matching plan.old tables.now.store) }
         requires accepted { IsAccepted K.cmp K.matching (DeclareToken face id expr.now node_id None) (acted_all K.cmp K.matching plan.old tables.now.store) }
-        ensures { Plans K.cmp K.matching result plan.old plan.new (λ s. register_token_acts self.now s face id expr.now node_id) tables.now.store };
+        ensures { Plans K.cmp K.matching result plan.old plan.new (λ s. register_token_acts K.cmp K.matching (Self.hat self.now) (Self.region self.now) s face id expr.now node_id) tables.now.store };
 
-    /// The face undeclares a token, where no refusal holds. Answers the expression to forget: that of the id where it
-    /// is live on the face, else the given one.
+    /// The face undeclares a token, where no refusal holds: the live row of the id goes, if it is there. In a router region
+    /// it is the row of the router that the node id means, and the other faces of that router's tree hear of it.
+    /// Answers the expression to forget: that of the id where it is live on the face, else the given one.
     fn unregister_token(
         &self,
         alloc: Global,
@@ -77,10 +64,11 @@ pub trait HatTokenTrait<K: Key>: HatBaseTrait<K> {
         requires ready { IsReady K.cmp K.matching (Self.hat self.now) (Self.region self.now) plan.old tables.now.store }
         requires owned { Owns (Self.region self.now) face (acted_all K.cmp K.matching plan.old tables.now.store) }
         requires accepted { IsAccepted K.cmp K.matching (UndeclareToken face id (option_copied expr) node_id) (acted_all K.cmp K.matching plan.old tables.now.store) }
-        ensures answer { IfOk result (λ forgotten. Some forgotten ≡ expression_undeclared K.cmp K.matching face id (option_copied expr.entry) (acted_all K.cmp K.matching plan.old tables.now.store).rows) }
-        ensures plans { Plans K.cmp K.matching result plan.old plan.new (λ s. unregister_token_acts self.now s face id (option_copied expr.entry) node_id) tables.now.store };
+        ensures answer { IfOk result (λ forgotten. Some forgotten ≡ expression_undeclared K.cmp K.matching (Self.hat self.now) face id (option_copied expr.entry) (acted_all K.cmp K.matching plan.old tables.now.store).rows) }
+        ensures plans { Plans K.cmp K.matching result plan.old plan.new (λ s. unregister_token_acts K.cmp K.matching (Self.hat self.now) (Self.region self.now) s face id (option_copied expr.entry) node_id) tables.now.store };
 
-    /// Tells the faces of the strategy's region of the expression, which was registered in `source`.
+    /// Tells the faces of the strategy's region of the expression, which was registered in `source`. A router's strategy adds
+    /// the gateway's own row and tells the gateway's own tree.
     fn propagate_token(
         &self,
         alloc: Global,
@@ -90,11 +78,11 @@ pub trait HatTokenTrait<K: Key>: HatBaseTrait<K> {
         expr: &K,
     ) -> Result<(), Memory>
         requires ready { IsReady K.cmp K.matching (Self.hat self.now) (Self.region self.now) plan.old tables.now.store }
-        requires ids { IdsSuffice K.cmp K.matching plan.old (λ s. propagate_token_acts self.now s source expr.now) tables.now.store }
-        ensures { Plans K.cmp K.matching result plan.old plan.new (λ s. propagate_token_acts self.now s source expr.now) tables.now.store };
+        requires ids { IdsSuffice K.cmp K.matching plan.old (λ s. propagate_token_acts K.cmp K.matching (Self.hat self.now) (Self.region self.now) s source expr.now) tables.now.store }
+        ensures { Plans K.cmp K.matching result plan.old plan.new (λ s. propagate_token_acts K.cmp K.matching (Self.hat self.now) (Self.region self.now) s source expr.now) tables.now.store };
 
     /// Tells the faces of the strategy's region that the expression is gone from `source`, where it isn't visible to
-    /// them now.
+    /// them now. A router's strategy drops the gateway's own row, if it is there, and tells the gateway's own tree.
     fn unpropagate_token(
         &self,
         alloc: Global,
@@ -104,7 +92,7 @@ pub trait HatTokenTrait<K: Key>: HatBaseTrait<K> {
         expr: &K,
     ) -> Result<(), Memory>
         requires { IsReady K.cmp K.matching (Self.hat self.now) (Self.region self.now) plan.old tables.now.store }
-        ensures { Plans K.cmp K.matching result plan.old plan.new (λ s. unpropagate_token_acts self.now s source expr.now) tables.now.store };
+        ensures { Plans K.cmp K.matching result plan.old plan.new (λ s. unpropagate_token_acts K.cmp K.matching (Self.hat self.now) (Self.region self.now) s source expr.now) tables.now.store };
 
     /// Zenoh's broker takes its own declaration back from the last region that declares the expression. Here nothing is
     /// sent then, so the plan stays.

@@ -22,7 +22,7 @@ loop-number-preserved g c =
     let faces = c.args.tables.now.store.rows.faces in
     let next = sym (c.in-Some.ensures ∙ above-numbers g.K.Ord.cmp g.K.Key.matching c.loop-number.last faces) in
     let gone = ap (λ acts. stays_open acts c.in-Some.number) (sym c.changes.ensures) ∙ sym c.face_stays.ensures ∙ c.if-face_stays.false in
-    c.loop-number.invariant ∙ goes-next (stays_open c.args.self.now) c.loop-number.last c.in-Some.number (numbers_of faces) c.faces_rise.ensures next gone
+    c.loop-number.invariant ∙ goes-next (stays_open c.args.self.now) c.loop-number.last c.in-Some.number (numbers_of faces) c.faces_rise.ensures.rising next gone
 
 pub returns : goal.returns
 returns g c =

@@ -4,6 +4,7 @@ use Rattle.zt_model.specs.Parts.{with_face}
 use Rattle.zt_changes.specs.AskActs.{numbered-acted}
 use Rattle.zt_tables.specs.Fitting.{number-none}
 use Rattle.zt_tables.specs.View.{table_rows}
+use Rattle.zt_tables.specs.Serving.{served-same}
 use Rattle.zt_tables.proofs.tables.Tables.add_ask.Goals as goal
 
 pub add_ask-requires-clause-new : goal.add_ask-requires-clause-new
@@ -19,7 +20,8 @@ invariant_of-self g c =
     let ask = c.args.ask in
     let fit = subst (λ t. Fits g.K.Ord.cmp g.K.Key.matching (AddAsk ask.face ask.id ask.ask.interest) t.store) (sym c.self.view_is) c.requires.fits in
     let kept = numbered-acted g.K.Ord.cmp g.K.Key.matching (AddAsk ask.face ask.id ask.ask.interest) (table_rows c.self.inside).store c.self.invariant.asks_numbered fit in
-    record { counted = c.self.invariant.counted; dictionary = c.self.invariant.dictionary; asks_numbered = rw (c.add_ask.ensures.faces, c.requires.new) kept }
+    let serves = served-same g.K.Ord.cmp g.K.Key.matching (AddAsk ask.face ask.id ask.ask.interest) (table_rows c.self.inside).store c.self.invariant.asks_numbered fit c.self.inside.faces.served c.self.invariant.served (λ p o. refl) in
+    record { counted = c.self.invariant.counted; dictionary = c.self.invariant.dictionary; asks_numbered = rw (c.add_ask.ensures.faces, c.requires.new) kept; served = rw (c.add_ask.ensures.faces, c.requires.new) serves }
 
 pub returns-clause-store : goal.returns-clause-store
 unfolding acted with_face

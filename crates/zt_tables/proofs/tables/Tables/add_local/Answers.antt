@@ -8,6 +8,7 @@ use Rattle.zt_rows.specs.Plain.{interest_sent}
 use Rattle.zt_tables.specs.Fitting.{weaker-second}
 use Rattle.zt_changes.specs.AskActs.{numbered-acted}
 use Rattle.zt_tables.specs.View.{table_rows}
+use Rattle.zt_tables.specs.Serving.{served-same}
 use Rattle.zt_tables.proofs.tables.Tables.add_local.Goals as goal
 
 pub add_local-requires-clause-id : goal.add_local-requires-clause-id
@@ -21,7 +22,8 @@ unfolding acted with_face
 invariant_of-self g c =
     let fit = subst (λ t. Fits g.K.Ord.cmp g.K.Key.matching (AddLocal c.args.f c.args.row.id (interest_sent c.args.row)) t.store) (sym c.self.view_is) c.requires.fits in
     let kept = numbered-acted g.K.Ord.cmp g.K.Key.matching (AddLocal c.args.f c.args.row.id (interest_sent c.args.row)) (table_rows c.self.inside).store c.self.invariant.asks_numbered fit in
-    record { counted = c.self.invariant.counted; dictionary = c.self.invariant.dictionary; asks_numbered = rw c.add_local.ensures.faces kept }
+    let serves = served-same g.K.Ord.cmp g.K.Key.matching (AddLocal c.args.f c.args.row.id (interest_sent c.args.row)) (table_rows c.self.inside).store c.self.invariant.asks_numbered fit c.self.inside.faces.served c.self.invariant.served (λ p o. refl) in
+    record { counted = c.self.invariant.counted; dictionary = c.self.invariant.dictionary; asks_numbered = rw c.add_local.ensures.faces kept; served = rw c.add_local.ensures.faces serves }
 
 pub returns-clause-store : goal.returns-clause-store
 unfolding acted with_face

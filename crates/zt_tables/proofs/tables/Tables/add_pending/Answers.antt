@@ -7,6 +7,8 @@ use Rattle.zt_rows.specs.Plain.{plain_pending}
 use Rattle.zt_changes.specs.AskActs.{numbered-acted}
 use Rattle.zt_tables.specs.Fitting.{place-named, weaker-second}
 use Rattle.zt_tables.specs.View.{table_rows}
+use Rattle.zt_faces.specs.Served.{served_at-put, served_put}
+use Rattle.zt_tables.specs.Serving.{served-acted}
 use Rattle.zt_tables.proofs.tables.Tables.add_pending.Goals as goal
 
 pub add_pending-requires-clause-id : goal.add_pending-requires-clause-id
@@ -22,7 +24,8 @@ invariant_of-self g c =
     let row = c.args.row in
     let fit = subst (λ t. Fits g.K.Ord.cmp g.K.Key.matching (AddPending c.args.f row.id row.ask (plain_pending row)) t.store) (sym c.self.view_is) c.requires.fits in
     let kept = numbered-acted g.K.Ord.cmp g.K.Key.matching (AddPending c.args.f row.id row.ask (plain_pending row)) (table_rows c.self.inside).store c.self.invariant.asks_numbered fit in
-    record { counted = c.self.invariant.counted; dictionary = c.self.invariant.dictionary; asks_numbered = rw (c.add_pending.ensures.faces, place-named row.ask (table_rows c.self.inside).store) kept }
+    let serves = served-acted g.K.Ord.cmp g.K.Key.matching (AddPending c.args.f row.id row.ask (plain_pending row)) (table_rows c.self.inside).store c.self.invariant.asks_numbered fit c.self.inside.faces.served c.self.invariant.served (served_put c.args.f row.id row.ask c.self.inside.faces.served) (λ p. served_at-put p c.args.f c.self.inside.faces.served row.id row.ask) in
+    record { counted = c.self.invariant.counted; dictionary = c.self.invariant.dictionary; asks_numbered = rw (c.add_pending.ensures.faces, place-named row.ask (table_rows c.self.inside).store) kept; served = rw (c.add_pending.ensures.faces, place-named row.ask (table_rows c.self.inside).store) serves }
 
 pub returns-clause-store : goal.returns-clause-store
 unfolding acted with_face

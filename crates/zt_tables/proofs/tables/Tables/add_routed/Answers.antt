@@ -3,7 +3,8 @@ use Rattle.zt_grouped.specs.GroupRoom.{room_of}
 use Rattle.zt_model.specs.Acts.{acted}
 use Rattle.zt_model.specs.Trees.{with_routed}
 use Rattle.zt_tables.specs.Room.{faces-same}
-use Rattle.zt_tables.specs.RoutedOrder.{group_order, routed-added}
+use Rattle.zt_tables.specs.RoutedOrder.{routed-added}
+use Rattle.zt_needs.specs.Need.{group_order}
 use Rattle.zt_tables.proofs.tables.Tables.add_routed.Goals as goal
 
 pub add-requires-clause-room : goal.add-requires-clause-room
@@ -14,4 +15,4 @@ unfolding acted with_routed
 returns-clause-store g c = rw (← c.self.view_is, c.add.ensures.pairs, routed-added g.K.Ord.cmp g.K.Key.matching c.args.region c.args.source c.args.expr c.self.inside.routed.pairs) refl
 
 pub returns-clause-rooms : goal.returns-clause-rooms
-returns-clause-rooms g c = rw (← c.self.view_is) (record { faces = faces-same c.self.inside.faces.rooms; dictionary = omega arith; trees = omega arith; routed = λ group. c.add.ensures.rooms.at group; outboxes = λ n. omega arith })
+returns-clause-rooms g c = rw (← c.self.view_is) (record { faces = faces-same c.self.inside.faces.rooms; dictionary = omega arith; trees = omega arith; routed = λ group. c.add.ensures.rooms.at group; outboxes = λ n. omega arith; spare_faces = refl; spare_asks = refl })

@@ -4,6 +4,8 @@ use Rattle.zt_model.specs.Lists.{at_id}
 use Rattle.zt_changes.specs.AskActs.{numbered-acted}
 use Rattle.zt_tables.specs.Fitting.{ask-stands, dropped-store}
 use Rattle.zt_tables.specs.View.{table_rows}
+use Rattle.std.proofs.Common.{refl}
+use Rattle.zt_tables.specs.Serving.{served-same}
 use Rattle.zt_tables.proofs.tables.Tables.drop_ask.Goals as goal
 
 pub drop_ask-requires : goal.drop_ask-requires
@@ -14,7 +16,8 @@ pub invariant_of-self : goal.invariant_of-self
 invariant_of-self g c =
     let fit = subst (λ t. Fits g.K.Ord.cmp g.K.Key.matching (DropAsk c.args.n) t.store) (sym c.self.view_is) c.requires in
     let kept = numbered-acted g.K.Ord.cmp g.K.Key.matching (DropAsk c.args.n) (table_rows c.self.inside).store c.self.invariant.asks_numbered fit in
-    record { counted = c.self.invariant.counted; dictionary = c.self.invariant.dictionary; asks_numbered = rw (c.drop_ask.ensures.faces, dropped-store g.K.Ord.cmp g.K.Key.matching c.args.n (table_rows c.self.inside).store) kept }
+    let serves = served-same g.K.Ord.cmp g.K.Key.matching (DropAsk c.args.n) (table_rows c.self.inside).store c.self.invariant.asks_numbered fit c.self.inside.faces.served c.self.invariant.served (λ p o. refl) in
+    record { counted = c.self.invariant.counted; dictionary = c.self.invariant.dictionary; asks_numbered = rw (c.drop_ask.ensures.faces, dropped-store g.K.Ord.cmp g.K.Key.matching c.args.n (table_rows c.self.inside).store) kept; served = rw (c.drop_ask.ensures.faces, dropped-store g.K.Ord.cmp g.K.Key.matching c.args.n (table_rows c.self.inside).store) serves }
 
 pub returns-clause-store : goal.returns-clause-store
 returns-clause-store g c = rw (← c.self.view_is, c.drop_ask.ensures.faces) (dropped-store g.K.Ord.cmp g.K.Key.matching c.args.n (table_rows c.self.inside).store)

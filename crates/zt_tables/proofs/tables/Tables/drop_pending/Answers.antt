@@ -5,6 +5,8 @@ use Rattle.zt_model.specs.Acts.{DropPending}
 use Rattle.zt_tables.specs.Fitting.{has-face}
 use Rattle.zt_changes.specs.AskActs.{numbered-acted}
 use Rattle.zt_tables.specs.View.{table_rows}
+use Rattle.zt_faces.specs.Served.{served_at-dropped, served_dropped}
+use Rattle.zt_tables.specs.Serving.{served-acted}
 use Rattle.zt_tables.proofs.tables.Tables.drop_pending.Goals as goal
 
 pub drop_pending-requires : goal.drop_pending-requires
@@ -16,7 +18,8 @@ unfolding acted with_face
 invariant_of-self g c =
     let fit = subst (λ t. Fits g.K.Ord.cmp g.K.Key.matching (DropPending c.args.f c.args.id) t.store) (sym c.self.view_is) c.requires in
     let kept = numbered-acted g.K.Ord.cmp g.K.Key.matching (DropPending c.args.f c.args.id) (table_rows c.self.inside).store c.self.invariant.asks_numbered fit in
-    record { counted = c.self.invariant.counted; dictionary = c.self.invariant.dictionary; asks_numbered = rw c.drop_pending.ensures.faces kept }
+    let serves = served-acted g.K.Ord.cmp g.K.Key.matching (DropPending c.args.f c.args.id) (table_rows c.self.inside).store c.self.invariant.asks_numbered fit c.self.inside.faces.served c.self.invariant.served (served_dropped c.args.f c.args.id c.self.inside.faces.served) (λ p. served_at-dropped p c.args.f c.self.inside.faces.served c.args.id) in
+    record { counted = c.self.invariant.counted; dictionary = c.self.invariant.dictionary; asks_numbered = rw c.drop_pending.ensures.faces kept; served = rw c.drop_pending.ensures.faces serves }
 
 pub returns-clause-store : goal.returns-clause-store
 unfolding acted with_face

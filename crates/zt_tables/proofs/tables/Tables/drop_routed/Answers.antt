@@ -3,7 +3,8 @@ use Rattle.zt_model.specs.Acts.{acted}
 use Rattle.zt_model.specs.Trees.{without_routed}
 use Rattle.std.specs.Ordering.{is_eq}
 use Rattle.zt_tables.specs.Room.{faces-same, no-more}
-use Rattle.zt_tables.specs.RoutedOrder.{group_order, routed-dropped}
+use Rattle.zt_tables.specs.RoutedOrder.{routed-dropped}
+use Rattle.zt_needs.specs.Need.{group_order}
 use Rattle.zt_tables.proofs.tables.Tables.drop_routed.Goals as goal
 
 pub returns-clause-store : goal.returns-clause-store
@@ -18,4 +19,6 @@ returns-clause-rooms g c =
       trees = omega arith;
       routed = λ group. no-more (is_eq (group_order group (c.args.region, c.args.source))) _ _ (c.remove.ensures.rooms.at group);
       outboxes = λ n. omega arith;
+      spare_faces = refl;
+      spare_asks = refl;
     })

@@ -6,6 +6,8 @@ use Rattle.zt_model.specs.Lists.{is_among}
 use Rattle.zt_rows.specs.AskView.{keys_by_id, none-among}
 use Rattle.zt_rows.specs.KeyIds.{IsBelow}
 use Rattle.zt_tables.specs.Dictionary.{IsCounted, counted-below, counted-more, keys-length, keys-more, length-more, numbered-new}
+use Rattle.zt_tables.specs.Serving.{served-too}
+use Rattle.zt_tables.specs.View.{table_rows}
 use Rattle.zt_tables.proofs.tables.Tables.number.Goals as goal
 
 pub add-requires-clause-new : goal.add-requires-clause-new
@@ -28,10 +30,12 @@ invariant_of-self g c =
     let is : 1 + length rows ≡ c.len.result + 1 = omega (arith, c.len.ensures.len) in
     let most = leb-true (length (keys_by_id rows) + 1) 65535 (and_second _ _ fit) in
     let ok = c.self.invariant.asks_numbered in
+    let s = (table_rows c.self.inside).store in
     rw c.add.ensures.rows (record {
       counted = subst (λ n. IsCounted 1 (rows ++ (n, c.args.expr) ∷ [])) is (counted-more 1 c.args.expr rows c.self.invariant.counted);
       dictionary = omega (arith, most, keys-length rows, length-more (c.len.result + 1, c.args.expr) rows);
       asks_numbered = record { in_order = ok.in_order; below = ok.below; stand = ok.stand; apart = ok.apart };
+      served = served-too s (record s { rows = record s.rows { dictionary = keys_by_id (rows ++ (c.len.result + 1, c.args.expr) ∷ []) } }) refl refl refl c.self.inside.faces.served c.self.invariant.served;
     })
 
 pub returns-clause-store : goal.returns-clause-store

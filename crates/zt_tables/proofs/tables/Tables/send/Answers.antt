@@ -6,6 +6,7 @@ use Rattle.std.proofs.Common.{refl}
 use Rattle.zt_model.specs.Acts.{acted}
 use Rattle.zt_changes.specs.AskActs.{numbered-acted}
 use Rattle.zt_tables.specs.View.{table_rows}
+use Rattle.zt_tables.specs.Serving.{served-same}
 use Rattle.zt_tables.proofs.tables.Tables.send.Goals as goal
 
 pub invariant_of-self : goal.invariant_of-self
@@ -13,7 +14,8 @@ unfolding acted with_face
 invariant_of-self g c =
     let fit = subst (λ t. Fits g.K.Ord.cmp g.K.Key.matching (Send c.args.f c.args.message) t.store) (sym c.self.view_is) c.requires.fits in
     let kept = numbered-acted g.K.Ord.cmp g.K.Key.matching (Send c.args.f c.args.message) (table_rows c.self.inside).store c.self.invariant.asks_numbered fit in
-    record { counted = c.self.invariant.counted; dictionary = c.self.invariant.dictionary; asks_numbered = rw c.push.ensures.queues kept }
+    let serves = served-same g.K.Ord.cmp g.K.Key.matching (Send c.args.f c.args.message) (table_rows c.self.inside).store c.self.invariant.asks_numbered fit c.self.inside.faces.served c.self.invariant.served (λ p o. refl) in
+    record { counted = c.self.invariant.counted; dictionary = c.self.invariant.dictionary; asks_numbered = rw c.push.ensures.queues kept; served = rw c.push.ensures.queues serves }
 
 pub returns-clause-store : goal.returns-clause-store
 unfolding acted

@@ -4,6 +4,7 @@ use Rattle.zt_model.specs.Parts.{with_face}
 use Rattle.zt_model.specs.Acts.{Tell}
 use Rattle.zt_changes.specs.AskActs.{numbered-acted}
 use Rattle.zt_tables.specs.View.{table_rows}
+use Rattle.zt_tables.specs.Serving.{served-same}
 use Rattle.zt_tables.proofs.tables.Tables.tell.Goals as goal
 
 pub tell-requires-clause-drawn : goal.tell-requires-clause-drawn
@@ -15,7 +16,8 @@ unfolding acted with_face
 invariant_of-self g c =
     let fit = subst (λ t. Fits g.K.Ord.cmp g.K.Key.matching (Tell c.args.f c.args.id c.args.expr) t.store) (sym c.self.view_is) c.requires.fits in
     let kept = numbered-acted g.K.Ord.cmp g.K.Key.matching (Tell c.args.f c.args.id c.args.expr) (table_rows c.self.inside).store c.self.invariant.asks_numbered fit in
-    record { counted = c.self.invariant.counted; dictionary = c.self.invariant.dictionary; asks_numbered = rw c.tell.ensures.faces kept }
+    let serves = served-same g.K.Ord.cmp g.K.Key.matching (Tell c.args.f c.args.id c.args.expr) (table_rows c.self.inside).store c.self.invariant.asks_numbered fit c.self.inside.faces.served c.self.invariant.served (λ p o. refl) in
+    record { counted = c.self.invariant.counted; dictionary = c.self.invariant.dictionary; asks_numbered = rw c.tell.ensures.faces kept; served = rw c.tell.ensures.faces serves }
 
 pub returns-clause-store : goal.returns-clause-store
 unfolding acted with_face

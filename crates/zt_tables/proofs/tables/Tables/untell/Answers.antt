@@ -5,6 +5,7 @@ use Rattle.zt_model.specs.Acts.{Untell}
 use Rattle.zt_tables.specs.Fitting.{has-face}
 use Rattle.zt_changes.specs.AskActs.{numbered-acted}
 use Rattle.zt_tables.specs.View.{table_rows}
+use Rattle.zt_tables.specs.Serving.{served-same}
 use Rattle.zt_tables.proofs.tables.Tables.untell.Goals as goal
 
 pub untell-requires : goal.untell-requires
@@ -16,7 +17,8 @@ unfolding acted with_face
 invariant_of-self g c =
     let fit = subst (λ t. Fits g.K.Ord.cmp g.K.Key.matching (Untell c.args.f c.args.expr.now) t.store) (sym c.self.view_is) c.requires in
     let kept = numbered-acted g.K.Ord.cmp g.K.Key.matching (Untell c.args.f c.args.expr.now) (table_rows c.self.inside).store c.self.invariant.asks_numbered fit in
-    record { counted = c.self.invariant.counted; dictionary = c.self.invariant.dictionary; asks_numbered = rw c.untell.ensures.faces kept }
+    let serves = served-same g.K.Ord.cmp g.K.Key.matching (Untell c.args.f c.args.expr.now) (table_rows c.self.inside).store c.self.invariant.asks_numbered fit c.self.inside.faces.served c.self.invariant.served (λ p o. refl) in
+    record { counted = c.self.invariant.counted; dictionary = c.self.invariant.dictionary; asks_numbered = rw c.untell.ensures.faces kept; served = rw c.untell.ensures.faces serves }
 
 pub returns-clause-store : goal.returns-clause-store
 unfolding acted with_face

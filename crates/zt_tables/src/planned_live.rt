@@ -1,0 +1,83 @@
+// Which tokens are live after a plan, and which a face may know of.
+ghost use Rattle.std.specs.Prelude.{◌≡◌, ◌&&◌, ◌||◌, map};
+ghost use Rattle.std.specs.List.{list_any};
+ghost use Rattle.zt_region.specs.Region.{region_eq};
+ghost use Rattle.zt_model.specs.Acts.{Fit, acted_all};
+ghost use Rattle.zt_model.specs.Lists.{is_some_and, same};
+ghost use Rattle.zt_model.specs.Parts.{find_face};
+ghost use Rattle.zt_model.specs.Visible.{is_visible, live_rows, routed_rows};
+ghost use Rattle.zt_changes.specs.RegionTests.{passes};
+ghost use Rattle.zt_changes.specs.Weights.{declared};
+ghost use Rattle.zt_faces.specs.Declaring.{any_in};
+
+use crate::plan::Plan;
+use crate::planned_tokens::{declared_counted, in_order_at};
+use crate::tables::Tables;
+use zt_changes::{RegionTest, adds_any_token, routed_added};
+use zt_keys::Key;
+use zt_region::Region;
+
+impl<K: Key> Plan<K> {
+    // How many tokens of the expression faces of regions that pass declare. One step for each change, and where one takes
+    // such a token, one for each change before it.
+    fn count_declared(&self, tables: &Tables<K>, expr: &K, test: RegionTest) -> u128
+        ensures { Fit K.cmp K.matching self.now tables.now.store
+            → result ≡ declared K.cmp expr.now (passes test) (acted_all K.cmp K.matching self.now tables.now.store).rows.faces }
+    {
+        tables.faces_rise();
+        let changes = self.changes();
+        let adds = adds_any_token(changes, expr);
+        let mut count = tables.count_declared(expr, test);
+        for i in 0..changes.len() {
+            let before = &changes[..i];
+            let change = &changes[i];
+            in_order_at(tables, before, change);
+            count = declared_counted(tables, before, change, expr, test, adds, count);
+        }
+        count
+    }
+
+    // Whether a row of the expression of another router stands in a region that passes.
+    fn any_routed(&self, tables: &Tables<K>, expr: &K, test: RegionTest) -> bool
+        ensures { Fit K.cmp K.matching self.now tables.now.store
+            → result ≡ any_in K.cmp expr.now (passes test) (routed_rows (acted_all K.cmp K.matching self.now tables.now.store).rows) }
+    {
+        let changes = self.changes();
+        if routed_added(changes, tables.zid(), expr, test) {
+            true
+        } else {
+            tables.any_routed_left(changes, expr, test)
+        }
+    }
+
+    // Whether a live row of the expression stands in a region that passes.
+    fn any_live(&self, tables: &Tables<K>, expr: &K, test: RegionTest) -> bool
+        ensures { Fit K.cmp K.matching self.now tables.now.store
+            → result ≡ any_in K.cmp expr.now (passes test) (live_rows (acted_all K.cmp K.matching self.now tables.now.store).rows) }
+    {
+        if self.count_declared(tables, expr, test) > 0 {
+            true
+        } else {
+            self.any_routed(tables, expr, test)
+        }
+    }
+
+    /// Whether a live row of the expression stands in the region.
+    pub fn region_has(&self, tables: &Tables<K>, region: Region, expr: &K) -> bool
+        ensures { Fit K.cmp K.matching self.now tables.now.store
+            → result ≡ list_any (λ row. same K.cmp expr.now row.1 && region_eq row.0 region) (live_rows (acted_all K.cmp K.matching self.now tables.now.store).rows) }
+    {
+        self.any_live(tables, expr, RegionTest::Is(region))
+    }
+
+    /// Whether the expression is visible to the face.
+    pub fn visible(&self, tables: &Tables<K>, f: u32, expr: &K) -> bool
+        ensures { Fit K.cmp K.matching self.now tables.now.store
+            → result ≡ is_some_and (find_face f (acted_all K.cmp K.matching self.now tables.now.store).rows) (λ face. is_visible K.cmp (acted_all K.cmp K.matching self.now tables.now.store).rows face.region expr.now) }
+    {
+        match self.face(tables, f) {
+            Some(row) => self.any_live(tables, expr, RegionTest::ShownTo(row.region)),
+            None => false,
+        }
+    }
+}
