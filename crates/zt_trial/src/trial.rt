@@ -1,0 +1,128 @@
+// The work that is measured.
+ghost use Rattle.std.specs.Prelude.{◌<◌};
+
+use crate::fitting::{declare, open, withdraw};
+use std::alloc::Global;
+use zt_keys::{Key, KeyError, KeyExpr, Memory};
+use zt_region::{Admission, WhatAmI, Zid};
+use zt_tables::Tables;
+
+/// How many faces, how many tokens, and how often they are declared and dropped.
+#[derive(Clone, Copy)]
+pub(crate) struct Task {
+    pub(crate) faces: u32,
+    pub(crate) tokens: u32,
+    pub(crate) rounds: u32,
+    ghost some: { 0 < faces },
+}
+
+/// How many tokens were declared and how many dropped, and beside them the sum of the ids told and of the lengths of
+/// the keys declared that were found between.
+#[derive(Clone, Copy)]
+pub(crate) struct Sums {
+    pub(crate) declared: u64,
+    pub(crate) answered: u64,
+    pub(crate) dropped: u64,
+}
+
+// A token as its face declares it.
+#[derive(Drop)]
+struct Token {
+    face: u32,
+    id: u32,
+    key: KeyExpr,
+}
+
+// The tokens, each on the next face.
+fn make_tokens(alloc: Global, task: Task) -> Result<Vec<Token>, KeyError> {
+    let mut tokens = Vec::new(alloc);
+    for id in 0..task.tokens {
+        let text = format!(in alloc; "t/{id}")?;
+        let key = KeyExpr::read(alloc, text.as_str())?;
+        let face = id % task.faces + 1;
+        tokens.push(Token { face, id, key })?;
+    }
+    Ok(tokens)
+}
+
+// Tables of a client gateway with sessions.
+fn open_faces(alloc: Global, faces: u32) -> Result<Tables<KeyExpr>, Memory> {
+    let admission = Admission {
+        refused: Vec::new(alloc),
+    };
+    let mut tables = Tables::new(
+        alloc,
+        Zid(1),
+        WhatAmI::Client,
+        Vec::new(alloc),
+        admission,
+        10000,
+    );
+    for _ in 0..faces {
+        open(alloc, &mut tables, 1)?;
+    }
+    Ok(tables)
+}
+
+fn declare_each(
+    alloc: Global,
+    tables: &mut Tables<KeyExpr>,
+    tokens: &[Token],
+) -> Result<u64, Memory> {
+    let mut declared = 0u64;
+    for token in tokens {
+        if declare(alloc, tables, token.face, token.id, &token.key)? {
+            declared = declared.wrapping_add(1);
+        }
+    }
+    Ok(declared)
+}
+
+fn ask_each(tables: &Tables<KeyExpr>, tokens: &[Token]) -> u64 {
+    let mut sum = 0u64;
+    for token in tokens {
+        if let Some(key) = tables.live(token.face, token.id) {
+            sum = sum.wrapping_add(key.text().len() as u64);
+        }
+        if let Some(id) = tables.told(token.face, &token.key) {
+            sum = sum.wrapping_add(u64::from(id));
+        }
+    }
+    sum
+}
+
+fn withdraw_each(
+    alloc: Global,
+    tables: &mut Tables<KeyExpr>,
+    tokens: &[Token],
+) -> Result<u64, Memory> {
+    let mut dropped = 0u64;
+    for token in tokens {
+        if withdraw(alloc, tables, token.face, token.id, &token.key)? {
+            dropped = dropped.wrapping_add(1);
+        }
+    }
+    Ok(dropped)
+}
+
+/// Carries the task out. The only error is want of memory.
+pub(crate) fn trial(alloc: Global, task: Task) -> Result<Sums, KeyError> {
+    let tokens = make_tokens(alloc, task)?;
+    let mut tables = open_faces(alloc, task.faces)?;
+    let mut sums = Sums {
+        declared: 0,
+        answered: 0,
+        dropped: 0,
+    };
+    for _ in 0..task.rounds {
+        let declared = declare_each(alloc, &mut tables, &tokens)?;
+        let answered = ask_each(&tables, &tokens);
+        let dropped = withdraw_each(alloc, &mut tables, &tokens)?;
+        sums = Sums {
+            declared: sums.declared.wrapping_add(declared),
+            answered: sums.answered.wrapping_add(answered),
+            dropped: sums.dropped.wrapping_add(dropped),
+        };
+    }
+    Ok(sums)
+}
