@@ -6,7 +6,12 @@
 //!     time ./tables many 10000 100000 10      # spread over 10,000 faces
 //!
 //! The last word is how many rounds of declaring, asking and dropping there are; the keys are made once, before them.
-//! Both programs print the same.
+//! Both programs print the same, and `zt_trial` is to take at most 1.5 times the processor time. Measured on a shared
+//! machine, milliseconds of user time with the making of the keys, the best of five for one round and of three for ten:
+//!
+//!                     one 100000    one 100000 10    many 10000 100000    many 10000 100000 10
+//!     HashMap                107              979                  147                    1398
+//!     zt_trial               131             1268                  189                    1697
 
 use std::collections::HashMap;
 use std::env;
