@@ -15,19 +15,21 @@ use Rattle.zt_model.specs.Rows.{Ask, ById, Face, InterestRow, Rows}
 use Rattle.zt_changes.specs.After.{at_id-put, at_id-without}
 use Rattle.zt_changes.specs.AskPlaces.{Some-same, at_id-filter, kept_where, sorted-filter, sorted-put}
 use Rattle.zt_changes.specs.AskRows.{answered_at, answered_once, dropped_at, new_ask, place-acted, place_step, relisted}
-use Rattle.zt_changes.specs.Asks.{ask_in}
+use Rattle.zt_changes.specs.Asks.{ask_in, number_of_ask}
 use Rattle.zt_changes.specs.AsksMade.{asks_in, made-acted}
 use Rattle.zt_changes.specs.Folds.{folded}
+use Rattle.zt_changes.specs.PlaceNumbers.{number-at, some-number}
 use Rattle.zt_changes.specs.Queries.{from_face}
 use Rattle.zt_ordered.specs.Test.{and_both, by_option, by_test, not_Some}
 
 -- Numbers of asks stand in order, none above how many asks were made; the ask of each stands at its place, and no
--- other at the same place.
+-- other at the same place; and each ask has a number.
 pub record AreAsksNumbered {K : Type 0} (s : Store K) : Type 0 where
   pub in_order : is_sorted nat_cmp s.numbers ≡ true
   pub below : (n : ℕ) (p : ℕ × ℕ) → at_id n s.numbers ≡ Some p → n ≤ s.asks_made
   pub stand : (n : ℕ) (p : ℕ × ℕ) → at_id n s.numbers ≡ Some p → IsSome (ask_in (Some p) s.rows)
   pub apart : (m n : ℕ) (p : ℕ × ℕ) → at_id m s.numbers ≡ Some p → at_id n s.numbers ≡ Some p → m ≡ n
+  pub every : (p : ℕ × ℕ) → IsSome (ask_in (Some p) s.rows) → IsSome (number_of_ask p s.numbers)
 
 -- an ask with its place
 abbrev pub Placed : Type 0 → Type 0
@@ -256,6 +258,62 @@ module _ {K : Type 0} (cmp : K → K → Ordering) (matching : K → K → Bool)
       let all = ap (λ o. placed_in o after.rows) (at-acted n act s ok) ∙ placed-same (at_id n s.numbers) s.rows after.rows (λ p at. place-acted cmp matching p act s fit) in
       λ i. (all i, made i)
 
+  -- ---- every ask keeps a number or gets one
+  dropped-was : (o : Option (ℕ × ℕ)) (p : ℕ × ℕ) (ask : Option (Ask K)) → IsSome (dropped_at cmp o p ask) → IsSome ask
+  dropped-was None p ask some = some
+  dropped-was (Some q) p ask some = by_test ((q.0 == p.0) && (p.1 == q.1)) (λ t. absurd (false≢true (rw t at some))) (λ t. rw t at some)
+
+  answered-was : (o : Option (ℕ × ℕ)) (p : ℕ × ℕ) (e : K) (ask : Option (Ask K)) → IsSome (answered_at cmp o p e ask) → IsSome ask
+  answered-was o p e (Some ask) some = refl
+  answered-was None p e None some = some
+  answered-was (Some q) p e None some = by_test ((q.0 == p.0) && (q.1 == p.1)) (λ t. rw t at some) (λ t. rw t at some)
+
+  mapped-was : {A B : Type 0} (f : A → B) (o : Option A) → IsSome (option_map f o) → IsSome o
+  mapped-was f None some = some
+  mapped-was f (Some x) some = refl
+
+  module _ (s : Store K) (ok : AreAsksNumbered s) (p : ℕ × ℕ) (Found : Type 0) where
+    -- from the number of an ask that stands
+    from-number : IsSome (ask_in (Some p) s.rows) → ((n : ℕ) → at_id n s.numbers ≡ Some p → Found) → Found
+    from-number some found =
+        by_option (number_of_ask p s.numbers)
+        (λ n is. found n (number-at p n s.numbers ok.in_order is))
+        (λ none. absurd (false≢true (subst IsSome none (ok.every p some))))
+
+    from-step : (act : Act K) → IsSome (place_step cmp s p act (ask_in (Some p) s.rows)) → ((n : ℕ) → at_step s.asks_made n act (at_id n s.numbers) ≡ Some p → Found) → Found
+    from-step (CloseFace f) some found =
+        by_test (f == p.0)
+        (λ t. absurd (false≢true (rw t at some)))
+        (λ t. from-number (rw t at some) (λ n at. found n (ap (kept_where (λ (q : ℕ × ℕ). not (f == q.0))) at ∙ ap (λ b. if not b then Some p else None) t)))
+    from-step (AddAsk f id interest) some found =
+        by_test ((f == p.0) && (p.1 == id))
+        (λ t.
+        let tied = and_parts (f == p.0) (p.1 == id) t in
+        let is : (f, id) ≡ p = λ i. (eqb-true f p.0 tied.0 i, sym (eqb-true p.1 id tied.1) i) in
+        let here : (s.asks_made + 1 == s.asks_made + 1) ≡ true = eq-eqb (s.asks_made + 1) (s.asks_made + 1) refl in
+        found (s.asks_made + 1) (rw here (ap (λ (x : ℕ × ℕ). Some x) is)))
+        (λ t. from-number (rw t at some) (λ n at.
+        let old : (n == s.asks_made + 1) ≡ false = by_test (n == s.asks_made + 1) (λ u. let e = eqb-true n (s.asks_made + 1) u in absurd (omega (arith, e, ok.below n p at))) (λ u. u) in
+        found n (rw old at)))
+    from-step (DropAsk m) some found =
+        from-number (dropped-was (at_id m s.numbers) p (ask_in (Some p) s.rows) some) (λ n at.
+        let stays : (n == m) ≡ false = by_test (n == m)
+        (λ t. absurd (false≢true (subst IsSome (dropped-place s ok n m p at cmp (ask_in (Some p) s.rows) ∙ ap (λ b. if b then None else ask_in (Some p) s.rows) t) some)))
+        (λ t. t) in
+        found n (rw stays at))
+    from-step (Answered m e) some found = from-number (answered-was (at_id m s.numbers) p e (ask_in (Some p) s.rows) some) found
+    from-step (AddPending f i target pending) some found = from-number (mapped-was (relisted (f, i) (is_at (place_of_ask s target) p.0 p.1)) (ask_in (Some p) s.rows) some) found
+    from-step _ some found = from-number some found
+
+  every-acted : (act : Act K) (s : Store K) → AreAsksNumbered s → Fits cmp matching act s → (p : ℕ × ℕ)
+      → IsSome (ask_in (Some p) (acted cmp matching act s).rows) → IsSome (number_of_ask p (acted cmp matching act s).numbers)
+  every-acted act s ok fit p some =
+      let after = acted cmp matching act s in
+      from-step s ok p (IsSome (number_of_ask p after.numbers)) act (subst IsSome (place-acted cmp matching p act s fit) some)
+      (λ n at. by_option (number_of_ask p after.numbers)
+      (λ m is. subst IsSome (sym is) refl)
+      (λ none. absurd (some-number p n after.numbers (at-acted n act s ok ∙ at) none)))
+
   -- ---- every act keeps the numbers right
   was-at : (made n : ℕ) (p : ℕ × ℕ) (act : Act K) (o : Option (ℕ × ℕ)) → asks_in act ≡ 0 → at_step made n act o ≡ Some p → o ≡ Some p
   was-at made n p (CloseFace f) o none h = (kept-was (λ q. not (f == q.0)) o p h).0
@@ -292,6 +350,7 @@ module _ {K : Type 0} (cmp : K → K → Ordering) (matching : K → K → Bool)
         below = λ n p at. let is = made-acted cmp matching act s in omega (arith, is, ok.below n p (was n p at));
         stand = λ n p at. subst IsSome (sym (place-acted cmp matching p act s fit)) (stand-acted act s ok n p none (sym (at-acted n act s ok) ∙ at) (was n p at));
         apart = λ m n p one other. ok.apart m n p (was m p one) (was n p other);
+        every = every-acted act s ok fit;
       }
 
   some-added : (b : Bool) (new : Ask K) (ask : Option (Ask K)) → (b ≡ false → IsSome ask) → IsSome (if b then Some new else ask)
@@ -318,6 +377,7 @@ module _ {K : Type 0} (cmp : K → K → Ordering) (matching : K → K → Bool)
             (λ t. by_test (n == s.asks_made + 1)
             (λ u. absurd (false≢true (sym (apart-added f id interest s ok fit m p (was m p one t)) ∙ here p (new n p other u))))
             (λ u. ok.apart m n p (was m p one t) (was n p other u)));
+        every = every-acted act s ok fit;
       }
 
   pub numbered-acted : (act : Act K) (s : Store K) → AreAsksNumbered s → Fits cmp matching act s → AreAsksNumbered (acted cmp matching act s)
@@ -334,19 +394,11 @@ module _ {K : Type 0} (cmp : K → K → Ordering) (matching : K → K → Bool)
   ask-after n [] s ok fit = refl
   ask-after n (act ∷ acts) s ok fit = ask-after n acts (acted cmp matching act s) (numbered-acted act s ok fit.0) fit.1 ∙ ap (folded (ask_step n) acts) (ask-acted n act s ok fit.0)
 
--- a store without asks
-pub numbered-none : {K : Type 0} (s : Store K) → s.numbers ≡ [] → AreAsksNumbered s
-numbered-none s none =
-    let never : (n : ℕ) (p : ℕ × ℕ) → at_id n s.numbers ≡ Some p → ⊥ = λ n p at. not_Some p (sym at ∙ ap (at_id n) none) in
-    record { in_order = ap (is_sorted nat_cmp) none; below = λ n p at. absurd (never n p at); stand = λ n p at. absurd (never n p at); apart = λ m n p one other. absurd (never m p one) }
-
--- a store with the same rows and asks
-pub numbered-same : {K : Type 0} (s t : Store K) → t.rows ≡ s.rows → t.numbers ≡ s.numbers → t.asks_made ≡ s.asks_made → AreAsksNumbered s → AreAsksNumbered t
-numbered-same s t rows numbers made ok =
-    let was : (n : ℕ) (p : ℕ × ℕ) → at_id n t.numbers ≡ Some p → at_id n s.numbers ≡ Some p = λ n p at. ap (at_id n) (sym numbers) ∙ at in
-    record {
-      in_order = ap (is_sorted nat_cmp) numbers ∙ ok.in_order;
-      below = λ n p at. omega (arith, made, ok.below n p (was n p at));
-      stand = λ n p at. subst (λ g. IsSome (ask_in (Some p) g)) (sym rows) (ok.stand n p (was n p at));
-      apart = λ m n p one other. ok.apart m n p (was m p one) (was n p other);
-    }
+-- a place has a number exactly where an ask stands there
+pub numbered-there : {K : Type 0} (p : ℕ × ℕ) (s : Store K) → AreAsksNumbered s → is_some (number_of_ask p s.numbers) ≡ is_some (ask_in (Some p) s.rows)
+numbered-there p s ok =
+    by_option (number_of_ask p s.numbers)
+    (λ n is. ap is_some is ∙ sym (ok.stand n p (number-at p n s.numbers ok.in_order is)))
+    (λ none. by_option (ask_in (Some p) s.rows)
+    (λ ask there. absurd (false≢true (subst IsSome none (ok.every p (subst IsSome (sym there) refl)))))
+    (λ gone. ap is_some none ∙ sym (ap is_some gone)))

@@ -29,6 +29,7 @@ pub mod RoutedActs
 pub mod NumberActs
 pub mod AsksMade
 pub mod AskPlaces
+pub mod PlaceNumbers
 pub mod AskRows
 pub mod AskActs
 pub mod AskQueries

@@ -143,6 +143,28 @@ module _ {K : Type 0} (cmp : K → K → Ordering) (e : K) (test : Region → Bo
     declared-next (CloseFace n) s fit h ordered = all-where (is_tested test (find_face n s.rows)) _ _ _ (declared-acted (CloseFace n) s fit h ordered)
     declared-next act s fit h ordered = same-count _ _ (declared-acted act s fit h ordered)
 
+    -- an act that neither adds nor takes tokens
+    abbrev pub is_silent : Act K → Bool
+    is_silent (AddLive n id k) = false
+    is_silent (DropLive n id) = false
+    is_silent (CloseFace n) = false
+    is_silent _ = true
+
+    silent-touched : (act : Act K) (s : Store K) → is_silent act ≡ true → declared cmp e test (touched_all (touch cmp matching act s) s.rows.faces) ≡ declared cmp e test s.rows.faces
+    silent-touched (OpenFace zid whatami region bound first) s silent =
+        let new = face_opened zid whatami region bound first s.rows in
+        let nothing : tokens_at cmp e test new ≡ 0 = by_test (test region) (λ t. rw t refl) (λ t. rw t refl) in
+        let more = sum_by_push (tokens_at cmp e test) s.rows.faces new in
+        omega (arith, more, nothing)
+    silent-touched (CloseFace n) s silent = cc
+    silent-touched (AddLive n id k) s silent = cc
+    silent-touched (DropLive n id) s silent = cc
+    silent-touched (AddPending n id ask pending) s silent = tokens-kept (touch cmp matching (AddPending n id ask pending) s) (λ i x. (refl, refl)) s.rows.faces
+    silent-touched act s silent = tokens-kept (touch cmp matching act s) (λ i x. refl) s.rows.faces
+
+    pub declared-silent : (act : Act K) (s : Store K) → is_silent act ≡ true → declared cmp e test (acted cmp matching act s).rows.faces ≡ declared cmp e test s.rows.faces
+    declared-silent act s silent = ap (declared cmp e test) (faces-acted cmp matching act s) ∙ silent-touched act s silent
+
 -- ---- one act more of a list
 pub record IsNext {K : Type 0} (cmp : K → K → Ordering) (matching : K → K → Bool) (before : List (Act K)) (act : Act K) (more : List (Act K)) (s : Store K) : Type 0 where
   pub fit : Fit cmp matching before s

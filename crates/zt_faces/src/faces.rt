@@ -8,7 +8,6 @@ ghost use Rattle.std.specs.Option.{option_copied};
 ghost use Rattle.std.specs.Ordering.{nat_cmp};
 ghost use Rattle.zt_changes.specs.Opened.{is_rising, numbers_of};
 ghost use Rattle.zt_changes.specs.Queries.{next_face_after};
-ghost use Rattle.zt_faces.specs.Declaring.{CountsDeclared, SaysDeclared};
 ghost use Rattle.zt_faces.specs.Numbered.{faces_in};
 ghost use Rattle.zt_faces.specs.Rooms.{KeepsRooms, OpensRoom, one_face};
 ghost use Rattle.zt_faces.specs.Words.{face_at, has_face};
@@ -18,7 +17,6 @@ use std::alloc::{AllocError, Global};
 use std::marker::Model;
 use zt_keys::Key;
 use zt_ordered::OrderedRows;
-use zt_region::Region;
 use zt_rows::FaceRows;
 
 /// The open faces by number, and the place of each of their asks by its number. Contracts see the faces as the model's,
@@ -96,31 +94,6 @@ impl<K: Key> Faces<K> {
         ensures { (f : ℕ) → has_face f self.now.faces ≡ true → f ≤ self.now.made }
     {
         let _made = self.made;
-    }
-
-    /// Whether a face of a region that passes the test declares the expression. A scan of the faces.
-    pub fn any_declared<F: Fn(&Region) -> bool>(&self, expr: &K, test: &F) -> bool
-        requires { F.IsAlwaysCallable test.now }
-        ensures { SaysDeclared (F.post test.now) K.cmp expr.now self.now.faces result }
-    {
-        self.rows
-            .any(|_, face| test(&face.row().region) && face.declares(expr))
-    }
-
-    /// How many tokens of the expression faces of regions that pass the test declare. A scan of the faces.
-    pub fn count_declared<F: Fn(&Region) -> bool>(&self, expr: &K, test: &F) -> u128
-        requires { F.IsAlwaysCallable test.now }
-        ensures count { CountsDeclared (F.post test.now) K.cmp expr.now self.now.faces result }
-        ensures most { result ≤ 340282366920938463426481119284349108225 }
-    {
-        let _len = self.rows.len();
-        self.rows.sum(|_, face| {
-            if test(&face.row().region) {
-                face.count_declared(expr)
-            } else {
-                0
-            }
-        })
     }
 
     /// The rows of the open faces with their numbers, in order. The only error is want of memory.

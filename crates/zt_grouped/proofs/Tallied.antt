@@ -12,8 +12,10 @@ use Rattle.zt_ordered.specs.Sorting.{find-without}
 use Rattle.zt_ordered.specs.Table.{Table}
 use Rattle.zt_ordered.specs.Test.{by_test, is_eq-Equal}
 use Rattle.zt_rows.specs.ById.{map-find, map-put, map_rows}
-use Rattle.zt_grouped.specs.Counted.{any_counted, counted, counts_at, CountsAlike, CountsOneMore}
+use Rattle.zt_grouped.specs.Counted.{any_counted, counted, counts_at, CountsAlike, CountsOneMore, sum_counted}
 use Rattle.zt_ordered.specs.Any.{any_row}
+use Rattle.zt_ordered.specs.Sum.{sum_row}
+use Rattle.std.proofs.lemmas.List.Sums.{sum_by-cons}
 
 abbrev pub counts_of : {G K : Type 0} → List (G × Table K ℕ) → List (G × List (K × ℕ))
 counts_of groups = map_rows (λ t. t.rows) groups
@@ -108,3 +110,12 @@ module _ {G K : Type 0} (by : G → G → Ordering) (g : G) (groups : List (G ×
 pub any-counted : {G K : Type 0} (cmp : K → K → Ordering) (key : K) (test : G → Bool) (groups : List (G × Table K ℕ)) → any_row (λ g t. test g && not (count_at cmp key t.rows == 0)) groups ≡ any_counted cmp key test (counts_of groups)
 any-counted cmp key test [] = refl
 any-counted cmp key test (row ∷ rows) = ap (λ b. (test row.0 && not (count_at cmp key row.1.rows == 0)) || b) (any-counted cmp key test rows)
+
+-- how many rows stand under a key in the groups that pass a test
+module _ {G K : Type 0} (cmp : K → K → Ordering) (key : K) (test : G → Bool) where
+  pub sum-counted : (groups : List (G × Table K ℕ)) → sum_row (λ g t. if test g then count_at cmp key t.rows else 0) groups ≡ sum_counted cmp key test (counts_of groups)
+  sum-counted [] = refl
+  sum-counted (row ∷ rows) =
+      sum_by-cons (λ (r : G × Table K ℕ). if test r.0 then count_at cmp key r.1.rows else 0) row rows
+      ∙ ap (λ n. (if test row.0 then count_at cmp key row.1.rows else 0) + n) (sum-counted rows)
+      ∙ sym (sum_by-cons (λ (r : G × List (K × ℕ)). if test r.0 then count_at cmp key r.1 else 0) (row.0, row.1.rows) (counts_of rows))

@@ -5,10 +5,12 @@
 --     CountsAlike by cmp old new                       as many rows stand under each key of each group
 --     any_counted cmp key test counts                  in some group that passes the test, a row stands under the key
 --     SaysCounted answers cmp key counts result        the result says so, for each test that the answers give
+--     sum_counted cmp key test counts                  how many rows stand under the key in the groups that pass the test
+--     SumsCounted answers cmp key counts result        the result is that, for each test that the answers give
 use Rattle.std.specs.Prelude.{◌≡◌, ℕ, ◌+◌, Bool, ◌&&◌, ◌==◌, not, if◌then◌else◌, List, [], unwrap_or}
 use Rattle.std.specs.declared.cmp.Ordering.{Ordering}
 use Rattle.std.specs.Borrow.{Bor}
-use Rattle.std.specs.List.{list_any}
+use Rattle.std.specs.List.{list_any, sum_by}
 use Rattle.std.specs.FinMap.Entries.{find}
 use Rattle.zt_ordered.specs.Counts.{count_at}
 use Rattle.zt_ordered.specs.Rows.{same}
@@ -30,3 +32,9 @@ any_counted cmp key test counts = list_any (λ row. test row.0 && not (count_at 
 
 pub record SaysCounted {G K : Type 0} (answers : Bor G → Bool → Type 0) (cmp : K → K → Ordering) (key : K) (counts : List (G × List (K × ℕ))) (result : Bool) : Type 0 where
   pub at : (test : G → Bool) → ((g : Bor G) (answer : Bool) → answers g answer → answer ≡ test g.now) → result ≡ any_counted cmp key test counts
+
+abbrev pub sum_counted : {G K : Type 0} → (K → K → Ordering) → K → (G → Bool) → List (G × List (K × ℕ)) → ℕ
+sum_counted cmp key test counts = sum_by (λ row. if test row.0 then count_at cmp key row.1 else 0) counts
+
+pub record SumsCounted {G K : Type 0} (answers : Bor G → Bool → Type 0) (cmp : K → K → Ordering) (key : K) (counts : List (G × List (K × ℕ))) (result : ℕ) : Type 0 where
+  pub at : (test : G → Bool) → ((g : Bor G) (answer : Bool) → answers g answer → answer ≡ test g.now) → result ≡ sum_counted cmp key test counts

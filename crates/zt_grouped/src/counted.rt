@@ -1,7 +1,7 @@
 ghost use Rattle.std.specs.Prelude.{◌≡◌, ◌<◌, ◌≤◌, [], IfOk, IsTrue, OnOk, map};
 ghost use Rattle.std.specs.FinMap.Entries.{is_sorted};
 ghost use Rattle.std.specs.Map.{keys_of};
-ghost use Rattle.zt_grouped.specs.Counted.{counted, counts_at, CountsAlike, CountsOneMore, SaysCounted};
+ghost use Rattle.zt_grouped.specs.Counted.{counted, counts_at, CountsAlike, CountsOneMore, SaysCounted, SumsCounted};
 ghost use Rattle.zt_grouped.specs.GroupRoom.{room_of, KeepsRooms};
 ghost use Rattle.zt_grouped.specs.Tally.{AreCounted};
 
@@ -81,6 +81,16 @@ impl<G: Ord + Eq + Hash, K: Ord + Eq + Hash> GroupedCounts<G, K> {
     {
         self.groups
             .any(|group, tally| test(group) && tally.count(key) != 0)
+    }
+
+    /// How many rows stand under the key in the groups that pass the test. A scan of the groups.
+    pub fn sum_groups<F: Fn(&G) -> bool>(&self, key: &K, test: F) -> u128
+        requires { F.IsAlwaysCallable test }
+        ensures sum { SumsCounted (F.post test) K.cmp key.now self.now.counts result }
+        ensures most { result ≤ 340282366920938463426481119284349108225 }
+    {
+        let _len = self.groups.len();
+        self.groups.sum(|group, tally| { if test(group) { tally.count(key) } else { 0 } })
     }
 }
 

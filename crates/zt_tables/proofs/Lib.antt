@@ -5,6 +5,11 @@ mod Gathering
 mod NextRows
 pub mod MakeRoom
 pub mod RoomAfter
+mod PlanTokens
+mod TokenRooms
 pub mod Reserving
+pub mod KeptActs
+mod LiveEdits
 pub mod Counting
+mod CountGroups
 pub mod LiveAfter

@@ -1,24 +1,22 @@
 -- The room that one change needs is there.
-use Rattle.std.specs.Prelude.{◌≡◌, ℕ, Bool, true, false, ◌+◌, ◌==◌, ◌≤◌, ◌<◌, ◌&&◌, ◌||◌, not, nat_le, if◌then◌else◌, List, [], ◌∷◌, length, Option, Some, None, is_none, is_some, refl}
+use Rattle.std.specs.Prelude.{◌≡◌, ℕ, Bool, true, false, ◌+◌, ◌==◌, ◌<◌, ◌&&◌, not, nat_le, if◌then◌else◌, [], ◌∷◌, length, Option, Some, None, is_some, refl}
 use Rattle.std.specs.Option.{IfSome, IsSome}
 use Rattle.std.specs.Ordering.{is_eq, nat_cmp}
 use Rattle.std.specs.declared.cmp.Ordering.{Ordering}
-use Rattle.std.proofs.Common.{ap, sym, ◌∙◌, arith}
+use Rattle.std.proofs.Common.{arith}
 use Rattle.std.proofs.lemmas.Bool.{eq-eqb}
 use Rattle.std.proofs.lemmas.Bool.Decides.{nat_tests}
-use Rattle.std.specs.Cmp.{tied_itself}
 use Rattle.zt_region.specs.declared.region.Region.{Region}
 use Rattle.zt_region.specs.declared.region.Zid.{Zid}
 use Rattle.zt_protocol.specs.Plain.{Trees}
 use Rattle.zt_protocol.specs.declared.messages.Message.{Message}
 use Rattle.zt_ordered.specs.Test.{and_first, and_second}
 use Rattle.zt_grouped.specs.GroupRoom.{room_of}
-use Rattle.zt_model.specs.Acts.{Act, AddAsk, AddHeld, AddLive, AddLocal, AddPending, AddRouted, Answered, Fits, Number, OpenFace, Send, SetTree, Store, Tell, fits, is_ask, is_face_where, is_open}
+use Rattle.zt_model.specs.Acts.{Act, AddAsk, AddHeld, AddLive, AddLocal, AddPending, AddRouted, Answered, Fits, Number, Send, SetTree, Store, Tell, fits, is_open}
 use Rattle.zt_model.specs.Lists.{at_id, is_some_and}
 use Rattle.zt_model.specs.Parts.{find_face}
 use Rattle.zt_model.specs.Rows.{Face, InterestRow, Pending}
 use Rattle.zt_faces.specs.Rooms.{AskedRows, HeldRows, Kind, LiveRows, LocalRows, PendingRows, ToldRows, answer_room, face_room, listing_room}
-use Rattle.zt_faces.specs.Sent.{listing_of}
 use Rattle.zt_needs.specs.Need.{group_order, need_of}
 use Rattle.zt_tables.specs.HasRoom.{HasRoom, is_gone}
 use Rattle.zt_tables.specs.Value.{Rooms}

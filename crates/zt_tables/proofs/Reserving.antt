@@ -1,8 +1,10 @@
 -- Room that is made for what changes take together is room for the changes.
-use Rattle.std.specs.Prelude.{◌≡◌, ℕ, ◌+◌, ◌≤◌, ◌<◌, List, [], ◌∷◌, ◌++◌, length, Option, Some, None, refl}
+use Rattle.std.specs.Prelude.{◌≡◌, ℕ, true, ◌+◌, ◌≤◌, ◌<◌, List, [], ◌∷◌, ◌++◌, length, Option, Some, None, refl}
 use Rattle.std.specs.Option.{IsSome}
-use Rattle.std.specs.Ordering.{nat_cmp}
 use Rattle.std.proofs.Common.{arith, subst}
+use Rattle.zt_region.specs.declared.region.Region.{Region}
+use Rattle.zt_grouped.specs.GroupRoom.{room_of}
+use Rattle.zt_model.specs.Strategy.{is_region_of}
 use Rattle.zt_model.specs.Acts.{Act, Store}
 use Rattle.zt_model.specs.Lists.{at_id}
 use Rattle.zt_changes.specs.AskActs.{AreAsksNumbered}
@@ -19,7 +21,9 @@ use Rattle.zt_needs.specs.Need.{of_faces}
 use Rattle.zt_needs.specs.declared.needs.PlanNeeds.{PlanNeeds}
 use Rattle.zt_tables.specs.HasRoom.{HasRoom, SuitAsks, SuitFaces}
 use Rattle.zt_tables.specs.Reserved.{HasFacesRoom, HasOtherRoom, SuitAsksFrom, SuitEachAsk, SuitEachFace, SuitFacesFrom}
+use Rattle.zt_tables.specs.RegionOrder.{region_cmp}
 use Rattle.zt_tables.specs.Room.{KeepsTables}
+use Rattle.zt_tables.specs.Tokens.{total_tokens}
 use Rattle.zt_tables.specs.Value.{Rooms}
 
 -- ---- one list more
@@ -59,9 +63,10 @@ module _ {K : Type 0} (needs : PlanNeeds) (acts : List (Act K)) (counts : Counts
     suit-asks (number + 1) spares h.1,
   )
 
-  pub has-room : (s : Store K) (first second : Rooms) (faces : List FaceRoom) (asks : List AskRoom) → AreAsksNumbered s → s.asks_made + needs.numbers < 4611686018427387904 → HasFacesRoom needs s first → KeepsTables (of_faces nothing) first second
+  pub has-room : (s : Store K) (given first second : Rooms) (faces : List FaceRoom) (asks : List AskRoom) → AreAsksNumbered s → s.asks_made + needs.numbers < 4611686018427387904
+      → ((region : Region) → is_region_of s.rows.regions region ≡ true → total_tokens acts ≤ room_of region_cmp region given.tokens) → KeepsTables (of_faces nothing) given first → HasFacesRoom needs s first → KeepsTables (of_faces nothing) first second
       → HasOtherRoom needs second → SuitEachFace needs (s.rows.made + 1) needs.faces faces → SuitEachAsk needs (s.asks_made + 1) needs.numbers asks → HasRoom acts s (record second { spare_faces = faces; spare_asks = asks })
-  has-room s first second faces asks numbered last at_faces kept others faces_suit asks_suit = record {
+  has-room s given first second faces asks numbered last enough_tokens first_kept at_faces kept others faces_suit asks_suit = record {
     faces = let enough = at_faces.faces in let is = counts.faces in let less = kept.faces.faces in omega (arith, enough, is, less);
     face_spares = let enough = faces_suit.count in let is = counts.faces in omega (arith, enough, is);
     faces_suit = suit-faces (s.rows.made + 1) faces faces_suit.suit;
@@ -75,5 +80,6 @@ module _ {K : Type 0} (needs : PlanNeeds) (acts : List (Act K)) (counts : Counts
     dictionary = let enough = others.dictionary in let is = counts.dictionary in omega (arith, enough, is);
     trees = let enough = others.trees in let is = counts.trees in omega (arith, enough, is);
     routed = λ group. let enough = others.routed group in let is = counts.routed group in omega (arith, enough, is);
+    tokens = λ region listed. let enough = enough_tokens region listed in let less = first_kept.tokens region in let then_less = kept.tokens region in omega (arith, enough, less, then_less);
     outboxes = λ n there. let enough = others.outboxes n in let is = counts.outboxes n in omega (arith, enough, is);
   }

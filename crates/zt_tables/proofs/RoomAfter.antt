@@ -3,12 +3,12 @@
 --     after-plain    after a change that opens and closes nothing
 --     after-close, after-open, after-drop, after-ask    after the others
 --     plain-leaves-room and others    the same, of any changes behind it
-use Rattle.std.specs.Prelude.{◌≡◌, ℕ, Bool, true, false, ◌+◌, ◌==◌, ◌≤◌, ◌<◌, ◌&&◌, not, nat_le, if◌then◌else◌, List, [], ◌∷◌, length, Option, Some, None, is_some, option_map, refl, unwrap_or}
+use Rattle.std.specs.Prelude.{◌≡◌, ℕ, Bool, true, false, ◌+◌, ◌==◌, ◌≤◌, ◌&&◌, not, nat_le, if◌then◌else◌, List, [], ◌∷◌, length, Option, Some, None, is_some, option_map, refl, unwrap_or}
 use Rattle.std.specs.Option.{IsSome}
 use Rattle.std.specs.Ordering.{is_eq, nat_cmp}
 use Rattle.std.specs.declared.cmp.Ordering.{Ordering}
 use Rattle.std.proofs.Common.{ap, sym, ◌∙◌, subst, arith}
-use Rattle.std.proofs.lemmas.Bool.{eq-eqb, eqb-true, false≢true}
+use Rattle.std.proofs.lemmas.Bool.{eqb-true, false≢true}
 use Rattle.std.proofs.lemmas.Bool.Decides.{nat_tests}
 use Rattle.zt_region.specs.declared.region.Bound.{Bound}
 use Rattle.zt_region.specs.declared.region.Region.{Region}
@@ -20,15 +20,18 @@ use Rattle.zt_model.specs.Acts.{Act, AddAsk, CloseFace, DropAsk, OpenFace, Store
 use Rattle.zt_model.specs.Lists.{at_id, first_of, is_some_and, rest_of}
 use Rattle.zt_model.specs.Parts.{find_face}
 use Rattle.zt_model.specs.Rows.{Face, InterestRow}
+use Rattle.zt_model.specs.Strategy.{is_region_of}
 use Rattle.zt_changes.specs.AskActs.{AreAsksNumbered, at-acted, at_step}
 use Rattle.zt_changes.specs.AskPlaces.{kept_where}
 use Rattle.zt_changes.specs.AsksMade.{asks_in, made-acted as asks_made-acted}
 use Rattle.zt_changes.specs.Touches.{Changes, ChangesAll, Closes, Opens, Touch, face-acted, made-acted, made_by, touch, touched}
 use Rattle.zt_rows.specs.Face.{AskRoom, FaceRoom}
-use Rattle.zt_faces.specs.Rooms.{Kind, OpensRoom, all_of_ask, answer_room, face_room, kind_room, listing_room, one_ask, one_face}
+use Rattle.zt_faces.specs.Rooms.{OpensRoom, all_of_ask, answer_room, face_room, listing_room, one_ask, one_face}
 use Rattle.zt_needs.specs.Need.{need_of, of_faces, total}
-use Rattle.zt_tables.specs.HasRoom.{HasRoom, LeavesRoom, SuitAsks, SuitFaces, SuitsAsk, SuitsFace, is_gone}
-use Rattle.zt_tables.specs.Room.{KeepsOthers, KeepsTables}
+use Rattle.zt_tables.specs.HasRoom.{HasRoom, LeavesRoom, SuitAsks, SuitFaces, is_gone}
+use Rattle.zt_tables.specs.HatPlans.{acted-same}
+use Rattle.zt_tables.specs.Room.{KeepsOthers, KeepsTables, KeepsTablesFor}
+use Rattle.zt_tables.specs.Tokens.{token_of, tokens_in}
 use Rattle.zt_tables.specs.Value.{Rooms}
 
 -- ---- the first change alone
@@ -63,6 +66,7 @@ module _ {K : Type 0} (act : Act K) (acts : List (Act K)) where
     answers = λ n standing. let all = h.answers n standing in omega (arith, all);
     dictionary = let all = h.dictionary in omega (arith, all);
     trees = let all = h.trees in omega (arith, all);
+    tokens = λ region listed. let all = h.tokens region listed in omega (arith, all);
     routed = λ group. let all = h.routed group in omega (arith, all);
     outboxes = λ n there. let all = h.outboxes n there in omega (arith, all);
   }
@@ -145,10 +149,13 @@ module _ {K : Type 0} (cmp : K → K → Ordering) (matching : K → K → Bool)
   standing-was : (n : ℕ) (act : Act K) (s : Store K) → AreAsksNumbered s → at_step cmp matching s.asks_made n act (at_id n s.numbers) ≡ at_id n s.numbers → IsSome (at_id n (acted cmp matching act s).numbers) → IsSome (at_id n s.numbers)
   standing-was n act s numbered is standing = subst (λ o. IsSome o) (at-acted cmp matching n act s numbered ∙ is) standing
 
+  listed-was : (act : Act K) (s : Store K) (region : Region) → is_region_of (acted cmp matching act s).rows.regions region ≡ true → is_region_of s.rows.regions region ≡ true
+  listed-was act s region listed = subst (λ (rs : List Region). is_region_of rs region ≡ true) (acted-same cmp matching act s).regions listed
+
   -- ---- after a change
 
   module _ (act : Act K) (acts : List (Act K)) (s : Store K) (rooms left : Rooms) (numbered : AreAsksNumbered s) (h : HasRoom (act ∷ acts) s rooms) where
-    module _ (k : KeepsTables (need_of act) rooms left) where
+    module _ (k : KeepsTablesFor (tokens_in (token_of act)) (need_of act) rooms left) where
       pub after-plain : is_plain act ≡ true → HasRoom acts (acted cmp matching act s) left
       after-plain plain =
           let spare_faces = k.spare_faces in
@@ -168,6 +175,7 @@ module _ {K : Type 0} (cmp : K → K → Ordering) (matching : K → K → Bool)
             answers = λ n standing. let all = h.answers n (standing-was n act s numbered (plain-numbers n s.asks_made act (at_id n s.numbers) plain) standing) in let kept = k.faces.answers n in omega (arith, all, kept);
             dictionary = let all = h.dictionary in let kept = k.dictionary in omega (arith, all, kept);
             trees = let all = h.trees in let kept = k.trees in omega (arith, all, kept);
+            tokens = λ region listed. let all = h.tokens region (listed-was act s region listed) in let kept = k.tokens region in omega (arith, all, kept);
             routed = λ group. let all = h.routed group in let kept = k.routed group in omega (arith, all, kept);
             outboxes = λ n there. let all = h.outboxes n (sym (gone-same act s leaves n) ∙ there) in let kept = k.outboxes n in omega (arith, all, kept);
           }
@@ -212,6 +220,7 @@ module _ {K : Type 0} (cmp : K → K → Ordering) (matching : K → K → Bool)
           answers = λ n standing. let all = h.answers n (stood n standing) in let kept = k.faces.answers n standing in omega (arith, all, kept);
           dictionary = let all = h.dictionary in let kept = k.dictionary in omega (arith, all, kept);
           trees = let all = h.trees in let kept = k.trees in omega (arith, all, kept);
+          tokens = λ region listed. let all = h.tokens region (listed-was (CloseFace f) s region listed) in let kept = k.tokens region in omega (arith, all, kept);
           routed = λ group. let all = h.routed group in let kept = k.routed group in omega (arith, all, kept);
           outboxes = λ n there.
               by_test (f == n)
@@ -276,6 +285,7 @@ module _ {K : Type 0} (cmp : K → K → Ordering) (matching : K → K → Bool)
               omega (arith, all, kept, none_taken);
           dictionary = let all = h.dictionary in let kept = k.dictionary in omega (arith, all, kept);
           trees = let all = h.trees in let kept = k.trees in omega (arith, all, kept);
+          tokens = λ region listed. let all = h.tokens region (listed-was (DropAsk m) s region listed) in let kept = k.tokens region in omega (arith, all, kept);
           routed = λ group. let all = h.routed group in let kept = k.routed group in omega (arith, all, kept);
           outboxes = λ n there. let all = h.outboxes n (sym (gone-same (DropAsk m) s leaves n) ∙ there) in let kept = k.outboxes n in omega (arith, all, kept);
         }
@@ -320,6 +330,7 @@ module _ {K : Type 0} (cmp : K → K → Ordering) (matching : K → K → Bool)
           answers = λ n standing. let all = h.answers n (standing-was n opening s numbered refl standing) in let kept = k.faces.answers n in omega (arith, all, kept);
           dictionary = let all = h.dictionary in let kept = k.dictionary in omega (arith, all, kept);
           trees = let all = h.trees in let kept = k.trees in omega (arith, all, kept);
+          tokens = λ region listed. let all = h.tokens region (listed-was opening s region listed) in let kept = k.tokens region in omega (arith, all, kept);
           routed = λ group. let all = h.routed group in let kept = k.routed group in omega (arith, all, kept);
           outboxes = λ n there.
               let was : is_gone n s ≡ false =
@@ -384,6 +395,7 @@ module _ {K : Type 0} (cmp : K → K → Ordering) (matching : K → K → Bool)
               (λ other. let all = h.answers n (asked-other n other standing) in let kept = k.faces.answers n in omega (arith, all, kept));
           dictionary = let all = h.dictionary in let kept = k.dictionary in omega (arith, all, kept);
           trees = let all = h.trees in let kept = k.trees in omega (arith, all, kept);
+          tokens = λ region listed. let all = h.tokens region (listed-was asking s region listed) in let kept = k.tokens region in omega (arith, all, kept);
           routed = λ group. let all = h.routed group in let kept = k.routed group in omega (arith, all, kept);
           outboxes = λ n there. let all = h.outboxes n (sym (gone-same asking s leaves n) ∙ there) in let kept = k.outboxes n in omega (arith, all, kept);
         }
@@ -397,7 +409,7 @@ module _ {K : Type 0} (cmp : K → K → Ordering) (matching : K → K → Bool)
   first-rest x (y ∷ ys) h = let is : x ≡ y = ap (λ o. unwrap_or o x) h in ap (λ z. z ∷ ys) (sym is)
 
   module _ (s : Store K) (old new : Rooms) (numbered : AreAsksNumbered s) where
-    pub plain-leaves-room : (act : Act K) → KeepsTables (need_of act) old new → is_plain act ≡ true → LeavesRoom cmp matching act s old new
+    pub plain-leaves-room : (act : Act K) → KeepsTablesFor (tokens_in (token_of act)) (need_of act) old new → is_plain act ≡ true → LeavesRoom cmp matching act s old new
     plain-leaves-room act k plain = record { behind = λ acts h. after-plain act acts s old new numbered h k plain }
 
     pub close-leaves-room : (f : ℕ) → f ≤ s.rows.made → KeepsOthers f (acted cmp matching (CloseFace f) s).numbers old new → LeavesRoom cmp matching (CloseFace f) s old new

@@ -10,9 +10,12 @@ use Rattle.zt_region.specs.declared.region.Zid.{Zid}
 use Rattle.zt_grouped.specs.GroupRoom.{room_of}
 use Rattle.zt_model.specs.Acts.{Act, Store, acted, is_open}
 use Rattle.zt_model.specs.Lists.{at_id}
+use Rattle.zt_model.specs.Strategy.{is_region_of}
 use Rattle.zt_rows.specs.Face.{AskRoom, FaceRoom}
 use Rattle.zt_faces.specs.Rooms.{Kind, answer_room, face_room, kind_room, listing_room}
 use Rattle.zt_needs.specs.Need.{group_order, total}
+use Rattle.zt_tables.specs.RegionOrder.{region_cmp}
+use Rattle.zt_tables.specs.Tokens.{total_tokens}
 use Rattle.zt_tables.specs.Value.{Rooms}
 
 -- the face of the number was closed
@@ -52,6 +55,7 @@ pub record HasRoom {K : Type 0} (acts : List (Act K)) (s : Store K) (rooms : Roo
   pub dictionary : total (λ need. need.dictionary) acts ≤ rooms.dictionary
   pub trees : total (λ need. need.trees) acts ≤ rooms.trees
   pub routed : (group : Region × Zid) → total (λ need. need.routed group) acts ≤ room_of group_order group rooms.routed
+  pub tokens : (region : Region) → is_region_of s.rows.regions region ≡ true → total_tokens acts ≤ room_of region_cmp region rooms.tokens
   pub outboxes : (n : ℕ) → is_gone n s ≡ false → total (λ need. need.outboxes n) acts ≤ room_of nat_cmp n rooms.outboxes
 
 -- once the change is made there is room for those behind it

@@ -1,10 +1,13 @@
+pub mod Tokens
+pub mod PlanView
 pub mod Value
 pub mod Dictionary
 pub mod Routed
 pub mod Live
 pub mod Serving
-pub mod View
 pub mod RegionOrder
+pub mod Kept
+pub mod View
 pub mod RoutedOrder
 pub mod NextRows
 pub mod PlannedNexts

@@ -18,9 +18,6 @@ use Rattle.zt_tables.specs.Routed.{routed_row}
 pub record SaysRouted {K : Type 0} (answers : Bor Region → Bool → Type 0) (cmp : K → K → Ordering) (e : K) (g : Rows K) (result : Bool) : Type 0 where
   pub at : (test : Region → Bool) → TestsRegion answers test → result ≡ any_in cmp e test (routed_rows g)
 
-pub record SaysLive {K : Type 0} (answers : Bor Region → Bool → Type 0) (cmp : K → K → Ordering) (e : K) (g : Rows K) (result : Bool) : Type 0 where
-  pub at : (test : Region → Bool) → TestsRegion answers test → result ≡ any_in cmp e test (live_rows g)
-
 module _ {K : Type 0} (cmp : K → K → Ordering) (e : K) (test : Region → Bool) where
   pub any-routed_rows : (own : Zid) (pairs : List ((Region × Zid) × K))
       → list_any (λ x. same cmp e x.1 && (test x.0.0 && not (zid_eq x.0.1 own))) pairs ≡ any_in cmp e test (map (λ row. (row.region, row.expr)) (filter (λ row. not (zid_eq row.source own)) (map routed_row pairs)))

@@ -1,9 +1,10 @@
 -- The order of regions that is computed is the model's.
-use Rattle.std.specs.Prelude.{◌≡◌, ◌&&◌, List, [], ◌∷◌, option_map, refl}
+use Rattle.std.specs.Prelude.{◌≡◌, ℕ, ◌==◌, ◌&&◌, List, [], ◌∷◌, option_map, refl}
 use Rattle.std.specs.FinMap.Entries.{find}
 use Rattle.std.specs.Ordering.{is_eq, nat_cmp, ordering_then}
 use Rattle.std.specs.declared.cmp.Ordering.TheVariants.{Less, Equal, Greater}
-use Rattle.std.proofs.Common.{ap, ◌∙◌}
+use Rattle.std.proofs.Common.{ap, arith, ◌∙◌}
+use Rattle.std.proofs.lemmas.Bool.Decides.{nat_tests}
 use Rattle.zt_ordered.specs.Test.{by_test}
 use Rattle.zt_region.specs.Region.{region_eq, whatami_eq}
 use Rattle.zt_protocol.specs.Plain.{trees_of}
@@ -70,3 +71,35 @@ table-found region [] = refl
 table-found region (row ∷ rows) =
     let same_test : is_eq (ghosts.cmp region row.0) ≡ region_eq region row.0 = ap is_eq (region_cmp-order region row.0) ∙ region_order-eq region row.0 in
     by_test (region_eq region row.0) (λ t. rw (same_test, t) refl) (λ t. rw (same_test, t) (table-found region rows))
+
+-- regions in order
+abbrev pub region_cmp : Region → Region → Ordering
+region_cmp a b = ghosts.cmp a b
+
+whatami-turned : (m n : WhatAmI) → whatami_eq m n ≡ whatami_eq n m
+whatami-turned Router Router = refl
+whatami-turned Router Peer = refl
+whatami-turned Router Client = refl
+whatami-turned Peer Router = refl
+whatami-turned Peer Peer = refl
+whatami-turned Peer Client = refl
+whatami-turned Client Router = refl
+whatami-turned Client Peer = refl
+whatami-turned Client Client = refl
+
+number-turned : (i j : ℕ) → (i == j) ≡ (j == i)
+number-turned i j = grind (arith, nat_tests)
+
+pub region_eq-turned : (a b : Region) → region_eq a b ≡ region_eq b a
+region_eq-turned North North = refl
+region_eq-turned North Local = refl
+region_eq-turned North (South j n) = refl
+region_eq-turned Local North = refl
+region_eq-turned Local Local = refl
+region_eq-turned Local (South j n) = refl
+region_eq-turned (South i m) North = refl
+region_eq-turned (South i m) Local = refl
+region_eq-turned (South i m) (South j n) = λ k. number-turned i j k && whatami-turned m n k
+
+pub region_cmp-eq : (a b : Region) → is_eq (region_cmp a b) ≡ region_eq b a
+region_cmp-eq a b = ap is_eq (region_cmp-order a b) ∙ region_order-eq a b ∙ region_eq-turned a b

@@ -12,16 +12,22 @@ use Rattle.zt_faces.specs.Closing.{KeepsOtherRooms}
 use Rattle.zt_faces.specs.Rooms.{KeepsRooms, nothing}
 use Rattle.zt_faces.specs.Table.{FacesRooms}
 use Rattle.zt_needs.specs.Need.{Need, group_order}
+use Rattle.zt_tables.specs.RegionOrder.{region_cmp}
 use Rattle.zt_tables.specs.Value.{Rooms}
 
-pub record KeepsTables (need : Need) (old new : Rooms) : Type 0 where
+-- no room falls by more than the need, nor that for counts of tokens by more than so many are added
+pub record KeepsTablesFor (added : ℕ) (need : Need) (old new : Rooms) : Type 0 where
   pub faces : KeepsRooms need.faces old.faces new.faces
   pub dictionary : old.dictionary ≤ new.dictionary + need.dictionary
   pub trees : old.trees ≤ new.trees + need.trees
   pub routed : (group : Region × Zid) → room_of group_order group old.routed ≤ room_of group_order group new.routed + need.routed group
   pub outboxes : (n : ℕ) → room_of nat_cmp n old.outboxes ≤ room_of nat_cmp n new.outboxes + need.outboxes n
+  pub tokens : (region : Region) → room_of region_cmp region old.tokens ≤ room_of region_cmp region new.tokens + added
   pub spare_faces : new.spare_faces ≡ old.spare_faces
   pub spare_asks : new.spare_asks ≡ old.spare_asks
+
+abbrev pub KeepsTables : Need → Rooms → Rooms → Type 0
+KeepsTables need old new = KeepsTablesFor 0 need old new
 
 -- no room but a face's own falls, and the asks that stand keep theirs
 pub record KeepsOthers (face : ℕ) (standing : ById (ℕ × ℕ)) (old new : Rooms) : Type 0 where
@@ -30,6 +36,7 @@ pub record KeepsOthers (face : ℕ) (standing : ById (ℕ × ℕ)) (old new : Ro
   pub trees : old.trees ≤ new.trees
   pub routed : (group : Region × Zid) → room_of group_order group old.routed ≤ room_of group_order group new.routed
   pub outboxes : (n : ℕ) → is_eq (nat_cmp n face) ≡ false → room_of nat_cmp n old.outboxes ≤ room_of nat_cmp n new.outboxes
+  pub tokens : (region : Region) → room_of region_cmp region old.tokens ≤ room_of region_cmp region new.tokens
   pub spare_faces : new.spare_faces ≡ old.spare_faces
   pub spare_asks : new.spare_asks ≡ old.spare_asks
 

@@ -7,7 +7,8 @@ use Rattle.zt_model.specs.Rows.{ById}
 use Rattle.zt_rows.specs.Face.{AskRoom, FaceRoom}
 use Rattle.zt_faces.specs.Table.{FacesRooms}
 
--- the room of the faces, for numbers of the dictionary, for tokens of each router, for trees, and for messages to a face,
+-- the room of the faces, for numbers of the dictionary, for tokens of each router, for trees, for messages to a face, and
+-- for counts of tokens in each region,
 -- and that of the lists that wait for faces and asks to come, the next one first
 pub record Rooms : Type 0 where
   pub faces : FacesRooms
@@ -15,6 +16,7 @@ pub record Rooms : Type 0 where
   pub routed : List ((Region × Zid) × ℕ)
   pub trees : ℕ
   pub outboxes : ById ℕ
+  pub tokens : List (Region × ℕ)
   pub spare_faces : List FaceRoom
   pub spare_asks : List AskRoom
 

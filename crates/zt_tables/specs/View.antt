@@ -1,11 +1,12 @@
 -- How the tables lie in memory.
 use Rattle.std.specs.Prelude.{◌≤◌, length, map}
+use Rattle.std.specs.declared.cmp.Ordering.{Ordering}
 use Rattle.zt_model.specs.Rows.{Rows}
 use Rattle.zt_protocol.specs.Plain.{trees_of}
 use Rattle.zt_rows.specs.AskView.{keys_by_id}
 use Rattle.zt_rows.specs.ById.{map_rows}
 use Rattle.zt_tables.specs.Dictionary.{IsCounted}
-use Rattle.zt_changes.specs.AskActs.{AreAsksNumbered}
+use Rattle.zt_tables.specs.Kept.{IsKept}
 use Rattle.zt_tables.specs.Routed.{routed_row}
 use Rattle.zt_tables.specs.Serving.{AreServed}
 use Rattle.zt_tables.specs.Value.{TableRows}
@@ -29,13 +30,13 @@ rows_in a = record {
 abbrev pub table_rows : {K : Type 0} → Inside K → TableRows K
 table_rows a = record {
   store = record { rows = rows_in a; asks_made = a.faces.asks_made; numbers = a.faces.numbers; outboxes = a.outboxes.queues };
-  rooms = record { faces = a.faces.rooms; dictionary = a.dictionary.room; routed = a.routed.rooms; trees = a.trees.room; outboxes = a.outboxes.rooms; spare_faces = a.spare_faces.items; spare_asks = a.spare_asks.items };
+  rooms = record { faces = a.faces.rooms; dictionary = a.dictionary.room; routed = a.routed.rooms; trees = a.trees.room; outboxes = a.outboxes.rooms; tokens = a.tokens.rooms; spare_faces = a.spare_faces.items; spare_asks = a.spare_asks.items };
 }
 
--- numbers of the dictionary count from 1, and there are at most 65535; each ask has its number at its place,
--- and lists the pendings whose rows name it
-pub record AreTables {K : Type 0} (a : Inside K) : Type 0 where
+-- numbers of the dictionary count from 1, and there are at most 65535; what stays true of the rows holds, with the counts
+-- of tokens that stand beside them; and each ask lists the pendings whose rows name it
+pub record AreTables {K : Type 0} (cmp : K → K → Ordering) (a : Inside K) : Type 0 where
   pub counted : IsCounted 1 a.dictionary.rows
   pub dictionary : length a.dictionary.rows ≤ 65535
-  pub asks_numbered : AreAsksNumbered (table_rows a).store
+  pub kept : IsKept cmp (table_rows a).store a.tokens.counts
   pub served : AreServed (table_rows a).store a.faces.served

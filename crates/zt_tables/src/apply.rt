@@ -5,10 +5,13 @@ ghost use Rattle.zt_model.specs.Lists.{first_of, rest_of};
 ghost use Rattle.zt_model.specs.Routing.{initial_of};
 ghost use Rattle.zt_rows.specs.Change.{plain_change};
 ghost use Rattle.zt_rows.specs.Plain.{plain_interest};
+ghost use Rattle.std.specs.Vec.Iter.{into_iter_items};
 ghost use Rattle.zt_tables.specs.HasRoom.{HasRoom, LeavesRoom};
+ghost use Rattle.zt_tables.specs.Tokens.{NextToken, token_of};
 
-use crate::plan::Plan;
+use crate::plan::{Plan, token_of};
 use crate::tables::Tables;
+use std::vec::IntoIter;
 use zt_keys::Key;
 use zt_region::{Bound, Region, WhatAmI};
 use zt_rows::{AskRow, AskRows, Change, FaceRow, FaceRows, SpareAsk, SpareFace};
@@ -20,6 +23,16 @@ fn initial_of(mode: WhatAmI, region: Region, bound: Bound) -> Option<bool>
     match (mode, region, bound) {
         (WhatAmI::Peer, Region::North, Bound::North) => Some(false),
         _ => None,
+    }
+}
+
+// The next token, where the change adds one.
+fn next_token<K: Key>(change: &Change<K>, tokens: &mut IntoIter<K>) -> Option<K>
+    ensures { NextToken (plain_change change.now) (into_iter_items tokens.old) result (into_iter_items tokens.new) }
+{
+    match token_of(change) {
+        Some(_) => tokens.next(),
+        None => None,
     }
 }
 
@@ -72,10 +85,11 @@ impl<K: Key> Tables<K> {
         }
     }
 
-    // One change is made.
-    fn make(&mut self, change: Change<K>)
+    // One change is made. The token is the expression of the token that the change adds, a second time.
+    fn make(&mut self, change: Change<K>, token: Option<K>)
         requires fits { Fits K.cmp K.matching (plain_change change) self.old.store }
         requires room { HasRoom (plain_change change ∷ []) self.old.store self.old.rooms }
+        requires token { token ≡ token_of (plain_change change) }
         ensures store { self.new.store ≡ acted K.cmp K.matching (plain_change change) self.old.store }
         ensures room { LeavesRoom K.cmp K.matching (plain_change change) self.old.store self.old.rooms self.new.rooms }
     {
@@ -83,7 +97,10 @@ impl<K: Key> Tables<K> {
         match change {
             Change::OpenFace { row } => self.open_next(row),
             Change::CloseFace { face } => self.close_face(face),
-            Change::AddLive { face, id, expr } => self.add_live(face, id, expr),
+            Change::AddLive { face, id, expr } => match token {
+                Some(token) => self.add_live(face, id, expr, token),
+                None => unreachable!(),
+            },
             Change::DropLive { face, id } => self.drop_live(face, id),
             Change::AddRouted {
                 region,
@@ -125,9 +142,12 @@ impl<K: Key> Tables<K> {
         requires room { HasRoom plan self.old.store self.old.rooms }
         ensures { self.new.store ≡ acted_all K.cmp K.matching plan self.old.store }
     {
-        let mut rest = plan.into_changes().into_iter();
+        let (changes, tokens) = plan.into_parts();
+        let mut rest = changes.into_iter();
+        let mut tokens = tokens.into_iter();
         while let Some(change) = rest.next() {
-            self.make(change);
+            let token = next_token(&change, &mut tokens);
+            self.make(change, token);
         }
     }
 }

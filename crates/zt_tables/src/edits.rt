@@ -1,5 +1,5 @@
 // One change of the tables at a time.
-ghost use Rattle.std.specs.Prelude.{◌≡◌, ◌+◌, ◌<◌, ◌≤◌, [], IfSome};
+ghost use Rattle.std.specs.Prelude.{◌≡◌, ◌+◌, ◌<◌, ◌≤◌, [], IfSome, true};
 ghost use Rattle.std.specs.Ordering.{nat_cmp};
 ghost use Rattle.zt_grouped.specs.GroupRoom.{room_of};
 ghost use Rattle.zt_model.specs.Acts.{AddAsk, AddHeld, AddLive, AddLocal, AddPending, AddRouted, Answered, CloseFace, DropAsk, DropHeld, DropLive, DropLocal, DropPending, DropRouted, FinaliseInitial, Fits, Number, OpenFace, Send, SetEntities, SetMoment, SetTree, Tell, Untell, acted};
@@ -9,7 +9,12 @@ ghost use Rattle.zt_rows.specs.Plain.{interest_held, interest_sent, plain_pendin
 ghost use Rattle.zt_faces.specs.Rooms.{AskedRows, HeldRows, LiveRows, LocalRows, OpensRoom, PendingRows, ToldRows, all_of_ask, answer_room, face_room, listing_room, nothing, one_ask, one_face, one_row};
 ghost use Rattle.zt_faces.specs.Sent.{one_answer, one_pending};
 ghost use Rattle.zt_needs.specs.Need.{group_order};
-ghost use Rattle.zt_tables.specs.Room.{KeepsOthers, KeepsTables};
+ghost use Rattle.zt_model.specs.Parts.{find_face};
+ghost use Rattle.zt_model.specs.Strategy.{is_region_of};
+ghost use Rattle.zt_changes.specs.Orderly.{IsOrderly};
+ghost use Rattle.zt_changes.specs.Queries.{list_of_face};
+ghost use Rattle.zt_tables.specs.RegionOrder.{region_cmp};
+ghost use Rattle.zt_tables.specs.Room.{KeepsOthers, KeepsTables, KeepsTablesFor};
 ghost use Rattle.zt_needs.specs.Need.{of_faces, one_message, one_number, one_routed, one_tree};
 
 use crate::tables::Tables;
@@ -19,14 +24,30 @@ use zt_region::{Region, Zid};
 use zt_rows::{AskRows, FaceRow, FaceRows, HeldRow, PendingRow, UpstreamRow};
 
 impl<K: Key> Tables<K> {
-    // The face declared the expression under the id.
-    pub(crate) fn add_live(&mut self, f: u32, id: u32, expr: K)
+    // A fact alone: the faces stand in order.
+    fn orderly(&self)
+        ensures { IsOrderly self.now.store }
+    {
+        self.faces.rising();
+    }
+
+    // The face declared the expression under the id. The token is the expression a second time.
+    pub(crate) fn add_live(&mut self, f: u32, id: u32, expr: K, token: K)
         requires fits { Fits K.cmp K.matching (AddLive f id expr) self.old.store }
         requires room { 0 < face_room f LiveRows self.old.rooms.faces }
+        requires token_room { (region : Region) → is_region_of self.old.store.rows.regions region ≡ true → 0 < room_of region_cmp region self.old.rooms.tokens }
+        requires token { token ≡ expr }
         ensures store { self.new.store ≡ acted K.cmp K.matching (AddLive f id expr) self.old.store }
-        ensures rooms { KeepsTables (of_faces (one_row f LiveRows)) self.old.rooms self.new.rooms }
+        ensures rooms { KeepsTablesFor 1 (of_faces (one_row f LiveRows)) self.old.rooms self.new.rooms }
     {
-        self.faces.add_live(f, id, expr);
+        self.orderly();
+        match self.faces.get(f) {
+            Some(face) => {
+                self.tokens.add(&face.row().region, token);
+                self.faces.add_live(f, id, expr);
+            }
+            None => unreachable!(),
+        }
     }
 
     // What the face declared under the id goes.
@@ -35,7 +56,20 @@ impl<K: Key> Tables<K> {
         ensures store { self.new.store ≡ acted K.cmp K.matching (DropLive f id) self.old.store }
         ensures rooms { KeepsTables (of_faces nothing) self.old.rooms self.new.rooms }
     {
-        self.faces.drop_live(f, id);
+        self.orderly();
+        match self.faces.get(f) {
+            Some(face) => {
+                face.in_order();
+                match face.live(id) {
+                    Some(expr) => {
+                        self.tokens.remove(&face.row().region, expr);
+                        self.faces.drop_live(f, id);
+                    }
+                    None => unreachable!(),
+                }
+            }
+            None => unreachable!(),
+        }
     }
 
     // The face is told the expression under its next id.
@@ -202,6 +236,21 @@ impl<K: Key> Tables<K> {
         ensures rooms { KeepsOthers f self.new.store.numbers self.old.rooms self.new.rooms }
         ensures given { f ≤ self.old.store.rows.made }
     {
+        while let Some(id) = self.next_live(f, None) {
+            self.drop_live(f, id);
+        }
+        self.close_silent(f);
+    }
+
+    // The face goes, which declares no token any more.
+    fn close_silent(&mut self, f: u32)
+        requires fits { Fits K.cmp K.matching (CloseFace f) self.old.store }
+        requires silent { list_of_face (λ x. x.live) (find_face f self.old.store.rows) ≡ [] }
+        ensures store { self.new.store ≡ acted K.cmp K.matching (CloseFace f) self.old.store }
+        ensures rooms { KeepsOthers f self.new.store.numbers self.old.rooms self.new.rooms }
+        ensures given { f ≤ self.old.store.rows.made }
+    {
+        self.orderly();
         self.faces.open_given();
         self.faces.close(f);
         self.outboxes.forget(f);

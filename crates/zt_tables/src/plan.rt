@@ -1,8 +1,10 @@
 // Plans.
-ghost use Rattle.std.specs.Prelude.{◌≡◌, ◌<◌, ◌^◌, ◌∷◌, ◌++◌, [], OnErr, OnOk, length, min, take, map};
+ghost use Rattle.std.specs.Prelude.{◌≡◌, ◌<◌, ◌≤◌, ◌^◌, ◌∷◌, ◌++◌, [], OnErr, OnOk, length, min, take, map};
 ghost use Rattle.zt_rows.specs.Change.{plain_change};
 ghost use Rattle.zt_changes.specs.AsksMade.{count_asks};
 ghost use Rattle.zt_changes.specs.Drawn.{count_drawn};
+ghost use Rattle.std.specs.Option.{option_copied};
+ghost use Rattle.zt_tables.specs.Tokens.{token_of, tokens_added, tokens_in, total_tokens};
 
 use std::alloc::Global;
 use std::marker::Model;
@@ -14,6 +16,8 @@ use zt_rows::Change;
 #[derive(Drop)]
 pub struct Plan<K: Key> {
     changes: Vec<Change<K>>,
+    // The expressions of the tokens that are added, each a second time: the tables count tokens by their expressions.
+    tokens: Vec<K>,
 }
 
 impl<K: Key> Model for Plan<K> {
@@ -23,8 +27,61 @@ impl<K: Key> Model for Plan<K> {
     ghost Value = { List (Act K) };
 
     ghost use Rattle.zt_rows.specs.Change.{plain_change};
+    ghost use Rattle.zt_tables.specs.PlanView.{IsPlan};
 
     ghost view = { λ a. map plain_change a.changes.items };
+
+    ghost invariant = { IsPlan };
+}
+
+// The expression of the token that the change adds.
+pub(crate) fn token_of<K: Key>(change: &Change<K>) -> Option<&K>
+    ensures { option_copied result ≡ token_of (plain_change change.now) }
+{
+    match change {
+        Change::AddLive { expr, .. } => Some(expr),
+        _ => None,
+    }
+}
+
+// Changes and tokens with one change more, or neither with more where memory is short.
+fn add_token<K: Key>(
+    changes: &mut Vec<Change<K>>,
+    tokens: &mut Vec<K>,
+    change: Change<K>,
+    token: K,
+) -> Result<(), Memory>
+    ensures changes { OnOk result (changes.new.items ≡ changes.old.items ++ change ∷ []) }
+    ensures tokens { OnOk result (tokens.new.items ≡ tokens.old.items ++ token ∷ []) }
+    ensures same_changes { OnErr result (changes.new.items ≡ changes.old.items) }
+    ensures same_tokens { OnErr result (tokens.new.items ≡ tokens.old.items) }
+{
+    changes.reserve(1)?;
+    tokens.push(token)?;
+    changes.push_reserved(change);
+    Ok(())
+}
+
+// How many tokens the change adds.
+fn tokens_in<K: Key>(change: &Change<K>) -> usize
+    ensures tokens { result ≡ tokens_in (token_of (plain_change change.now)) }
+    ensures most { result ≤ 1 }
+{
+    match change {
+        Change::AddLive { .. } => 1,
+        _ => 0,
+    }
+}
+
+// How many tokens the changes add.
+fn count_tokens<K: Key>(changes: &[Change<K>]) -> usize
+    ensures { result ≡ total_tokens (map plain_change changes.now) }
+{
+    let mut count = 0usize;
+    for change in changes {
+        count += tokens_in(change);
+    }
+    count
 }
 
 impl<K: Key> Plan<K> {
@@ -34,6 +91,7 @@ impl<K: Key> Plan<K> {
     {
         Plan {
             changes: Vec::new(alloc),
+            tokens: Vec::new(alloc),
         }
     }
 
@@ -43,10 +101,19 @@ impl<K: Key> Plan<K> {
         &self.changes
     }
 
-    pub(crate) fn into_changes(self) -> Vec<Change<K>>
-        ensures { map plain_change result.items ≡ self }
+    // The changes, and the expressions of the tokens that they add.
+    pub(crate) fn into_parts(self) -> (Vec<Change<K>>, Vec<K>)
+        ensures changes { map plain_change result.0.items ≡ self }
+        ensures tokens { result.1.items ≡ tokens_added self }
     {
-        self.changes
+        (self.changes, self.tokens)
+    }
+
+    // How many tokens the changes add.
+    pub(crate) fn tokens_added(&self) -> usize
+        ensures { result ≡ total_tokens self.now }
+    {
+        self.tokens.len()
     }
 
     /// How many changes there are.
@@ -62,8 +129,16 @@ impl<K: Key> Plan<K> {
         ensures ok { OnOk result (self.new ≡ self.old ++ plain_change change ∷ []) }
         ensures err { OnErr result (self.new ≡ self.old) }
     {
-        self.changes.push(change)?;
-        Ok(())
+        match token_of(&change) {
+            Some(expr) => {
+                let token = expr.copy(*self.changes.allocator())?;
+                add_token(&mut self.changes, &mut self.tokens, change, token)
+            }
+            None => {
+                self.changes.push(change)?;
+                Ok(())
+            }
+        }
     }
 
     /// Keeps the first changes, as many as given; the others go.
@@ -71,6 +146,7 @@ impl<K: Key> Plan<K> {
         ensures { self.new ≡ take len self.old }
     {
         self.changes.truncate(len);
+        self.tokens.truncate(count_tokens(&self.changes));
     }
 
     /// How many ids the plan draws for the face, at most 4294967295: one for each `Tell`, for each `AddPending`, and

@@ -1,5 +1,5 @@
 // What is asked of asks after a plan.
-ghost use Rattle.std.specs.Prelude.{◌≡◌, ◌+◌, ◌<◌, ◌≤◌, ◌^◌, ◌||◌, IfSome, Some, filter, length, map, option_map};
+ghost use Rattle.std.specs.Prelude.{◌≡◌, ◌+◌, ◌<◌, ◌≤◌, ◌^◌, ◌||◌, IfSome, Some, filter, is_some, length, map, option_map};
 ghost use Rattle.std.specs.List.{list_any};
 ghost use Rattle.std.specs.Option.{option_copied};
 ghost use Rattle.zt_model.specs.Acts.{Fit, acted_all, next_number};
@@ -9,7 +9,7 @@ ghost use Rattle.zt_rows.specs.Change.{plain_change};
 ghost use Rattle.zt_rows.specs.Plain.{plain_interest};
 ghost use Rattle.zt_changes.specs.AskLives.{answers};
 ghost use Rattle.zt_changes.specs.AskPendings.{added_one, count_added, stays_listed};
-ghost use Rattle.zt_changes.specs.Asks.{ask_at, number_of_ask, one_where, pendings_at};
+ghost use Rattle.zt_changes.specs.Asks.{ask_at, ask_in, number_of_ask, one_where, pendings_at};
 
 use crate::plan::Plan;
 use crate::tables::Tables;
@@ -48,10 +48,12 @@ impl<K: Key> Plan<K> {
         ask_after(self.changes(), n, left, found)
     }
 
-    /// The ask of the face under the id, by its number.
+    /// The ask of the face under the id, by its number; `None` exactly where the face has no ask under the id.
     pub fn ask_of(&self, tables: &Tables<K>, f: u32, id: u32) -> Option<u64>
-        ensures { Fit K.cmp K.matching self.now tables.now.store
+        ensures number { Fit K.cmp K.matching self.now tables.now.store
             → result ≡ number_of_ask (f, id) (acted_all K.cmp K.matching self.now tables.now.store).numbers }
+        ensures asked { Fit K.cmp K.matching self.now tables.now.store
+            → is_some result ≡ is_some (ask_in (Some (f, id)) (acted_all K.cmp K.matching self.now tables.now.store).rows) }
     {
         let made = tables.next_ask() - 1;
         let found = tables.ask_of(f, id);

@@ -18,8 +18,8 @@ use zt_keys::Key;
 use zt_region::Region;
 
 impl<K: Key> Plan<K> {
-    // How many tokens of the expression faces of regions that pass declare. One step for each change, and where one takes
-    // such a token, one for each change before it.
+    // How many tokens of the expression faces of regions that pass declare. One step for each change; where one adds or
+    // takes such a token, one more for each change before it; and where one closes a face, that for each of its tokens.
     fn count_declared(&self, tables: &Tables<K>, expr: &K, test: RegionTest) -> u128
         ensures { Fit K.cmp K.matching self.now tables.now.store
             → result ≡ declared K.cmp expr.now (passes test) (acted_all K.cmp K.matching self.now tables.now.store).rows.faces }

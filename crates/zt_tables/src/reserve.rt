@@ -1,5 +1,5 @@
 // Room for a plan.
-ghost use Rattle.std.specs.Prelude.{◌≡◌, ◌+◌, ◌<◌, ◌^◌, List, IfOk, IfSome, OnOk};
+ghost use Rattle.std.specs.Prelude.{◌≡◌, ◌+◌, ◌<◌, ◌≤◌, ◌^◌, true, List, IfOk, IfSome, OnOk};
 ghost use Rattle.zt_faces.specs.Rooms.{nothing};
 ghost use Rattle.zt_model.specs.Acts.{Act};
 ghost use Rattle.zt_needs.specs.Counts.{Counts};
@@ -7,13 +7,24 @@ ghost use Rattle.zt_needs.specs.Need.{of_faces};
 ghost use Rattle.zt_tables.specs.HasRoom.{HasRoom};
 ghost use Rattle.zt_tables.specs.Reserved.{HasFacesRoom, HasOtherRoom, SuitEachAsk, SuitEachFace};
 ghost use Rattle.zt_tables.specs.Room.{KeepsTables};
+ghost use Rattle.std.specs.List.{list_any};
+ghost use Rattle.zt_region.specs.Region.{region_eq};
+ghost use Rattle.zt_region.specs.declared.region.Region.{Region};
+ghost use Rattle.zt_grouped.specs.Counted.{CountsAlike};
+ghost use Rattle.zt_grouped.specs.GroupRoom.{room_of};
+ghost use Rattle.zt_grouped.specs.Prepared.{HasRooms};
+ghost use Rattle.zt_model.specs.Strategy.{is_region_of};
+ghost use Rattle.zt_tables.specs.RegionOrder.{region_cmp};
+ghost use Rattle.zt_tables.specs.Tokens.{total_tokens};
 
 use crate::plan::Plan;
 use crate::tables::Tables;
 use std::alloc::{AllocError, Global};
 use std::collections::VecDeque;
+use zt_grouped::GroupedCounts;
 use zt_keys::{Key, Memory};
 use zt_needs::PlanNeeds;
+use zt_region::Region;
 use zt_rows::{SpareAsk, SpareFace};
 
 // The number of the face that opens after so many more, where numbers last.
@@ -61,6 +72,23 @@ fn lists_for_asks<K: Key>(
     Ok(spares)
 }
 
+// Room for counts of so many more tokens in each of the regions.
+fn prepare_each<K: Key>(
+    tokens: &mut GroupedCounts<Region, K>,
+    alloc: Global,
+    regions: &[Region],
+    more: usize,
+) -> Result<(), AllocError>
+    ensures counts { CountsAlike region_cmp K.cmp tokens.old.counts tokens.new.counts }
+    ensures rooms { HasRooms region_cmp tokens.old.rooms tokens.new.rooms }
+    ensures ok { OnOk result ((region : Region) → list_any (region_eq region) regions.now ≡ true → more ≤ room_of region_cmp region tokens.new.rooms) }
+{
+    for region in regions {
+        tokens.prepare(alloc, *region, more)?;
+    }
+    Ok(())
+}
+
 impl<K: Key> Tables<K> {
     // Room at the open faces and at the asks that stand, for faces and for numbers of asks.
     fn reserve_faces(&mut self, needs: &PlanNeeds) -> Result<(), AllocError>
@@ -102,16 +130,31 @@ impl<K: Key> Tables<K> {
         Ok(())
     }
 
-    // All the room that is needed.
-    fn reserve_needs(&mut self, needs: &PlanNeeds) -> Result<(), AllocError>
+    // Room for counts of so many more tokens in each region of the gateway.
+    fn reserve_tokens(&mut self, more: usize) -> Result<(), AllocError>
         ensures store { self.new.store ≡ self.old.store }
-        ensures ok { OnOk result ((acts : List (Act K)) → Counts needs.now acts → HasRoom acts self.old.store self.new.rooms) }
+        ensures rooms { KeepsTables (of_faces nothing) self.old.rooms self.new.rooms }
+        ensures ok { OnOk result ((region : Region) → is_region_of self.old.store.rows.regions region ≡ true → more ≤ room_of region_cmp region self.new.rooms.tokens) }
+    {
+        if more == 0 {
+            return Ok(());
+        }
+        let own = [Region::North, Region::Local];
+        prepare_each(&mut self.tokens, self.alloc, &own, more)?;
+        prepare_each(&mut self.tokens, self.alloc, &self.regions, more)
+    }
+
+    // All the room that is needed, and for counts of so many tokens.
+    fn reserve_needs(&mut self, needs: &PlanNeeds, tokens: usize) -> Result<(), AllocError>
+        ensures store { self.new.store ≡ self.old.store }
+        ensures ok { OnOk result ((acts : List (Act K)) → Counts needs.now acts → total_tokens acts ≡ tokens → HasRoom acts self.old.store self.new.rooms) }
     {
         let made = self.next_ask() - 1;
         match made.checked_add(needs.numbers as u64) {
             Some(numbers) if numbers < 1 << 62 => (),
             _ => return Err(AllocError),
         }
+        self.reserve_tokens(tokens)?;
         self.reserve_faces(needs)?;
         self.reserve_others(needs)?;
         self.reserve_lists(needs)?;
@@ -126,7 +169,7 @@ impl<K: Key> Tables<K> {
         ensures ok { OnOk result (HasRoom plan.old self.old.store self.new.rooms) }
     {
         let needs = PlanNeeds::of(self.alloc, plan.changes())?;
-        self.reserve_needs(&needs)?;
+        self.reserve_needs(&needs, plan.tokens_added())?;
         Ok(())
     }
 }

@@ -1,17 +1,16 @@
 // The tables.
-ghost use Rattle.std.specs.Prelude.{◌≡◌, ◌≤◌, ◌^◌, [], IfSome, Some, length, option_map};
+ghost use Rattle.std.specs.Prelude.{◌≡◌, ◌≤◌, ◌^◌, [], IfSome, Some, is_some, length, option_map};
 ghost use Rattle.zt_model.specs.Acts.{next_number, outbox_of};
 ghost use Rattle.zt_model.specs.Lists.{at_id, first_of};
 ghost use Rattle.zt_rows.specs.ById.{next_id};
 ghost use Rattle.zt_changes.specs.AskActs.{AreAsksNumbered};
-ghost use Rattle.zt_changes.specs.Asks.{ask_at, number_of_ask};
+ghost use Rattle.zt_changes.specs.Asks.{ask_at, ask_in, number_of_ask};
 ghost use Rattle.zt_grouped.specs.Waiting.{outbox_taken};
 ghost use Rattle.std.specs.Option.{option_copied};
 ghost use Rattle.zt_model.specs.Parts.{find_face};
 ghost use Rattle.std.specs.List.{list_any};
 ghost use Rattle.zt_model.specs.Trees.{is_own_row, is_routed_row, row_at};
 ghost use Rattle.zt_protocol.specs.Plain.{trees_of};
-ghost use Rattle.zt_faces.specs.Declaring.{SaysDeclared};
 ghost use Rattle.std.specs.List.{AllByRecursion};
 ghost use Rattle.std.specs.Prelude.{◌&&◌, map};
 ghost use Rattle.zt_rows.specs.Change.{plain_change};
@@ -27,7 +26,7 @@ use std::collections::VecDeque;
 use std::marker::Model;
 use zt_changes::{RegionTest, routed_stays};
 use zt_faces::Faces;
-use zt_grouped::{GroupedKeys, Outboxes};
+use zt_grouped::{GroupedCounts, GroupedKeys, Outboxes};
 use zt_keys::Key;
 use zt_ordered::OrderedRows;
 use zt_protocol::{Message, TreeTable};
@@ -39,7 +38,7 @@ use zt_rows::{AskRows, Change, FaceRow, FaceRows, KeyIds, SpareAsk, SpareFace};
 pub struct Tables<K: Key> {
     zid: Zid,
     mode: WhatAmI,
-    regions: Vec<Region>,
+    pub(crate) regions: Vec<Region>,
     admission: Admission,
     timeout: u64,
     pub(crate) moment: u64,
@@ -48,6 +47,8 @@ pub struct Tables<K: Key> {
     pub(crate) routed: GroupedKeys<(Region, Zid), K>,
     pub(crate) trees: OrderedRows<Region, TreeTable>,
     pub(crate) outboxes: Outboxes<K>,
+    // How many tokens of each expression the faces of each region declare.
+    pub(crate) tokens: GroupedCounts<Region, K>,
     pub(crate) alloc: Global,
     // Lists with room for the faces and the asks that a plan makes, the next one's first.
     pub(crate) spare_faces: VecDeque<SpareFace<K>>,
@@ -86,7 +87,7 @@ impl<K: Key> Model for Tables<K> {
 
     ghost view = { table_rows };
 
-    ghost invariant = { AreTables };
+    ghost invariant = { AreTables K.cmp };
 }
 
 impl<K: Key> Tables<K> {
@@ -129,6 +130,7 @@ impl<K: Key> Tables<K> {
             routed: GroupedKeys::new(alloc),
             trees: OrderedRows::new(alloc),
             outboxes: Outboxes::new(alloc),
+            tokens: GroupedCounts::new(alloc),
             alloc,
             spare_faces: VecDeque::new(alloc),
             spare_asks: VecDeque::new(alloc),
@@ -251,14 +253,6 @@ impl<K: Key> Tables<K> {
         self.trees.get(&region)
     }
 
-    // Whether a face of a region that passes the test declares the expression. A scan of the faces.
-    pub(crate) fn any_declared<F: Fn(&Region) -> bool>(&self, expr: &K, test: &F) -> bool
-        requires { F.IsAlwaysCallable test.now }
-        ensures { SaysDeclared (F.post test.now) K.cmp expr.now self.now.store.rows.faces result }
-    {
-        self.faces.any_declared(expr, test)
-    }
-
     // Whether another router's row of the expression stands in a region that passes the test. A scan of the routers.
     pub(crate) fn any_routed<F: Fn(&Region) -> bool>(&self, expr: &K, test: &F) -> bool
         requires { F.IsAlwaysCallable test.now }
@@ -278,13 +272,19 @@ impl<K: Key> Tables<K> {
             .any_group(expr, |group| is_left(group, own, changes, expr, test))
     }
 
-    // How many tokens of the expression faces of regions that pass declare. A scan of the faces.
+    // How many tokens of the expression faces of regions that pass declare. For one region no scan, else one of the
+    // regions.
     pub(crate) fn count_declared(&self, expr: &K, test: RegionTest) -> u128
         ensures count { result ≡ declared K.cmp expr.now (passes test) self.now.store.rows.faces }
         ensures most { result ≤ 340282366920938463426481119284349108225 }
     {
-        self.faces
-            .count_declared(expr, &|source: &Region| test.passes(*source))
+        match test {
+            RegionTest::Is(region) => u128::from(self.tokens.count(&region, expr)),
+            RegionTest::ShownTo(_) => {
+                self.tokens.rising();
+                self.tokens.sum_groups(expr, |source| test.passes(*source))
+            }
+        }
     }
 
     // The ask of a number, with what belongs to it.
@@ -304,9 +304,10 @@ impl<K: Key> Tables<K> {
         self.faces.asks_made() + 1
     }
 
-    /// The ask of the face under the id, by its number.
+    /// The ask of the face under the id, by its number; `None` exactly where the face has no ask under the id.
     pub fn ask_of(&self, f: u32, id: u32) -> Option<u64>
-        ensures { result ≡ number_of_ask (f, id) self.now.store.numbers }
+        ensures number { result ≡ number_of_ask (f, id) self.now.store.numbers }
+        ensures asked { is_some result ≡ is_some (ask_in (Some (f, id)) self.now.store.rows) }
     {
         self.faces.ask_of(f, id)
     }

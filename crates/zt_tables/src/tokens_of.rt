@@ -169,7 +169,8 @@ impl<K: Key> Tables<K> {
     }
 
     /// The expressions that have a live row in the region, in order of key: those that match `matching`, or all where
-    /// none is given. The only error is want of memory. A scan of the region's rows.
+    /// none is given. The only error is want of memory. A scan of the faces and of the routers, whose keys are collected
+    /// and sorted.
     pub fn tokens_of(
         &self,
         alloc: Global,

@@ -1,7 +1,7 @@
 use Rattle.std.proofs.Common.{refl, subst, sym}
 use Rattle.zt_model.specs.Acts.{AddAsk, Fits, acted, fits}
 use Rattle.zt_model.specs.Parts.{with_face}
-use Rattle.zt_changes.specs.AskActs.{numbered-acted}
+use Rattle.zt_tables.proofs.KeptActs.{kept-silent}
 use Rattle.zt_tables.specs.Fitting.{number-none}
 use Rattle.zt_tables.specs.View.{table_rows}
 use Rattle.zt_tables.specs.Serving.{served-same}
@@ -12,16 +12,16 @@ unfolding fits
 add_ask-requires-clause-new g c =
     let ask = c.args.ask in
     let fit = subst (λ t. Fits g.K.Ord.cmp g.K.Key.matching (AddAsk ask.face ask.id ask.ask.interest) t.store) (sym c.self.view_is) c.requires.fits in
-    number-none ask.face ask.id (table_rows c.self.inside).store c.self.invariant.asks_numbered fit
+    number-none ask.face ask.id (table_rows c.self.inside).store c.self.invariant.kept.numbered fit
 
 pub invariant_of-self : goal.invariant_of-self
 unfolding acted with_face
 invariant_of-self g c =
     let ask = c.args.ask in
     let fit = subst (λ t. Fits g.K.Ord.cmp g.K.Key.matching (AddAsk ask.face ask.id ask.ask.interest) t.store) (sym c.self.view_is) c.requires.fits in
-    let kept = numbered-acted g.K.Ord.cmp g.K.Key.matching (AddAsk ask.face ask.id ask.ask.interest) (table_rows c.self.inside).store c.self.invariant.asks_numbered fit in
-    let serves = served-same g.K.Ord.cmp g.K.Key.matching (AddAsk ask.face ask.id ask.ask.interest) (table_rows c.self.inside).store c.self.invariant.asks_numbered fit c.self.inside.faces.served c.self.invariant.served (λ p o. refl) in
-    record { counted = c.self.invariant.counted; dictionary = c.self.invariant.dictionary; asks_numbered = rw (c.add_ask.ensures.faces, c.requires.new) kept; served = rw (c.add_ask.ensures.faces, c.requires.new) serves }
+    let kept = kept-silent g.K.Ord.cmp g.K.Key.matching (AddAsk ask.face ask.id ask.ask.interest) (table_rows c.self.inside).store c.self.inside.tokens.counts c.self.invariant.kept fit (λ e test. refl) in
+    let serves = served-same g.K.Ord.cmp g.K.Key.matching (AddAsk ask.face ask.id ask.ask.interest) (table_rows c.self.inside).store c.self.invariant.kept.numbered fit c.self.inside.faces.served c.self.invariant.served (λ p o. refl) in
+    record { counted = c.self.invariant.counted; dictionary = c.self.invariant.dictionary; kept = rw (c.add_ask.ensures.faces, c.requires.new) kept; served = rw (c.add_ask.ensures.faces, c.requires.new) serves }
 
 pub returns-clause-store : goal.returns-clause-store
 unfolding acted with_face

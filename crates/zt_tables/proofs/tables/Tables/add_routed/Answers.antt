@@ -15,4 +15,4 @@ unfolding acted with_routed
 returns-clause-store g c = rw (← c.self.view_is, c.add.ensures.pairs, routed-added g.K.Ord.cmp g.K.Key.matching c.args.region c.args.source c.args.expr c.self.inside.routed.pairs) refl
 
 pub returns-clause-rooms : goal.returns-clause-rooms
-returns-clause-rooms g c = rw (← c.self.view_is) (record { faces = faces-same c.self.inside.faces.rooms; dictionary = omega arith; trees = omega arith; routed = λ group. c.add.ensures.rooms.at group; outboxes = λ n. omega arith; spare_faces = refl; spare_asks = refl })
+returns-clause-rooms g c = rw (← c.self.view_is) (record { faces = faces-same c.self.inside.faces.rooms; dictionary = omega arith; trees = omega arith; routed = λ group. c.add.ensures.rooms.at group; outboxes = λ n. omega arith; tokens = λ region. omega arith; spare_faces = refl; spare_asks = refl })

@@ -1,7 +1,7 @@
-use Rattle.std.proofs.Common.{not, subst, sym}
+use Rattle.std.proofs.Common.{not, subst, sym, refl}
 use Rattle.zt_model.specs.Acts.{Answered, Fits, fits}
 use Rattle.zt_model.specs.Lists.{at_id, is_among}
-use Rattle.zt_changes.specs.AskActs.{numbered-acted}
+use Rattle.zt_tables.proofs.KeptActs.{kept-silent}
 use Rattle.zt_tables.specs.Fitting.{answered-store, ask-passes}
 use Rattle.zt_tables.specs.View.{table_rows}
 use Rattle.std.proofs.Common.{refl}
@@ -17,9 +17,9 @@ answer-requires-clause-new g c =
 pub invariant_of-self : goal.invariant_of-self
 invariant_of-self g c =
     let fit = subst (λ t. Fits g.K.Ord.cmp g.K.Key.matching (Answered c.args.n c.args.expr) t.store) (sym c.self.view_is) c.requires.fits in
-    let kept = numbered-acted g.K.Ord.cmp g.K.Key.matching (Answered c.args.n c.args.expr) (table_rows c.self.inside).store c.self.invariant.asks_numbered fit in
-    let serves = served-same g.K.Ord.cmp g.K.Key.matching (Answered c.args.n c.args.expr) (table_rows c.self.inside).store c.self.invariant.asks_numbered fit c.self.inside.faces.served c.self.invariant.served (λ p o. refl) in
-    record { counted = c.self.invariant.counted; dictionary = c.self.invariant.dictionary; asks_numbered = rw (c.answer.ensures.faces, answered-store g.K.Ord.cmp g.K.Key.matching c.args.n c.args.expr (table_rows c.self.inside).store) kept; served = rw (c.answer.ensures.faces, answered-store g.K.Ord.cmp g.K.Key.matching c.args.n c.args.expr (table_rows c.self.inside).store) serves }
+    let kept = kept-silent g.K.Ord.cmp g.K.Key.matching (Answered c.args.n c.args.expr) (table_rows c.self.inside).store c.self.inside.tokens.counts c.self.invariant.kept fit (λ e test. refl) in
+    let serves = served-same g.K.Ord.cmp g.K.Key.matching (Answered c.args.n c.args.expr) (table_rows c.self.inside).store c.self.invariant.kept.numbered fit c.self.inside.faces.served c.self.invariant.served (λ p o. refl) in
+    record { counted = c.self.invariant.counted; dictionary = c.self.invariant.dictionary; kept = rw (c.answer.ensures.faces, answered-store g.K.Ord.cmp g.K.Key.matching c.args.n c.args.expr (table_rows c.self.inside).store) kept; served = rw (c.answer.ensures.faces, answered-store g.K.Ord.cmp g.K.Key.matching c.args.n c.args.expr (table_rows c.self.inside).store) serves }
 
 pub returns-clause-store : goal.returns-clause-store
 returns-clause-store g c = rw (← c.self.view_is, c.answer.ensures.faces) (answered-store g.K.Ord.cmp g.K.Key.matching c.args.n c.args.expr (table_rows c.self.inside).store)

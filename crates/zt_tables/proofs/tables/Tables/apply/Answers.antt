@@ -3,18 +3,26 @@ use Rattle.std.specs.Vec.Iter.{into_iter_items, into_iter_len}
 use Rattle.zt_model.specs.Acts.{Fit, acted_all}
 use Rattle.zt_rows.specs.Change.{plain_change}
 use Rattle.zt_tables.specs.HasRoom.{HasRoom}
+use Rattle.zt_tables.specs.Tokens.{tokens_added}
 use Rattle.zt_tables.proofs.RoomAfter.{room-less}
 use Rattle.zt_tables.proofs.tables.Tables.apply.Goals as goal
 
 pub loop-change-init : goal.loop-change-init
 loop-change-init g c =
     let s = c.args.self.now.store in
-    let whole : map plain_change (into_iter_items c.into_iter-rest.result) ≡ c.args.plan = ap (map plain_change) c.into_iter-rest.ensures.rest ∙ c.into_changes.ensures in
+    let whole : map plain_change (into_iter_items c.into_iter-rest.result) ≡ c.args.plan = ap (map plain_change) c.into_iter-rest.ensures.rest ∙ c.into_parts-changes.ensures.changes in
     record {
       fits = subst (λ acts. Fit g.K.Ord.cmp g.K.Key.matching acts s) (sym whole) c.requires.fits;
       room = subst (λ acts. HasRoom acts s c.args.self.now.rooms) (sym whole) c.requires.room;
+      tokens = c.into_iter-tokens.ensures.rest ∙ c.into_parts-changes.ensures.tokens ∙ ap tokens_added (sym whole);
       left = ap (λ acts. acted_all g.K.Ord.cmp g.K.Key.matching acts s) whole;
     }
+
+pub make-requires-clause-token : goal.make-requires-clause-token
+make-requires-clause-token g c =
+    let items : into_iter_items c.loop-change.rest ≡ c.in-Some.change ∷ into_iter_items c.next.new.self = rw c.in-Some.is at c.next.ensures.items in
+    let waiting = subst (λ changes. into_iter_items c.loop-change.tokens ≡ tokens_added (map plain_change changes)) items c.loop-change.invariant.tokens in
+    (c.next_token-token.ensures.taken (tokens_added (map plain_change (into_iter_items c.next.new.self))) waiting).0
 
 pub make-requires-clause-fits : goal.make-requires-clause-fits
 unfolding Fit
@@ -36,10 +44,12 @@ loop-change-preserved g c =
     let items : into_iter_items c.loop-change.rest ≡ c.in-Some.change ∷ into_iter_items c.next.new.self = rw c.in-Some.is at c.next.ensures.items in
     let fit = subst (λ changes. Fit g.K.Ord.cmp g.K.Key.matching (map plain_change changes) c.loop-change.self.store) items c.loop-change.invariant.fits in
     let room = subst (λ changes. HasRoom (map plain_change changes) c.loop-change.self.store c.loop-change.self.rooms) items c.loop-change.invariant.room in
+    let waiting = subst (λ changes. into_iter_items c.loop-change.tokens ≡ tokens_added (map plain_change changes)) items c.loop-change.invariant.tokens in
     let left = subst (λ changes. acted_all g.K.Ord.cmp g.K.Key.matching (map plain_change changes) c.loop-change.self.store ≡ acted_all g.K.Ord.cmp g.K.Key.matching c.args.plan c.args.self.now.store) items c.loop-change.invariant.left in
     record {
       fits = rw c.make.ensures.store fit.1;
       room = rw c.make.ensures.store (c.make.ensures.room.behind later room);
+      tokens = (c.next_token-token.ensures.taken (tokens_added later) waiting).1;
       left = rw c.make.ensures.store left;
     }
 

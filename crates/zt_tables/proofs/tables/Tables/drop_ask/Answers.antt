@@ -1,7 +1,7 @@
-use Rattle.std.proofs.Common.{subst, sym}
+use Rattle.std.proofs.Common.{subst, sym, refl}
 use Rattle.zt_model.specs.Acts.{DropAsk, Fits, fits}
 use Rattle.zt_model.specs.Lists.{at_id}
-use Rattle.zt_changes.specs.AskActs.{numbered-acted}
+use Rattle.zt_tables.proofs.KeptActs.{kept-silent}
 use Rattle.zt_tables.specs.Fitting.{ask-stands, dropped-store}
 use Rattle.zt_tables.specs.View.{table_rows}
 use Rattle.std.proofs.Common.{refl}
@@ -15,9 +15,9 @@ drop_ask-requires g c = ask-stands (at_id c.args.n c.self.inside.faces.numbers) 
 pub invariant_of-self : goal.invariant_of-self
 invariant_of-self g c =
     let fit = subst (λ t. Fits g.K.Ord.cmp g.K.Key.matching (DropAsk c.args.n) t.store) (sym c.self.view_is) c.requires in
-    let kept = numbered-acted g.K.Ord.cmp g.K.Key.matching (DropAsk c.args.n) (table_rows c.self.inside).store c.self.invariant.asks_numbered fit in
-    let serves = served-same g.K.Ord.cmp g.K.Key.matching (DropAsk c.args.n) (table_rows c.self.inside).store c.self.invariant.asks_numbered fit c.self.inside.faces.served c.self.invariant.served (λ p o. refl) in
-    record { counted = c.self.invariant.counted; dictionary = c.self.invariant.dictionary; asks_numbered = rw (c.drop_ask.ensures.faces, dropped-store g.K.Ord.cmp g.K.Key.matching c.args.n (table_rows c.self.inside).store) kept; served = rw (c.drop_ask.ensures.faces, dropped-store g.K.Ord.cmp g.K.Key.matching c.args.n (table_rows c.self.inside).store) serves }
+    let kept = kept-silent g.K.Ord.cmp g.K.Key.matching (DropAsk c.args.n) (table_rows c.self.inside).store c.self.inside.tokens.counts c.self.invariant.kept fit (λ e test. refl) in
+    let serves = served-same g.K.Ord.cmp g.K.Key.matching (DropAsk c.args.n) (table_rows c.self.inside).store c.self.invariant.kept.numbered fit c.self.inside.faces.served c.self.invariant.served (λ p o. refl) in
+    record { counted = c.self.invariant.counted; dictionary = c.self.invariant.dictionary; kept = rw (c.drop_ask.ensures.faces, dropped-store g.K.Ord.cmp g.K.Key.matching c.args.n (table_rows c.self.inside).store) kept; served = rw (c.drop_ask.ensures.faces, dropped-store g.K.Ord.cmp g.K.Key.matching c.args.n (table_rows c.self.inside).store) serves }
 
 pub returns-clause-store : goal.returns-clause-store
 returns-clause-store g c = rw (← c.self.view_is, c.drop_ask.ensures.faces) (dropped-store g.K.Ord.cmp g.K.Key.matching c.args.n (table_rows c.self.inside).store)

@@ -19,6 +19,7 @@ returns-clause-rooms g c =
       trees = omega arith;
       routed = λ group. no-more (is_eq (group_order group (c.args.region, c.args.source))) _ _ (c.remove.ensures.rooms.at group);
       outboxes = λ n. omega arith;
+      tokens = λ region. omega arith;
       spare_faces = refl;
       spare_asks = refl;
     })

@@ -6,8 +6,8 @@ use Rattle.zt_tables.proofs.MakeRoom.{answer-room, held-room, listed-room, live-
 use Rattle.zt_tables.proofs.RoomAfter.{close-leaves-room, drop-leaves-room, plain-leaves-room}
 use Rattle.zt_tables.proofs.tables.Tables.make.Goals as goal
 
-pub returns-in-AddLive-clause-room : goal.returns-in-AddLive-clause-room
-returns-in-AddLive-clause-room g c =
+pub returns-in-Some-clause-room : goal.returns-in-Some-clause-room
+returns-in-Some-clause-room g c =
     rw c.in-AddLive.is (plain-leaves-room g.K.Ord.cmp g.K.Key.matching c.args.self.now.store c.args.self.now.rooms c.add_live.new.self.rooms c.next_ask-numbered.ensures.numbered (AddLive c.in-AddLive.face c.in-AddLive.id c.in-AddLive.expr) c.add_live.ensures.rooms refl)
 
 pub returns-in-DropLive-clause-room : goal.returns-in-DropLive-clause-room

@@ -29,12 +29,16 @@ invariant_of-self g c =
     let rows = c.self.inside.dictionary.rows in
     let is : 1 + length rows ≡ c.len.result + 1 = omega (arith, c.len.ensures.len) in
     let most = leb-true (length (keys_by_id rows) + 1) 65535 (and_second _ _ fit) in
-    let ok = c.self.invariant.asks_numbered in
+    let kept = c.self.invariant.kept in
     let s = (table_rows c.self.inside).store in
     rw c.add.ensures.rows (record {
       counted = subst (λ n. IsCounted 1 (rows ++ (n, c.args.expr) ∷ [])) is (counted-more 1 c.args.expr rows c.self.invariant.counted);
       dictionary = omega (arith, most, keys-length rows, length-more (c.len.result + 1, c.args.expr) rows);
-      asks_numbered = record { in_order = ok.in_order; below = ok.below; stand = ok.stand; apart = ok.apart };
+      kept = record {
+        numbered = record { in_order = kept.numbered.in_order; below = kept.numbered.below; stand = kept.numbered.stand; apart = kept.numbered.apart; every = kept.numbered.every };
+        listed = record { at = kept.listed.at };
+        tokens = record { at = kept.tokens.at };
+      };
       served = served-too s (record s { rows = record s.rows { dictionary = keys_by_id (rows ++ (c.len.result + 1, c.args.expr) ∷ []) } }) refl refl refl c.self.inside.faces.served c.self.invariant.served;
     })
 

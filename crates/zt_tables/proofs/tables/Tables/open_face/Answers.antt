@@ -3,7 +3,7 @@ use Rattle.std.proofs.lemmas.Bool.{leb-true}
 use Rattle.zt_ordered.specs.Test.{and_second}
 use Rattle.zt_model.specs.Acts.{Fits, OpenFace, acted, fits}
 use Rattle.zt_model.specs.Rows.{Face}
-use Rattle.zt_changes.specs.AskActs.{numbered-acted}
+use Rattle.zt_tables.proofs.KeptActs.{kept-silent}
 use Rattle.zt_tables.specs.View.{table_rows}
 use Rattle.zt_tables.specs.Serving.{served-opened}
 use Rattle.zt_tables.proofs.tables.Tables.open_face.Goals as goal
@@ -23,9 +23,18 @@ unfolding acted
 invariant_of-self g c =
     let row = c.args.row in
     let fit = subst (λ t. Fits g.K.Ord.cmp g.K.Key.matching (OpenFace row.zid row.whatami row.region row.remote_bound row.first) t.store) (sym c.self.view_is) c.requires.fits in
-    let kept = numbered-acted g.K.Ord.cmp g.K.Key.matching (OpenFace row.zid row.whatami row.region row.remote_bound row.first) (table_rows c.self.inside).store c.self.invariant.asks_numbered fit in
-    let serves = served-opened g.K.Ord.cmp g.K.Key.matching (OpenFace row.zid row.whatami row.region row.remote_bound row.first) (table_rows c.self.inside).store c.self.invariant.asks_numbered fit c.self.inside.faces.served c.self.invariant.served (c.self.inside.faces.made + 1) (λ p o. refl) in
-    record { counted = c.self.invariant.counted; dictionary = c.self.invariant.dictionary; asks_numbered = rw (c.open.ensures.faces, c.requires.face, ← c.self.view_is) (record { in_order = kept.in_order; below = kept.below; stand = kept.stand; apart = kept.apart }); served = rw (c.open.ensures.faces, c.requires.served, c.requires.face, ← c.self.view_is) serves }
+    let kept = kept-silent g.K.Ord.cmp g.K.Key.matching (OpenFace row.zid row.whatami row.region row.remote_bound row.first) (table_rows c.self.inside).store c.self.inside.tokens.counts c.self.invariant.kept fit (λ e test. refl) in
+    let serves = served-opened g.K.Ord.cmp g.K.Key.matching (OpenFace row.zid row.whatami row.region row.remote_bound row.first) (table_rows c.self.inside).store c.self.invariant.kept.numbered fit c.self.inside.faces.served c.self.invariant.served (c.self.inside.faces.made + 1) (λ p o. refl) in
+    record {
+      counted = c.self.invariant.counted;
+      dictionary = c.self.invariant.dictionary;
+      kept = rw (c.open.ensures.faces, c.requires.face, ← c.self.view_is) (record {
+        numbered = record { in_order = kept.numbered.in_order; below = kept.numbered.below; stand = kept.numbered.stand; apart = kept.numbered.apart; every = kept.numbered.every };
+        listed = record { at = kept.listed.at };
+        tokens = record { at = kept.tokens.at };
+      });
+      served = rw (c.open.ensures.faces, c.requires.served, c.requires.face, ← c.self.view_is) serves;
+    }
 
 pub returns-clause-store : goal.returns-clause-store
 unfolding acted

@@ -1,5 +1,5 @@
-use Rattle.std.proofs.Common.{◌∙◌, rules, sym}
-use Rattle.zt_model.specs.Visible.{is_visible, shows}
+use Rattle.std.proofs.Common.{◌∙◌, sym}
+use Rattle.zt_model.specs.Visible.{is_visible}
 use Rattle.zt_tables.specs.Live.{region-known}
 use Rattle.zt_tables.proofs.tables.Tables.visible.Goals as goal
 
@@ -7,5 +7,5 @@ pub returns-in-Some : goal.returns-in-Some
 unfolding is_visible
 returns-in-Some g c =
     let own = c.in-Some.row.now.region in
-    c.any_live.ensures.at (λ source. shows own source) (λ r answer called. search rules)
+    c.any_live.ensures
     ∙ sym (region-known (λ region. is_visible g.K.Ord.cmp c.args.self.now.store.rows region c.args.expr.now) _ own c.in-Some.ensures.region)
