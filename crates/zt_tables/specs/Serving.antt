@@ -1,6 +1,6 @@
 -- What the row of each pending names is the ask that lists it, where that stands, and stays so.
 --     AreServed s served    so it is of each pending, by what its row names
-use Rattle.std.specs.Prelude.{◌≡◌, ◌≤◌, ℕ, Bool, ◌==◌, if◌then◌else◌, [], Option, Some, None, option_map, refl}
+use Rattle.std.specs.Prelude.{◌≡◌, ◌≤◌, ℕ, Bool, ◌==◌, [], Option, Some, None, option_map, refl}
 use Rattle.std.specs.FinMap.Entries.{put}
 use Rattle.std.specs.Option.{IfSome}
 use Rattle.std.specs.Ordering.{nat_cmp}

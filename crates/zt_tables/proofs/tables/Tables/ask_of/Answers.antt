@@ -1,5 +1,5 @@
 use Rattle.std.specs.Prelude.{is_some}
-use Rattle.std.proofs.Common.{◌∙◌, ap, rules}
+use Rattle.std.proofs.Common.{◌∙◌, ap}
 use Rattle.zt_changes.specs.AskActs.{numbered-there}
 use Rattle.zt_tables.specs.View.{table_rows}
 use Rattle.zt_tables.proofs.tables.Tables.ask_of.Goals as goal
