@@ -1,5 +1,5 @@
-//! Tokens that faces declare and are told, in plain Rust, as a measure for the program `zt_trial`, which does the same
-//! on the tables of `zt_tables`. It is no part of the gate.
+//! Tokens that faces declare and are told, and how many of each expression a region has, in plain Rust, as a measure for
+//! the program `zt_trial`, which does the same on the tables of `zt_tables`. It is no part of the gate.
 //!
 //!     rustc -O --edition 2021 -o tables bench/tables.rs
 //!     time ./tables one 100000 10             # on one face
@@ -7,11 +7,11 @@
 //!
 //! The last word is how many rounds of declaring, asking and dropping there are; the keys are made once, before them.
 //! Both programs print the same, and `zt_trial` is to take at most 1.5 times the processor time. Measured on a shared
-//! machine, milliseconds of user time with the making of the keys, the best of five for one round and of three for ten:
+//! machine, milliseconds of user time with the making of the keys, the best of three:
 //!
 //!                     one 100000    one 100000 10    many 10000 100000    many 10000 100000 10
-//!     HashMap                107              979                  147                    1398
-//!     zt_trial               131             1268                  189                    1697
+//!     HashMap                193             1651                  220                    2041
+//!     zt_trial               186             1763                  239                    2389
 
 use std::collections::HashMap;
 use std::env;
@@ -30,10 +30,18 @@ struct Token {
     key: Arc<str>,
 }
 
-type Faces = HashMap<u32, Face>;
+// The one region of the faces.
+const LOCAL: u8 = 0;
 
-fn declare(faces: &mut Faces, token: &Token) -> bool {
-    let Some(face) = faces.get_mut(&token.face) else {
+#[derive(Default)]
+struct Tables {
+    faces: HashMap<u32, Face>,
+    // How many tokens of each expression the faces of each region declare.
+    tokens: HashMap<u8, HashMap<Arc<str>, u64>>,
+}
+
+fn declare(tables: &mut Tables, token: &Token) -> bool {
+    let Some(face) = tables.faces.get_mut(&token.face) else {
         return false;
     };
     if face.next == u32::MAX
@@ -45,11 +53,13 @@ fn declare(faces: &mut Faces, token: &Token) -> bool {
     face.live.insert(token.id, token.key.clone());
     face.told.insert(token.key.clone(), face.next);
     face.next += 1;
+    let counts = tables.tokens.entry(LOCAL).or_default();
+    *counts.entry(token.key.clone()).or_insert(0) += 1;
     true
 }
 
-fn withdraw(faces: &mut Faces, token: &Token) -> bool {
-    let Some(face) = faces.get_mut(&token.face) else {
+fn withdraw(tables: &mut Tables, token: &Token) -> bool {
+    let Some(face) = tables.faces.get_mut(&token.face) else {
         return false;
     };
     if !face.live.contains_key(&token.id) || !face.told.contains_key(&token.key) {
@@ -57,16 +67,29 @@ fn withdraw(faces: &mut Faces, token: &Token) -> bool {
     }
     face.live.remove(&token.id);
     face.told.remove(&token.key);
+    if let Some(counts) = tables.tokens.get_mut(&LOCAL) {
+        if let Some(count) = counts.get_mut(&token.key) {
+            *count -= 1;
+            if *count == 0 {
+                counts.remove(&token.key);
+            }
+        }
+    }
     true
 }
 
-fn answers(faces: &Faces, token: &Token) -> u64 {
+fn answers(tables: &Tables, token: &Token) -> u64 {
     let mut sum = 0;
-    if let Some(key) = faces.get(&token.face).and_then(|face| face.live.get(&token.id)) {
+    let face = tables.faces.get(&token.face);
+    if let Some(key) = face.and_then(|face| face.live.get(&token.id)) {
         sum += key.len() as u64;
     }
-    if let Some(id) = faces.get(&token.face).and_then(|face| face.told.get(&token.key)) {
+    let face = tables.faces.get(&token.face);
+    if let Some(id) = face.and_then(|face| face.told.get(&token.key)) {
         sum += u64::from(*id);
+    }
+    if tables.tokens.get(&LOCAL).is_some_and(|counts| counts.contains_key(&token.key)) {
+        sum += 1;
     }
     sum
 }
@@ -84,17 +107,17 @@ fn main() {
     let tokens: Vec<Token> = (0..tokens)
         .map(|id| Token { face: id % count + 1, id, key: Arc::from(format!("t/{id}")) })
         .collect();
-    let mut faces: Faces = HashMap::new();
+    let mut tables = Tables::default();
     for number in 1..=count {
-        faces.insert(number, Face { next: 1, ..Face::default() });
+        tables.faces.insert(number, Face { next: 1, ..Face::default() });
     }
     let (mut declared, mut answered, mut dropped) = (0u64, 0u64, 0u64);
     for _ in 0..rounds {
-        declared += tokens.iter().filter(|token| declare(&mut faces, token)).count() as u64;
+        declared += tokens.iter().filter(|token| declare(&mut tables, token)).count() as u64;
         for token in &tokens {
-            answered += answers(&faces, token);
+            answered += answers(&tables, token);
         }
-        dropped += tokens.iter().filter(|token| withdraw(&mut faces, token)).count() as u64;
+        dropped += tokens.iter().filter(|token| withdraw(&mut tables, token)).count() as u64;
     }
     println!("declared {declared} answered {answered} dropped {dropped}");
 }

@@ -4,7 +4,7 @@ ghost use Rattle.std.specs.Prelude.{◌<◌};
 use crate::fitting::{declare, open, withdraw};
 use std::alloc::Global;
 use zt_keys::{Key, KeyError, KeyExpr, Memory};
-use zt_region::{Admission, WhatAmI, Zid};
+use zt_region::{Admission, Region, WhatAmI, Zid};
 use zt_tables::Tables;
 
 /// How many faces, how many tokens, and how often they are declared and dropped.
@@ -16,8 +16,8 @@ pub(crate) struct Task {
     ghost some: { 0 < faces },
 }
 
-/// How many tokens were declared and how many dropped, and beside them the sum of the ids told and of the lengths of
-/// the keys declared that were found between.
+/// How many tokens were declared and how many dropped, and beside them the sum of the ids told, of the lengths of the
+/// keys declared, and of the keys that the region had, as found between.
 #[derive(Clone, Copy)]
 pub(crate) struct Sums {
     pub(crate) declared: u64,
@@ -86,6 +86,9 @@ fn ask_each(tables: &Tables<KeyExpr>, tokens: &[Token]) -> u64 {
         }
         if let Some(id) = tables.told(token.face, &token.key) {
             sum = sum.wrapping_add(u64::from(id));
+        }
+        if tables.region_has(Region::Local, &token.key) {
+            sum = sum.wrapping_add(1);
         }
     }
     sum
