@@ -51,9 +51,9 @@ pub record ChangesGroup {K H X : Type 0} (cmp : K → K → Ordering) (key : K) 
 pub record SameGroups {K H X : Type 0} (cmp : K → K → Ordering) (old new : List (K × Table H X)) : Type 0 where
   pub at : (q : K) → rows_at cmp q new ≡ rows_at cmp q old
 
--- no group loses more than this much room
-pub record KeepsRoom {K H X : Type 0} (cmp : K → K → Ordering) (used : ℕ) (old new : List (K × Table H X)) : Type 0 where
-  pub at : (q : K) → room_at cmp q old ≤ room_at cmp q new + used
+-- the group of one key loses no more than this much room, and no other loses any
+pub record KeepsRoom {K H X : Type 0} (cmp : K → K → Ordering) (key : K) (used : ℕ) (old new : List (K × Table H X)) : Type 0 where
+  pub at : (q : K) → room_at cmp q old ≤ room_at cmp q new + (if same cmp q key then used else 0)
 
 -- a row that is put and taken, where none was
 without-put : {P X : Type 0} (cmp : P → P → Ordering) (o : IsTotalOrder cmp) (key : P) (value : X) (rows : List (P × X)) → is_sorted cmp rows ≡ true → row_at cmp key rows ≡ None → without cmp key (put cmp key value rows) ≡ rows
@@ -156,12 +156,13 @@ module _ {K H X : Type 0} (cmp : K → K → Ordering) (o : IsTotalOrder cmp) (k
       at = λ q. ap rows_in (find-written q group) ∙ by_test (same cmp q key) (λ t. rw t (is ∙ ap rows_in (sym found ∙ sym (find-there q t)))) (λ t. rw t refl);
     }
 
-    pub group-room : (used : ℕ) → room_in was ≤ group.room + used → KeepsRoom cmp used groups (put cmp key group groups)
+    pub group-room : (used : ℕ) → room_in was ≤ group.room + used → KeepsRoom cmp key used groups (put cmp key group groups)
     group-room used less = record {
       at = λ q. by_test (same cmp q key)
           (λ t.
           let new : room_at cmp q (put cmp key group groups) ≡ group.room = ap room_in (find-written q group) ∙ rw t refl in
           let old : room_at cmp q groups ≡ room_in was = ap room_in (find-there q t ∙ found) in
+          let given : (if same cmp q key then used else 0) ≡ used = rw t refl in
           omega arith)
           (λ t.
           let new : room_at cmp q (put cmp key group groups) ≡ room_at cmp q groups = ap room_in (find-written q group) ∙ rw t refl in

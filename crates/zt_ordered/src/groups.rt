@@ -57,7 +57,7 @@ impl<K: Ord + Eq + Hash + Drop, H: Ord + Drop, X: Drop> KeyGroups<K, H, X> {
         requires { 0 < room_at K.cmp key.now self.old.rows }
         ensures group { ChangesGroup K.cmp key.now (put H.cmp holder held) self.old.rows self.new.rows }
         ensures was { result ≡ find H.cmp holder (rows_at K.cmp key.now self.old.rows) }
-        ensures room { KeepsRoom K.cmp 1 self.old.rows self.new.rows }
+        ensures room { KeepsRoom K.cmp key.now 1 self.old.rows self.new.rows }
     {
         match self.groups.get_mut(key) {
             Some(group) => group.put(holder, held),
@@ -69,7 +69,7 @@ impl<K: Ord + Eq + Hash + Drop, H: Ord + Drop, X: Drop> KeyGroups<K, H, X> {
     pub fn remove(&mut self, key: &K, holder: &H) -> Option<X>
         ensures group { ChangesGroup K.cmp key.now (without H.cmp holder.now) self.old.rows self.new.rows }
         ensures taken { result ≡ find H.cmp holder.now (rows_at K.cmp key.now self.old.rows) }
-        ensures room { KeepsRoom K.cmp 0 self.old.rows self.new.rows }
+        ensures room { KeepsRoom K.cmp key.now 0 self.old.rows self.new.rows }
     {
         let group = self.groups.get_mut(key)?;
         group.take(holder)
@@ -80,7 +80,7 @@ impl<K: Ord + Eq + Hash + Drop, H: Ord + Drop, X: Drop> KeyGroups<K, H, X> {
     pub fn prepare(&mut self, alloc: Global, key: K, additional: usize) -> Result<(), AllocError>
         ensures groups { SameGroups K.cmp self.old.rows self.new.rows }
         ensures ok { OnOk result (additional ≤ room_at K.cmp key self.new.rows) }
-        ensures room { KeepsRoom K.cmp 0 self.old.rows self.new.rows }
+        ensures room { KeepsRoom K.cmp key 0 self.old.rows self.new.rows }
     {
         match self.groups.get_mut(&key) {
             Some(group) => group.reserve(additional),
