@@ -41,7 +41,8 @@ impl<K: Ord + Eq + Hash, H: Ord, X> KeyGroups<K, H, X> {
 
     /// The holders under the key, in order, with what they hold.
     pub fn rows(&self, key: &K) -> &[(H, X)]
-        ensures { result.now ≡ rows_at K.cmp key.now self.now.rows }
+        ensures rows { result.now ≡ rows_at K.cmp key.now self.now.rows }
+        ensures in_order { IsTrue (is_sorted H.cmp result.now) }
     {
         match self.groups.get(key) {
             Some(group) => group.as_slice(),

@@ -65,7 +65,8 @@ impl<P: Ord, X> SortedRows<P, X> {
 
     /// The rows, in the order of their keys.
     pub fn as_slice(&self) -> &[(P, X)]
-        ensures { result.now ≡ self.now.rows }
+        ensures rows { result.now ≡ self.now.rows }
+        ensures in_order { IsTrue (is_sorted P.cmp result.now) }
     {
         &self.rows
     }

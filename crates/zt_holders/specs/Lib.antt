@@ -1,0 +1,4 @@
+pub mod Buckets
+pub mod Finding
+pub mod Gathering
+pub mod Order

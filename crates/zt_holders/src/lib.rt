@@ -1,0 +1,12 @@
+//! Interests in tokens, found by the key of a token: in which bucket of an index an interest is kept, which buckets may
+//! have interests in a key, and the faces whose interests in a bucket are in it.
+//!
+//! An interest is kept under a number of its key, at the first anchor where the key has one (`Key::anchor`). Keys that
+//! match agree at each anchor, so a key with a number at each looks into four buckets and passes over all others.
+#![tactic(auto)]
+
+mod bucket;
+mod gather;
+
+pub use bucket::{Anchors, Bucket, anchors_of, bucket_of};
+pub use gather::{gather_faces, gather_looked_for};
