@@ -1,3 +1,4 @@
+pub mod Folds
 pub mod Passing
 pub mod Pieces
 pub mod Scan

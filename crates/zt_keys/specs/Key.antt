@@ -1,5 +1,5 @@
 -- What holds of every type of keys.
-use Rattle.std.specs.Prelude.{◌≡◌, ◌≢◌, ℕ, Bool, true, false, ◌||◌, List, [], Result, Ok, Err, ◌==◌, MatchResult}
+use Rattle.std.specs.Prelude.{◌≡◌, ◌≢◌, ℕ, Bool, true, false, ◌||◌, List, [], Option, Some, Result, Ok, Err, ◌==◌, MatchResult}
 use Rattle.std.specs.List.{All}
 use Rattle.std.specs.Str.{IsUtf8}
 use Rattle.std.specs.declared.cmp.Ordering.{Ordering}
@@ -7,6 +7,7 @@ use Rattle.std.specs.declared.cmp.Ordering.TheVariants.{Equal}
 use Rattle.std.proofs.Common.{sym, ap, ◌∙◌, get_or}
 use Rattle.std.proofs.lemmas.Bool.{false≢true, eqb-true}
 use Rattle.zt_keys.specs.Test.{by_test}
+use Rattle.zt_keys.specs.declared.anchor.Anchor.{Anchor}
 use Rattle.zt_keys.specs.declared.error.KeyError.{KeyError}
 use Rattle.zt_keys.specs.declared.error.KeyError.TheVariants.{Memory}
 
@@ -18,8 +19,8 @@ is_blank b = b == 32 || b == 9 || b == 10 || b == 13
 abbrev pub Reads : {K : Type 0} → Result K KeyError → Result K KeyError → Type 0
 Reads answer result = MatchResult result (λ key. answer ≡ Ok key) (λ error. error ≢ Memory → answer ≡ Err error)
 
--- the laws of keys: `cmp` is the order, `matching` says whether two keys match, `reading` what a text is read as, and `printed` the bytes of a key's text
-pub record KeyLaws {K : Type 0} (cmp : K → K → Ordering) (matching : K → K → Bool) (reading : List ℕ → Result K KeyError) (printed : K → List ℕ) : Type 0 where
+-- the laws of keys: `cmp` is the order, `matching` says whether two keys match, `reading` what a text is read as, `printed` the bytes of a key's text, and `anchored` the number that a key has at an anchor
+pub record KeyLaws {K : Type 0} (cmp : K → K → Ordering) (matching : K → K → Bool) (reading : List ℕ → Result K KeyError) (printed : K → List ℕ) (anchored : Anchor → K → Option ℕ) : Type 0 where
   -- keys that compare equal are the same value
   pub equal_is_same : (a b : K) → cmp a b ≡ Equal → a ≡ b
   pub reads_back : (key : K) → reading (printed key) ≡ Ok key
@@ -30,6 +31,8 @@ pub record KeyLaws {K : Type 0} (cmp : K → K → Ordering) (matching : K → K
   pub prints_utf8 : (key : K) → IsUtf8 (printed key)
   pub matches_itself : (key : K) → matching key key ≡ true
   pub matches_back : (a b : K) → matching a b ≡ matching b a
+  -- keys that match have the same number at an anchor where both have one
+  pub anchors_agree : (at : Anchor) (a b : K) (m n : ℕ) → matching a b ≡ true → anchored at a ≡ Some m → anchored at b ≡ Some n → m ≡ n
 
 -- a key is read from its printed text alone. No law of keys: a type of keys may normalise what it reads
 abbrev pub OneSpelling : {K : Type 0} → (List ℕ → Result K KeyError) → (K → List ℕ) → Type 0

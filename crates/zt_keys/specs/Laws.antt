@@ -1,15 +1,14 @@
 -- The laws of keys, for key expressions.
-use Rattle.std.specs.Prelude.{◌≡◌, ◌≢◌, ℕ, ◌+◌, Bool, true, false, ◌||◌, ◌==◌, List, [], ◌∷◌, length, Option, Some, None, Ok, Err, refl, is_none, unwrap_or, IsTrue}
+use Rattle.std.specs.Prelude.{◌≡◌, ◌≢◌, ℕ, ◌+◌, Bool, true, false, List, [], ◌∷◌, length, Option, Some, None, Ok, Err, refl, is_none, unwrap_or, IsTrue}
 use Rattle.std.specs.Ordering.{nat_cmp, is_eq}
 use Rattle.std.specs.declared.cmp.Ordering.TheVariants.{Equal}
 use Rattle.std.specs.Cmp.Lexicographic.{slice_cmp, same_text, texts_ties}
-use Rattle.std.specs.List.{All, list_all, list_any, onto_first}
+use Rattle.std.specs.List.{All, list_all, list_any}
 use Rattle.std.specs.Str.{IsUtf8, is_utf8}
-use Rattle.std.proofs.Common.{ap, sym, ◌∙◌, arith, eqb, get_or, ◌<◌}
+use Rattle.std.proofs.Common.{ap, sym, ◌∙◌, arith, get_or, ◌<◌}
 use Rattle.std.proofs.lemmas.Bool.Decides.{nat_tests}
 use Rattle.std.proofs.lemmas.List.Recursion.{or_at}
-use Rattle.std.proofs.lemmas.List.Splits.{slice_split-cons_yes, slice_split-cons_no}
-use Rattle.std.proofs.lemmas.Bool.{false≢true, eqb-true}
+use Rattle.std.proofs.lemmas.Bool.{false≢true}
 use Rattle.std.proofs.lemmas.Str.{IsUtf8-from_is_utf8, is_utf8-from_IsUtf8}
 use Rattle.zt_keys.specs.Chunks.{refusal, chunks, bad_or, first_bad, first_loose, is_good_chunk, is_forbidden, is_empty}
 use Rattle.zt_keys.specs.Expression.{Expression, bytes_of, make, is_expression, expression_if, reading, same_expression}
@@ -17,6 +16,8 @@ use Rattle.zt_keys.specs.Matching.{matching, parts}
 use Rattle.zt_keys.specs.Test.{by_test}
 use Rattle.zt_keys.specs.Meet.{parts_match-sym, parts_match-itself}
 use Rattle.zt_keys.specs.Key.{KeyLaws, OneSpelling, is_blank}
+use Rattle.zt_keys.specs.Anchors.{anchored}
+use Rattle.zt_keys.specs.AnchorLaws.{any-chunks, anchors_agree}
 use Rattle.zt_keys.specs.declared.error.KeyError.{KeyError}
 use Rattle.zt_keys.specs.declared.error.KeyError.TheVariants.{Empty, Memory}
 
@@ -124,9 +125,6 @@ good-refusal (b ∷ text) h = good-first_bad 0 (chunks (b ∷ text)) (bad_or-non
 pub good_chunks : (text : List ℕ) → IsTrue (is_expression text) → list_all is_good_chunk (chunks text) ≡ true
 good_chunks text h = good-refusal text (valid_refusal text h)
 
-abbrev is_slash : ℕ → Bool
-is_slash b = b == 47
-
 good-chunk : (part : List ℕ) → is_good_chunk part ≡ true → list_any is_forbidden part ≡ false
 good-chunk part h =
     by_test (list_any is_forbidden part)
@@ -139,17 +137,6 @@ good-no_forbidden (part ∷ parts) h =
     by_test (is_good_chunk part)
     (λ e. rw (good-chunk part e) (good-no_forbidden parts (rw e at h)))
     (λ e. absurd (false≢true (rw e at h)))
-
-any-onto_first : (p : ℕ → Bool) (b : ℕ) (parts : List (List ℕ)) → list_any (list_any p) (onto_first b parts) ≡ (p b || list_any (list_any p) parts)
-any-onto_first p b [] = by_test (p b) (λ e. rw e refl) (λ e. rw e refl)
-any-onto_first p b (part ∷ parts) = by_test (p b) (λ e. rw e refl) (λ e. rw e refl)
-
-any-chunks : (p : ℕ → Bool) → p 47 ≡ false → (text : List ℕ) → list_any (list_any p) (chunks text) ≡ list_any p text
-any-chunks p h [] = refl
-any-chunks p h (b ∷ text) =
-    by_test (eqb b 47)
-    (λ e. let f : p b ≡ false = rw (eqb-true b 47 e) h in rw (slice_split-cons_yes is_slash b text e, f) (any-chunks p h text))
-    (λ e. rw (slice_split-cons_no is_slash b text e, any-onto_first p b (chunks text)) (ap (λ t. p b || t) (any-chunks p h text)))
 
 forbidden_slash : is_forbidden 47 ≡ false
 unfolding is_forbidden
@@ -176,7 +163,7 @@ pub matches_back : (a b : Expression) → matching a b ≡ matching b a
 unfolding matching
 matches_back a b = parts_match-sym (parts a.bytes) (parts b.bytes)
 
-pub expression_laws : KeyLaws (λ a b. slice_cmp nat_cmp a.bytes b.bytes) matching reading (λ key. key.bytes)
+pub expression_laws : KeyLaws (λ a b. slice_cmp nat_cmp a.bytes b.bytes) matching reading (λ key. key.bytes) anchored
 expression_laws = record {
   equal_is_same = equal_is_same;
   reads_back = reads_back;
@@ -186,4 +173,5 @@ expression_laws = record {
   prints_utf8 = prints_utf8;
   matches_itself = matches_itself;
   matches_back = matches_back;
+  anchors_agree = anchors_agree;
 }

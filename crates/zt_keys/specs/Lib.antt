@@ -1,3 +1,5 @@
+pub mod AnchorLaws
+pub mod Anchors
 pub mod Chunks
 pub mod Expression
 pub mod Key

@@ -11,11 +11,14 @@ ghost use Rattle.zt_keys.specs.Key.{Reads};
 ghost use Rattle.zt_keys.specs.Expression.{Expression, expression_code, is_expression, reading, bytes_of};
 ghost use Rattle.zt_keys.specs.Chunks.{chunks, refusal};
 ghost use Rattle.zt_keys.specs.Matching.{matching, Intersect};
+ghost use Rattle.zt_keys.specs.Anchors.{anchored};
 ghost use Rattle.zt_keys.specs.Laws.{expression_laws};
 
+use crate::anchor::Anchor;
 use crate::check::check;
 use crate::error::{KeyError, Memory};
 use crate::key::Key;
+use crate::numbers::{first_chunk, last_chunk, number_of};
 use crate::walk::texts_match;
 use std::alloc::Global;
 use std::cmp::Ordering;
@@ -104,6 +107,8 @@ impl Key for KeyExpr {
 
     ghost printed = { λ key. key.bytes };
 
+    ghost anchored = { anchored };
+
     /// Whether some plain list of chunks is a member of both. The two texts are walked together, and the number of chunks that
     /// are looked at is at most a fixed multiple of the product of the two numbers of chunks, however many `**` there are.
     fn matches(&self, other: &KeyExpr) -> bool
@@ -111,6 +116,17 @@ impl Key for KeyExpr {
         ensures member { IsTrue result ↔ Intersect (chunks self.now.bytes) (chunks other.now.bytes) }
     {
         texts_match(self.text().as_bytes(), other.text().as_bytes())
+    }
+
+    /// A number of the whole text, of its first chunk or of its last, where no `*` stands there. Only those bytes are read.
+    #[tactic(auto, unfolding(crate::specs::Anchors::anchored))]
+    fn anchor(&self, at: Anchor) -> Option<u64> {
+        let text = self.text().as_bytes();
+        match at {
+            Anchor::Whole => number_of(text),
+            Anchor::First => number_of(first_chunk(text)),
+            Anchor::Last => number_of(last_chunk(text)),
+        }
     }
 
     /// Refuses a text by the first rule that it breaks: `Empty` for the empty text, else `BadChunk` with the place of the first

@@ -1,8 +1,10 @@
 // The trait of keys.
-ghost use Rattle.std.specs.Prelude.{◌≡◌, ℕ, Bool, List, ◌++◌, Result, IfOk, is_ok, if◌then◌else◌, string_bytes};
+ghost use Rattle.std.specs.Prelude.{◌≡◌, ℕ, Bool, List, ◌++◌, Option, Result, IfOk, is_ok, if◌then◌else◌, string_bytes};
+ghost use Rattle.zt_keys.specs.declared.anchor.Anchor.{Anchor};
 ghost use Rattle.zt_keys.specs.declared.error.KeyError.{KeyError};
 ghost use Rattle.zt_keys.specs.Key.{KeyLaws, Reads};
 
+use crate::anchor::Anchor;
 use crate::error::{KeyError, Memory};
 use std::alloc::Global;
 use std::hash::Hash;
@@ -18,9 +20,17 @@ pub trait Key: Ord + Eq + Hash + Drop + Sized {
     /// The bytes of a key's text.
     ghost printed: { Self → List ℕ };
 
+    /// The number that a key has at an anchor, if it has one there.
+    ghost anchored: { Anchor → Self → Option ℕ };
+
     /// Whether the two keys match: a relation of the keys alone, reflexive and symmetric. Takes no memory.
     fn matches(&self, other: &Self) -> bool
         ensures { result ≡ matching self.now other.now };
+
+    /// A number of the key at the anchor, or `None`. Two keys that match and both have one there have the same one, so that
+    /// keys with another number need not be tried. Takes no memory.
+    fn anchor(&self, at: Anchor) -> Option<u64>
+        ensures { result ≡ anchored at self.now };
 
     /// The key that the text spells. The answer is a function of the text, unless memory runs out.
     fn read(alloc: Global, text: &str) -> Result<Self, KeyError>
@@ -45,7 +55,7 @@ pub trait Key: Ord + Eq + Hash + Drop + Sized {
     fn copy(&self, alloc: Global) -> Result<Self, Memory>
         ensures { IfOk result (λ key. key ≡ self.now) };
 
-    /// Equal keys are the same value, a key's text is read as the key and has no blank, and matching is reflexive and
-    /// symmetric. That order, equality and hash agree is said by the laws of `Ord`, `Eq` and `Hash`.
-    ghost laws: { KeyLaws Self.cmp matching reading printed };
+    /// Equal keys are the same value, a key's text is read as the key and has no blank, matching is reflexive and
+    /// symmetric, and keys that match have the same number at an anchor where both have one. That order, equality and hash agree is said by the laws of `Ord`, `Eq` and `Hash`.
+    ghost laws: { KeyLaws Self.cmp matching reading printed anchored };
 }

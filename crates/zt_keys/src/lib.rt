@@ -1,15 +1,18 @@
 //! Keys: the trait that every type of keys meets, with its laws, and Zenoh's key expressions.
 #![tactic(auto)]
 
+mod anchor;
 mod check;
 mod error;
 mod expr;
 mod key;
+mod numbers;
 mod spelling;
 #[cfg(test)]
 mod tests;
 mod walk;
 
+pub use anchor::Anchor;
 pub use error::{KeyError, Memory};
 pub use expr::KeyExpr;
 pub use key::Key;

@@ -1,0 +1,111 @@
+-- What the loops over a text keep that find its number, its first chunk and its last chunk.
+use Rattle.std.proofs.Common.{◌≡◌, ℕ, ◌+◌, ◌-◌, ◌<◌, ◌≤◌, Bool, true, false, cond, List, [], ◌∷◌, ◌++◌, Some, None, length, take, drop, get_or, refl, sym, ap, ◌∙◌, eqb, arith, append_assoc, add-one}
+use Rattle.std.specs.List.{list_any, onto_first}
+use Rattle.std.proofs.Math.Seq.{take-suc}
+use Rattle.std.proofs.lemmas.Bool.{false≢true}
+use Rattle.std.proofs.lemmas.List.{append-nil, take_all, length-drop, at_drop_more, at_drop_all, take-append-drop}
+use Rattle.std.proofs.lemmas.List.Splits.{slice_split-cons_yes, slice_split-cons_no}
+use Rattle.zt_keys.specs.Test.{by_test}
+use Rattle.zt_keys.specs.Chunks.{chunks, is_star}
+use Rattle.zt_keys.specs.Anchors.{with_byte, spread, number_from, first_chunk, last_chunk, last_from}
+
+abbrev pub is_slash : ℕ → Bool
+is_slash b = eqb b 47
+
+-- the number of a text
+
+pub number-star : (text : List ℕ) (hash place : ℕ) → place < length text → is_star (get_or text place 0) ≡ true → number_from hash (drop place text) ≡ None
+number-star text hash place h e =
+    at_drop_more (number_from hash) text place 0 h ∙ ap (λ t. cond t None (number_from (with_byte hash (get_or text place 0)) (drop (place + 1) text))) e
+
+pub number-more : (text : List ℕ) (hash place : ℕ) → place < length text → is_star (get_or text place 0) ≡ false → number_from hash (drop place text) ≡ number_from (with_byte hash (get_or text place 0)) (drop (place + 1) text)
+number-more text hash place h e =
+    at_drop_more (number_from hash) text place 0 h ∙ ap (λ t. cond t None (number_from (with_byte hash (get_or text place 0)) (drop (place + 1) text))) e
+
+pub number-end : (text : List ℕ) (hash place : ℕ) → length text ≤ place → number_from hash (drop place text) ≡ Some (spread hash)
+number-end text hash place h = at_drop_all (number_from hash) text place h
+
+-- its first chunk
+
+abbrev first_of : List ℕ → List ℕ
+first_of text = first_chunk (chunks text)
+
+first-onto_first : (b : ℕ) (parts : List (List ℕ)) → first_chunk (onto_first b parts) ≡ b ∷ first_chunk parts
+first-onto_first b [] = refl
+first-onto_first b (part ∷ parts) = refl
+
+first-slash : (b : ℕ) (text : List ℕ) → is_slash b ≡ true → first_of (b ∷ text) ≡ []
+first-slash b text e = ap first_chunk (slice_split-cons_yes is_slash b text e)
+
+first-other : (b : ℕ) (text : List ℕ) → is_slash b ≡ false → first_of (b ∷ text) ≡ b ∷ first_of text
+first-other b text e = ap first_chunk (slice_split-cons_no is_slash b text e) ∙ first-onto_first b (chunks text)
+
+-- the bytes so far begin the first chunk
+abbrev pub Begins : List ℕ → ℕ → Type 0
+Begins text place = first_chunk (chunks text) ≡ take place text ++ first_chunk (chunks (drop place text))
+
+pub begins-more : (text : List ℕ) (place : ℕ) → place < length text → is_slash (get_or text place 0) ≡ false → Begins text place → Begins text (place + 1)
+begins-more text place h e says =
+    let b = get_or text place 0 in
+    let rest = first_of (drop (place + 1) text) in
+    let next : first_of (drop place text) ≡ b ∷ rest = at_drop_more first_of text place 0 h ∙ first-other b (drop (place + 1) text) e in
+    let grown : take (place + 1) text ≡ take place text ++ (b ∷ []) = rw add-one (take-suc text place 0 h) in
+    says ∙ ap (λ t. take place text ++ t) next ∙ sym (append_assoc (take place text) (b ∷ []) rest) ∙ ap (λ t. t ++ rest) (sym grown)
+
+pub begins-slash : (text : List ℕ) (place : ℕ) → place < length text → is_slash (get_or text place 0) ≡ true → Begins text place → take place text ≡ first_chunk (chunks text)
+begins-slash text place h e says =
+    let next : first_of (drop place text) ≡ [] = at_drop_more first_of text place 0 h ∙ first-slash (get_or text place 0) (drop (place + 1) text) e in
+    sym (says ∙ ap (λ t. take place text ++ t) next ∙ append-nil (take place text))
+
+pub begins-end : (text : List ℕ) (place : ℕ) → length text ≤ place → Begins text place → text ≡ first_chunk (chunks text)
+begins-end text place h says =
+    let next : first_of (drop place text) ≡ [] = at_drop_all first_of text place h in
+    let none : drop place text ≡ [] = at_drop_all (λ t. t) text place h in
+    sym (says ∙ ap (λ t. take place text ++ t) (next ∙ sym none) ∙ take-append-drop place text)
+
+-- its last chunk
+
+abbrev slashless : List ℕ → Type 0
+slashless text = list_any is_slash text ≡ false
+
+chunks-slashless : (text : List ℕ) → slashless text → chunks text ≡ text ∷ []
+chunks-slashless [] h = refl
+chunks-slashless (b ∷ text) h =
+    by_test (is_slash b)
+    (λ e. absurd (false≢true (sym (rw e at h))))
+    (λ e. slice_split-cons_no is_slash b text e ∙ ap (onto_first b) (chunks-slashless text (rw e at h)))
+
+-- some chunk, then others, of which the last is `ys`
+record Before (parts : List (List ℕ)) (ys : List ℕ) : Type 0 where
+  head : List ℕ
+  next : List ℕ
+  tail : List (List ℕ)
+  is : parts ≡ head ∷ next ∷ tail
+  last : last_from next tail ≡ ys
+
+before : (xs ys : List ℕ) (b : ℕ) → is_slash b ≡ true → slashless ys → Before (chunks (xs ++ b ∷ ys)) ys
+before [] ys b e h = record { head = []; next = ys; tail = []; is = slice_split-cons_yes is_slash b ys e ∙ ap (λ t. [] ∷ t) (chunks-slashless ys h); last = refl }
+before (x ∷ xs) ys b e h =
+    let w = before xs ys b e h in
+    by_test (is_slash x)
+    (λ f. record { head = []; next = w.head; tail = w.next ∷ w.tail; is = slice_split-cons_yes is_slash x (xs ++ b ∷ ys) f ∙ ap (λ t. [] ∷ t) w.is; last = w.last })
+    (λ f. record { head = x ∷ w.head; next = w.next; tail = w.tail; is = slice_split-cons_no is_slash x (xs ++ b ∷ ys) f ∙ ap (onto_first x) w.is; last = w.last })
+
+-- as the code takes them, from the start to the text's end
+rest-all : (text : List ℕ) (start : ℕ) → take (length text - start) (drop start text) ≡ drop start text
+rest-all text start = let h = length-drop start text in take_all (length text - start) (drop start text) (omega (arith, h))
+
+pub ends-start : (text : List ℕ) (start : ℕ) → start ≤ 0 → list_any is_slash (drop start text) ≡ false → take (length text - start) (drop start text) ≡ last_chunk (chunks text)
+ends-start text start h says =
+    let e : start ≡ 0 = omega arith in
+    let all : slashless text = rw e at says in
+    rest-all text start ∙ ap (λ n. drop n text) e ∙ sym (ap last_chunk (chunks-slashless text all))
+
+pub ends-slash : (text : List ℕ) (start : ℕ) → 0 < start → start ≤ length text → is_slash (get_or text (start - 1) 0) ≡ true → list_any is_slash (drop start text) ≡ false → take (length text - start) (drop start text) ≡ last_chunk (chunks text)
+ends-slash text start h g e says =
+    let within : start - 1 < length text = omega arith in
+    let same : start - 1 + 1 ≡ start = omega arith in
+    let w = before (take (start - 1) text) (drop start text) (get_or text (start - 1) 0) e says in
+    let split : take (start - 1) text ++ get_or text (start - 1) 0 ∷ drop start text ≡ text =
+    ap (λ n. take (start - 1) text ++ get_or text (start - 1) 0 ∷ drop n text) (sym same) ∙ sym (at_drop_more (λ t. take (start - 1) text ++ t) text (start - 1) 0 within) ∙ take-append-drop (start - 1) text in
+    rest-all text start ∙ sym (ap (λ t. last_chunk (chunks t)) (sym split) ∙ ap last_chunk w.is ∙ w.last)

@@ -1,0 +1,47 @@
+-- The numbers by which key expressions are told apart.
+use Rattle.std.specs.Prelude.{ℕ, ◌*◌, ◌/◌, ◌%◌, ◌^◌, List, [], ◌∷◌, Option, Some, None, cond, bit_xor}
+use Rattle.zt_keys.specs.declared.anchor.Anchor.{Anchor}
+use Rattle.zt_keys.specs.declared.anchor.Anchor.TheVariants.{Whole, First, Last}
+use Rattle.zt_keys.specs.Chunks.{chunks, is_star}
+use Rattle.zt_keys.specs.Expression.{Expression}
+
+-- the hash of no byte
+abbrev pub seed : ℕ
+seed = 0xCBF2_9CE4_8422_2325
+
+-- the hash of the bytes so far and of one more
+unfoldable pub with_byte : ℕ → ℕ → ℕ
+with_byte hash byte = (bit_xor hash byte * 0x9E37_79B9_7F4A_7C15) % 2 ^ 64
+
+-- the high half folded into the low one
+unfoldable pub spread : ℕ → ℕ
+spread hash = bit_xor hash (hash / 2 ^ 32)
+
+-- the number of a text that goes on with these bytes, or `None` where one of them is `*`
+abbrev pub number_from : ℕ → List ℕ → Option ℕ
+number_from hash [] = Some (spread hash)
+number_from hash (byte ∷ bytes) = cond (is_star byte) None (number_from (with_byte hash byte) bytes)
+
+-- a number of a text, or `None` where it has a `*`
+abbrev pub number_of : List ℕ → Option ℕ
+number_of text = number_from seed text
+
+-- the first of these chunks
+abbrev pub first_chunk : List (List ℕ) → List ℕ
+first_chunk [] = []
+first_chunk (chunk ∷ rest) = chunk
+
+abbrev pub last_from : List ℕ → List (List ℕ) → List ℕ
+last_from chunk [] = chunk
+last_from chunk (next ∷ rest) = last_from next rest
+
+-- the last of these chunks
+abbrev pub last_chunk : List (List ℕ) → List ℕ
+last_chunk [] = []
+last_chunk (chunk ∷ rest) = last_from chunk rest
+
+-- the number that a key expression has at an anchor: that of all its text, of its first chunk or of its last chunk, unless a `*` stands there
+unfoldable pub anchored : Anchor → Expression → Option ℕ
+anchored Whole key = number_of key.bytes
+anchored First key = number_of (first_chunk (chunks key.bytes))
+anchored Last key = number_of (last_chunk (chunks key.bytes))

@@ -1,0 +1,61 @@
+// The numbers of texts, by which keys are told apart.
+ghost use Rattle.std.specs.Prelude.{◌≡◌};
+ghost use Rattle.zt_keys.specs.Chunks.{chunks};
+ghost use Rattle.zt_keys.specs.Anchors.{with_byte, spread, number_of, first_chunk, last_chunk};
+
+const SEED: u64 = 0xCBF2_9CE4_8422_2325;
+
+const FACTOR: u64 = 0x9E37_79B9_7F4A_7C15;
+
+// The hash of the bytes so far and of one more.
+#[tactic(auto, unfolding(crate::specs::Anchors::with_byte))]
+fn with_byte(hash: u64, byte: u8) -> u64
+    ensures { result ≡ with_byte hash byte }
+{
+    (hash ^ u64::from(byte)).wrapping_mul(FACTOR)
+}
+
+// The factor carries each bit upwards only, so the high half is folded into the low one.
+#[tactic(auto, unfolding(crate::specs::Anchors::spread))]
+fn spread(hash: u64) -> u64
+    ensures { result ≡ spread hash }
+{
+    hash ^ (hash >> 32)
+}
+
+// A number of the text, or `None` if it has a `*`.
+pub(crate) fn number_of(text: &[u8]) -> Option<u64>
+    ensures { result ≡ number_of text.now }
+{
+    let mut hash = SEED;
+    for byte in text {
+        if *byte == b'*' {
+            return None;
+        }
+        hash = with_byte(hash, *byte);
+    }
+    Some(spread(hash))
+}
+
+// The text's first chunk. Nothing behind it is read.
+pub(crate) fn first_chunk(text: &[u8]) -> &[u8]
+    ensures { result.now ≡ first_chunk (chunks text.now) }
+{
+    for (place, byte) in text.iter().enumerate() {
+        if *byte == b'/' {
+            return &text[..place];
+        }
+    }
+    text
+}
+
+// The text's last chunk. Nothing before it is read.
+pub(crate) fn last_chunk(text: &[u8]) -> &[u8]
+    ensures { result.now ≡ last_chunk (chunks text.now) }
+{
+    let mut start = text.len();
+    while start > 0 && text[start - 1] != b'/' {
+        start -= 1;
+    }
+    &text[start..]
+}
