@@ -18,11 +18,10 @@ use Rattle.zt_ordered.specs.Rows.{same}
 use Rattle.zt_ordered.specs.Table.{Table}
 use Rattle.zt_ordered.specs.Test.{and_both, and_first, and_second, by_test, is_eq-Equal}
 use Rattle.zt_model.specs.Wants.{is_about}
-use Rattle.zt_rows.specs.Passing.{one-number}
 use Rattle.zt_keys.specs.declared.anchor.Anchor.TheVariants.{Whole, First, Last}
 use Rattle.zt_holders.specs.Buckets.{IsLookedFor}
-use Rattle.zt_holders.specs.Gathering.{GathersAll, asks_from, has_face, holds_in, holds_under}
-use Rattle.zt_holders.specs.Order.{bucket_cmp, place_cmp}
+use Rattle.zt_holders.specs.Gathering.{Gathers, GathersAll, asks_from, has_face, holds_in, holds_under}
+use Rattle.zt_holders.specs.Order.{bucket_cmp, place-one, place_cmp}
 use Rattle.zt_holders.specs.declared.bucket.Anchors.{Anchors}
 use Rattle.zt_holders.specs.declared.bucket.Bucket.{Bucket}
 use Rattle.zt_holders.specs.declared.bucket.Bucket.TheVariants.{Any, At}
@@ -87,12 +86,6 @@ module _ {K : Type 0} (matching : K → K → Bool) (key : K) where
     pub kept : (n : ℕ) → has_face n old ≡ true → has_face n new ≡ true
     pub complete : (n : ℕ) → IsHolder numbers index n → has_face n new ≡ true
 
-  place-one : (a b : ℕ × ℕ) → place_cmp a b ≡ Equal → a ≡ b
-  place-one a b h = let both : (is_eq (nat_cmp a.0 b.0) && is_eq (nat_cmp a.1 b.1)) ≡ true = sym (is_eq-then (nat_cmp a.0 b.0) (nat_cmp a.1 b.1)) ∙ ap is_eq h in
-      let first : a.0 ≡ b.0 = one-number a.0 b.0 (is_eq-Equal _ (and_first _ _ both)) in
-      let second : a.1 ≡ b.1 = one-number a.1 b.1 (is_eq-Equal _ (and_second _ _ both)) in
-      λ i. (first i, second i)
-
   module _ (o : IsTotalOrder place_cmp) (index : List (Bucket × Table (ℕ × ℕ) (Option K))) where
     abbrev AreInOrder : Bucket → Type 0
     AreInOrder bucket = is_sorted place_cmp (rows_at bucket_cmp bucket index) ≡ true
@@ -124,37 +117,65 @@ module _ {K : Type 0} (matching : K → K → Bool) (key : K) where
     or-second true b h = refl
     or-second false b h = h
 
-    pub finds : (numbers : Anchors) (old new : List (ℕ × Unit {0})) → ((bucket : Bucket) → IsLookedFor numbers bucket → AreInOrder bucket) → GathersAll matching key numbers index old new → Finds numbers index old new
-    finds numbers old new s gathers = record {
-      sound = λ n h.
-          elim (or-cases _ _ (sym (gathers.at n) ∙ h)) [
-            | inr first ↦ inr (in_a n (At First numbers.first) (inr (inr (inr refl))) first)
-            | inl rest ↦ elim (or-cases _ _ rest) [
-                | inr last ↦ inr (in_a n (At Last numbers.last) (inr (inr (inl refl))) last)
-                | inl rest ↦ elim (or-cases _ _ rest) [
-                    | inr whole ↦ inr (in_a n (At Whole numbers.whole) (inr (inl refl)) whole)
-                    | inl rest ↦ elim (or-cases _ _ rest) [
-                        | inr any ↦ inr (in_a n Any (inl refl) any)
-                        | inl before ↦ inl before
-                      ]
-                  ]
-              ]
-          ];
-      kept = λ n h. gathers.at n ∙ or-first _ _ (or-first _ _ (or-first _ _ (or-first _ _ h)));
-      complete = λ n holder. gathers.at n ∙ anywhere n holder.bucket holder.looked_for (in-bucket n holder.bucket holder.kept);
-    }
-      where
+    module _ (numbers : Anchors) (old : List (ℕ × Unit {0})) where
+      -- found before, or kept in one of the buckets
+      abbrev IsAnywhere : ℕ → Bool
+      IsAnywhere n = (((has_face n old || holds_under matching key n Any index) || holds_under matching key n (At Whole numbers.whole) index) || holds_under matching key n (At Last numbers.last) index) || holds_under matching key n (At First numbers.first) index
+
+      there : (n : ℕ) (bucket other : Bucket) → bucket ≡ other → holds_under matching key n bucket index ≡ true → holds_under matching key n other index ≡ true
+      there n bucket other is h = subst (λ b. holds_under matching key n b index ≡ true) is h
+
+      anywhere : (n : ℕ) (bucket : Bucket) → IsLookedFor numbers bucket → holds_under matching key n bucket index ≡ true → IsAnywhere n ≡ true
+      anywhere n bucket (inl is) h = or-first _ _ (or-first _ _ (or-first _ _ (or-second _ _ (there n bucket Any is h))))
+      anywhere n bucket (inr (inl is)) h = or-first _ _ (or-first _ _ (or-second _ _ (there n bucket (At Whole numbers.whole) is h)))
+      anywhere n bucket (inr (inr (inl is))) h = or-first _ _ (or-second _ _ (there n bucket (At Last numbers.last) is h))
+      anywhere n bucket (inr (inr (inr is))) h = or-second _ _ (there n bucket (At First numbers.first) is h)
+
+      module _ (s : (bucket : Bucket) → IsLookedFor numbers bucket → AreInOrder bucket) where
         in_a : (n : ℕ) (bucket : Bucket) → IsLookedFor numbers bucket → holds_under matching key n bucket index ≡ true → IsHolder numbers index n
         in_a n bucket looked h = record { bucket = bucket; looked_for = looked; kept = kept-in n bucket (s bucket looked) h }
 
-        abbrev Anywhere : ℕ → Type 0
-        Anywhere n = ((((has_face n old || holds_under matching key n Any index) || holds_under matching key n (At Whole numbers.whole) index) || holds_under matching key n (At Last numbers.last) index) || holds_under matching key n (At First numbers.first) index) ≡ true
+        abbrev IsSound : ℕ → Type 0
+        IsSound n = (has_face n old ≡ true) ⊎ IsHolder numbers index n
 
-        there : (n : ℕ) (bucket other : Bucket) → bucket ≡ other → holds_under matching key n bucket index ≡ true → holds_under matching key n other index ≡ true
-        there n bucket other is h = subst (λ b. holds_under matching key n b index ≡ true) is h
+        from-any : (n : ℕ) → (has_face n old || holds_under matching key n Any index) ≡ true → IsSound n
+        from-any n h = elim (or-cases _ _ h) [ inl before ↦ inl before | inr any ↦ inr (in_a n Any (inl refl) any) ]
 
-        anywhere : (n : ℕ) (bucket : Bucket) → IsLookedFor numbers bucket → holds_under matching key n bucket index ≡ true → Anywhere n
-        anywhere n bucket (inl is) h = or-first _ _ (or-first _ _ (or-first _ _ (or-second _ _ (there n bucket Any is h))))
-        anywhere n bucket (inr (inl is)) h = or-first _ _ (or-first _ _ (or-second _ _ (there n bucket (At Whole numbers.whole) is h)))
-        anywhere n bucket (inr (inr (inl is))) h = or-first _ _ (or-second _ _ (there n bucket (At Last numbers.last) is h))
-        anywhere n bucket (inr (inr (inr is))) h = or-second _ _ (there n bucket (At First numbers.first) is h)
+        from-whole : (n : ℕ) → ((has_face n old || holds_under matching key n Any index) || holds_under matching key n (At Whole numbers.whole) index) ≡ true → IsSound n
+        from-whole n h = elim (or-cases _ _ h) [ inl rest ↦ from-any n rest | inr whole ↦ inr (in_a n (At Whole numbers.whole) (inr (inl refl)) whole) ]
+
+        from-last : (n : ℕ) → (((has_face n old || holds_under matching key n Any index) || holds_under matching key n (At Whole numbers.whole) index) || holds_under matching key n (At Last numbers.last) index) ≡ true → IsSound n
+        from-last n h = elim (or-cases _ _ h) [ inl rest ↦ from-whole n rest | inr last ↦ inr (in_a n (At Last numbers.last) (inr (inr (inl refl))) last) ]
+
+        from-anywhere : (n : ℕ) → IsAnywhere n ≡ true → IsSound n
+        from-anywhere n h = elim (or-cases _ _ h) [ inl rest ↦ from-last n rest | inr first ↦ inr (in_a n (At First numbers.first) (inr (inr (inr refl))) first) ]
+
+        pub finds : (new : List (ℕ × Unit {0})) → GathersAll matching key numbers index old new → Finds numbers index old new
+        finds new gathers = record {
+          sound = λ n h. from-anywhere n (sym (gathers.at n) ∙ h);
+          kept = λ n h. gathers.at n ∙ or-first _ _ (or-first _ _ (or-first _ _ (or-first _ _ h)));
+          complete = λ n holder. gathers.at n ∙ anywhere n holder.bucket holder.looked_for (in-bucket n holder.bucket holder.kept);
+        }
+
+      -- the four buckets, one behind another
+      abbrev pub Interests : Type 0
+      Interests = List ((ℕ × ℕ) × Option K)
+
+      module _ (any whole last first : Interests)
+          (is_any : any ≡ rows_at bucket_cmp Any index) (is_whole : whole ≡ rows_at bucket_cmp (At Whole numbers.whole) index)
+          (is_last : last ≡ rows_at bucket_cmp (At Last numbers.last) index) (is_first : first ≡ rows_at bucket_cmp (At First numbers.first) index) where
+        in-order : is_sorted place_cmp any ≡ true → is_sorted place_cmp whole ≡ true → is_sorted place_cmp last ≡ true → is_sorted place_cmp first ≡ true → (bucket : Bucket) → IsLookedFor numbers bucket → AreInOrder bucket
+        in-order a w l f bucket (inl is) = subst AreInOrder (sym is) (subst (λ rows. is_sorted place_cmp rows ≡ true) is_any a)
+        in-order a w l f bucket (inr (inl is)) = subst AreInOrder (sym is) (subst (λ rows. is_sorted place_cmp rows ≡ true) is_whole w)
+        in-order a w l f bucket (inr (inr (inl is))) = subst AreInOrder (sym is) (subst (λ rows. is_sorted place_cmp rows ≡ true) is_last l)
+        in-order a w l f bucket (inr (inr (inr is))) = subst AreInOrder (sym is) (subst (λ rows. is_sorted place_cmp rows ≡ true) is_first f)
+
+        pub finds-looked-for : is_sorted place_cmp any ≡ true → is_sorted place_cmp whole ≡ true → is_sorted place_cmp last ≡ true → is_sorted place_cmp first ≡ true
+            → (second third fourth new : List (ℕ × Unit {0})) → Gathers matching key any old second → Gathers matching key whole second third → Gathers matching key last third fourth → Gathers matching key first fourth new
+            → Finds numbers index old new
+        finds-looked-for a w l f second third fourth new g1 g2 g3 g4 =
+            finds (in-order a w l f) new (record {
+              at = λ n.
+                  g4.at n
+                  ∙ (λ i. (g3.at n ∙ (λ j. (g2.at n ∙ (λ k. (g1.at n ∙ (λ m. has_face n old || holds_in matching key n (is_any m))) k || holds_in matching key n (is_whole k))) j || holds_in matching key n (is_last j))) i || holds_in matching key n (is_first i));
+            })

@@ -1,9 +1,10 @@
 // The faces whose interests in a bucket are in a key.
-ghost use Rattle.std.specs.Prelude.{◌≡◌, OnOk, tt};
+ghost use Rattle.std.specs.Prelude.{◌≡◌, OnOk, if◌then◌else◌};
 ghost use Rattle.std.specs.FinMap.Entries.{put};
 ghost use Rattle.std.specs.Ordering.{nat_cmp};
 ghost use Rattle.zt_model.specs.Wants.{is_about};
-ghost use Rattle.zt_holders.specs.Gathering.{Gathers, GathersAll};
+ghost use Rattle.zt_holders.specs.Finding.{Finds};
+ghost use Rattle.zt_holders.specs.Gathering.{Gathers};
 
 use crate::bucket::{Anchors, Bucket};
 use std::alloc::AllocError;
@@ -33,11 +34,14 @@ fn is_about_too<K: Key>(about: &Option<K>, known: &Option<K>, answer: bool, key:
     }
 }
 
-fn add_face(found: &mut SortedRows<u32, ()>, face: u32) -> Result<(), AllocError>
-    ensures { OnOk result (found.new.rows ≡ put nat_cmp face tt found.old.rows) }
+// Puts the face among those that were found, if its interest is in the key.
+fn add_face(found: &mut SortedRows<u32, ()>, face: u32, is_holder: bool) -> Result<(), AllocError>
+    ensures { OnOk result (found.new.rows ≡ (if is_holder then put nat_cmp face tt found.old.rows else found.old.rows)) }
 {
-    found.reserve(1)?;
-    found.put(face, ());
+    if is_holder {
+        found.reserve(1)?;
+        found.put(face, ());
+    }
     Ok(())
 }
 
@@ -58,9 +62,7 @@ pub fn gather_faces<K: Key>(
     for row in rows {
         answer = is_about_too(&row.1, known, answer, key);
         known = &row.1;
-        if answer {
-            add_face(found, row.0.0)?;
-        }
+        add_face(found, row.0.0, answer)?;
     }
     Ok(())
 }
@@ -73,10 +75,23 @@ pub fn gather_looked_for<K: Key>(
     numbers: Anchors,
     key: &K,
 ) -> Result<(), AllocError>
-    ensures { OnOk result (GathersAll K.matching key.now numbers index.now.rows found.old.rows found.new.rows) }
+    ensures { OnOk result (Finds K.matching key.now numbers index.now.rows found.old.rows found.new.rows) }
 {
     gather_faces(found, index.rows(&Bucket::Any), key)?;
-    gather_faces(found, index.rows(&Bucket::At(Anchor::Whole, numbers.whole)), key)?;
-    gather_faces(found, index.rows(&Bucket::At(Anchor::Last, numbers.last)), key)?;
-    gather_faces(found, index.rows(&Bucket::At(Anchor::First, numbers.first)), key)
+    gather_faces(
+        found,
+        index.rows(&Bucket::At(Anchor::Whole, numbers.whole)),
+        key,
+    )?;
+    gather_faces(
+        found,
+        index.rows(&Bucket::At(Anchor::Last, numbers.last)),
+        key,
+    )?;
+    gather_faces(
+        found,
+        index.rows(&Bucket::At(Anchor::First, numbers.first)),
+        key,
+    )?;
+    Ok(())
 }
