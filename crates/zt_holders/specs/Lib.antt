@@ -1,4 +1,6 @@
 pub mod Buckets
 pub mod Finding
 pub mod Gathering
+pub mod Held
+pub mod Index
 pub mod Order

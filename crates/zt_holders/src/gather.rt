@@ -45,9 +45,8 @@ fn add_face(found: &mut SortedRows<u32, ()>, face: u32, is_holder: bool) -> Resu
     Ok(())
 }
 
-/// Puts the faces of the interests that are in the key among those that were found. A row is an interest by its face
-/// and id there, with its expression. The only error is want of memory.
-pub fn gather_faces<K: Key>(
+// Puts the faces of the interests that are in the key among those that were found.
+fn gather_faces<K: Key>(
     found: &mut SortedRows<u32, ()>,
     rows: &[((u32, u32), Option<K>)],
     key: &K,

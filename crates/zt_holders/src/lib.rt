@@ -7,6 +7,8 @@
 
 mod bucket;
 mod gather;
+mod index;
 
 pub use bucket::{Anchors, Bucket, anchors_of, bucket_of};
-pub use gather::{gather_faces, gather_looked_for};
+pub use gather::gather_looked_for;
+pub use index::{count_held, drop_holder, keep_holder, prepare_holders};
