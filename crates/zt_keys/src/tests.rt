@@ -1,7 +1,7 @@
 // What no clause says: tables of texts and pairs, long expressions, and each call through the trait at `KeyExpr`.
 ghost use Rattle.std.specs.Prelude.{◌≡◌, IfOk, IfErr};
 
-use crate::{Key, KeyError, KeyExpr};
+use crate::{Anchor, Key, KeyError, KeyExpr};
 use std::alloc::{AllocError, Global};
 use std::test::Fail;
 
@@ -173,5 +173,43 @@ fn keys_are_copied_and_printed(rt: HostRuntime) -> Result<(), Fail> {
     let mut out = String::from_str(rt.alloc(), "> ")?;
     copy.print_to(&mut out)?;
     assert_eq!(rt; out.as_str(), "> a/*/b");
+    Ok(())
+}
+
+// The numbers of the expression at the anchors, through the trait.
+fn numbers<K: Key>(alloc: Global, text: &str) -> Result<[Option<u64>; 3], KeyError> {
+    let key = K::read(alloc, text)?;
+    let copy = key.copy(alloc)?;
+    Ok([
+        key.anchor(Anchor::Whole),
+        key.anchor(Anchor::First),
+        copy.anchor(Anchor::Last),
+    ])
+}
+
+#[test]
+fn keys_have_numbers(rt: HostRuntime) -> Result<(), Fail> {
+    let [whole, first, last] = numbers::<KeyExpr>(rt.alloc(), "a/b/w")?;
+    assert!(rt; whole.is_some() && first.is_some() && last.is_some());
+    assert_ne!(rt; whole, first);
+    assert_ne!(rt; first, last);
+    assert_eq!(rt;
+        numbers::<KeyExpr>(rt.alloc(), "a/b/w")?,
+        [whole, first, last]
+    );
+    assert_eq!(rt; numbers::<KeyExpr>(rt.alloc(), "w")?, [last, last, last]);
+    assert_eq!(rt;
+        numbers::<KeyExpr>(rt.alloc(), "*/*/w")?,
+        [None, None, last]
+    );
+    assert_eq!(rt;
+        numbers::<KeyExpr>(rt.alloc(), "a/**")?,
+        [None, first, None]
+    );
+    assert_eq!(rt;
+        numbers::<KeyExpr>(rt.alloc(), "a/*/w")?,
+        [None, first, last]
+    );
+    assert_eq!(rt; numbers::<KeyExpr>(rt.alloc(), "**")?, [None, None, None]);
     Ok(())
 }

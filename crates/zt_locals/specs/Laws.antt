@@ -3,6 +3,7 @@ use Rattle.std.specs.Prelude.{◌≡◌, ℕ, Bool, true, List, Option, Some, No
 use Rattle.std.specs.declared.cmp.Ordering.{Ordering}
 use Rattle.std.specs.declared.cmp.Ordering.TheVariants.{Equal}
 use Rattle.zt_keys.specs.Key.{KeyLaws}
+use Rattle.zt_keys.specs.declared.anchor.Anchor.{Anchor}
 use Rattle.zt_keys.specs.declared.error.KeyError.{KeyError}
 
 -- the laws of resources: `cmp` is the order, and `matching` says whether two of them match
@@ -13,7 +14,7 @@ pub record ResourceLaws {R : Type 0} (cmp : R → R → Ordering) (matching : R 
   pub matches_back : (a b : R) → matching a b ≡ matching b a
 
 -- keys are resources
-pub resource_laws : {K : Type 0} {cmp : K → K → Ordering} {matching : K → K → Bool} {reading : List ℕ → Result K KeyError} {printed : K → List ℕ} → KeyLaws cmp matching reading printed → ResourceLaws cmp matching
+pub resource_laws : {K : Type 0} {cmp : K → K → Ordering} {matching : K → K → Bool} {reading : List ℕ → Result K KeyError} {printed : K → List ℕ} {anchored : Anchor → K → Option ℕ} → KeyLaws cmp matching reading printed anchored → ResourceLaws cmp matching
 resource_laws laws = record { equal_is_same = laws.equal_is_same; matches_itself = laws.matches_itself; matches_back = laws.matches_back }
 
 -- the law of infos: what a resource has of several others depends neither on their order nor on their grouping

@@ -8,6 +8,7 @@ use Rattle.std.specs.List.{AllByRecursion}
 use Rattle.std.specs.Str.{bytes_eq, is_utf8}
 use Rattle.std.specs.declared.cmp.Ordering.{Ordering}
 use Rattle.zt_keys.specs.Key.{KeyLaws, OneSpelling}
+use Rattle.zt_keys.specs.declared.anchor.Anchor.{Anchor}
 use Rattle.zt_keys.specs.declared.error.KeyError.{KeyError}
 use Rattle.zt_protocol.specs.declared.entries.Sent.{Sent}
 use Rattle.zt_protocol.specs.declared.errors.LineError.{LineError}
@@ -267,7 +268,7 @@ module _ {K : Type 0} (reading : List ℕ → Result K KeyError) (printed : K �
 
 -- ---- a printed message is read back
 
-module _ {K : Type 0} (cmp : K → K → Ordering) (matching : K → K → Bool) (reading : List ℕ → Result K KeyError) (printed : K → List ℕ) (laws : KeyLaws cmp matching reading printed) where
+module _ {K : Type 0} (cmp : K → K → Ordering) (matching : K → K → Bool) (reading : List ℕ → Result K KeyError) (printed : K → List ℕ) (anchored : Anchor → K → Option ℕ) (laws : KeyLaws cmp matching reading printed anchored) where
   key_complete : (key : K) (rest : Fields) → value_at (key_read reading) (printed key ∷ rest) ≡ Ok (key, rest)
   key_complete key rest = value_complete (key_read reading) (IsKey reading) (exact_key reading) (printed key) rest key (record { nonempty = laws.prints_some key; unblanked = laws.prints_no_blank key; accepted = laws.reads_back key })
 

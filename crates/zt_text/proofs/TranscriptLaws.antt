@@ -8,6 +8,7 @@ use Rattle.std.specs.List.{AllByRecursion, flat_map}
 use Rattle.std.specs.Str.{bytes_eq}
 use Rattle.std.specs.declared.cmp.Ordering.{Ordering}
 use Rattle.zt_keys.specs.Key.{KeyLaws}
+use Rattle.zt_keys.specs.declared.anchor.Anchor.{Anchor}
 use Rattle.zt_keys.specs.declared.error.KeyError.{KeyError}
 use Rattle.zt_protocol.specs.Plain.{PlainEntry}
 use Rattle.zt_protocol.specs.Refusal.{name_of}
@@ -177,9 +178,9 @@ no_message_at_end text (inr e) others h = omega (arith, same_first (116 ∷ e.0)
 no_message_at_digit : (text : List ℕ) → BeginsWithDigit text → HasNoMessage text
 no_message_at_digit text h others e = omega (arith, same_first (h.0 ∷ h.1) (62 ∷ others) (sym h.2 ∙ e), h.4)
 
-module _ {K : Type 0} (cmp : K → K → Ordering) (matching : K → K → Bool) (reading : List ℕ → Result K KeyError) (printed : K → List ℕ) (laws : KeyLaws cmp matching reading printed) where
+module _ {K : Type 0} (cmp : K → K → Ordering) (matching : K → K → Bool) (reading : List ℕ → Result K KeyError) (printed : K → List ℕ) (anchored : Anchor → K → Option ℕ) (laws : KeyLaws cmp matching reading printed anchored) where
   abbrev line : Sent K → List ℕ
-  line sent = sent_line cmp matching reading printed laws sent
+  line sent = sent_line cmp matching reading printed anchored laws sent
 
   -- ---- messages
 
@@ -190,10 +191,10 @@ module _ {K : Type 0} (cmp : K → K → Ordering) (matching : K → K → Bool)
   messages_apart (s ∷ ss) [] more rest p q m r h = absurd (r _ (sym h))
   messages_apart (s ∷ ss) (t ∷ ts) more rest p q m r h =
       let f = first_lines (line s) (line t) (flat_map (sent_text printed) ss ++ more) (flat_map (sent_text printed) ts ++ rest)
-      (line_feedless cmp matching reading printed laws s p.0) (line_feedless cmp matching reading printed laws t q.0)
+      (line_feedless cmp matching reading printed anchored laws s p.0) (line_feedless cmp matching reading printed anchored laws t q.0)
       (sym (first_of_all s ss more) ∙ (h ∙ first_of_all t ts rest)) in
       let others = messages_apart ss ts more rest p.1 q.1 m r f.1 in
-      (rw (same_sent cmp matching reading printed laws s t p.0 q.0 f.0, others.0) refl, others.1)
+      (rw (same_sent cmp matching reading printed anchored laws s t p.0 q.0 f.0, others.0) refl, others.1)
     where
       first_of_all : (s : Sent K) (ss : List (Sent K)) (more : List ℕ) → flat_map (sent_text printed) (s ∷ ss) ++ more ≡ line s ++ 10 ∷ (flat_map (sent_text printed) ss ++ more)
       first_of_all s ss more =
