@@ -8,8 +8,11 @@ use Rattle.std.proofs.Common.{ap, sym, ◌∙◌}
 use Rattle.std.proofs.lemmas.Cmp.{nat_cmp_total, then_total}
 use Rattle.zt_ordered.specs.Test.{and_first, and_second, is_eq-Equal}
 use Rattle.zt_rows.specs.Passing.{one-number}
+use Rattle.zt_keys.specs.declared.anchor.Anchor.TheVariants.{Whole, First, Last}
 use Rattle.zt_holders.specs.contracts.bucket.BucketOrd.TheImpl.{ghosts}
+use Rattle.zt_holders.specs.contracts.bucket.BucketOrd.TheImpl.Laws.{total-law}
 use Rattle.zt_holders.specs.declared.bucket.Bucket.{Bucket}
+use Rattle.zt_holders.specs.declared.bucket.Bucket.TheVariants.{Any, At}
 
 abbrev pub bucket_cmp : Bucket → Bucket → Ordering
 bucket_cmp a b = ghosts.cmp a b
@@ -32,3 +35,21 @@ place-one a b h =
 
 pub place-total : IsTotalOrder place_cmp
 place-total = then_total (on_total (λ (p : ℕ × ℕ). p.0) nat_cmp_total) (on_total (λ (p : ℕ × ℕ). p.1) nat_cmp_total)
+
+pub bucket-total : IsTotalOrder bucket_cmp
+bucket-total = total-law
+
+-- buckets that tie are one
+pub bucket-one : (a b : Bucket) → bucket_cmp a b ≡ Equal → a ≡ b
+bucket-one Any Any h = refl
+bucket-one Any (At b m) h = cc
+bucket-one (At a n) Any h = cc
+bucket-one (At Whole n) (At Whole m) h = ap (At Whole) (one-number n m h)
+bucket-one (At First n) (At First m) h = ap (At First) (one-number n m h)
+bucket-one (At Last n) (At Last m) h = ap (At Last) (one-number n m h)
+bucket-one (At Whole n) (At First m) h = cc
+bucket-one (At Whole n) (At Last m) h = cc
+bucket-one (At First n) (At Whole m) h = cc
+bucket-one (At First n) (At Last m) h = cc
+bucket-one (At Last n) (At Whole m) h = cc
+bucket-one (At Last n) (At First m) h = cc
