@@ -3,4 +3,5 @@ pub mod Finding
 pub mod Gathering
 pub mod Held
 pub mod Index
+pub mod Indexed
 pub mod Order
