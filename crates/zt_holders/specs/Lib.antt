@@ -4,4 +4,5 @@ pub mod Gathering
 pub mod Held
 pub mod Index
 pub mod Indexed
+pub mod Listing
 pub mod Order

@@ -1,10 +1,11 @@
 -- Whether the tables have the room that a plan takes.
---     HasRoom acts s rooms    for rows of faces that are open, of asks that stand, and for all that is made or sent, and
+--     HasRoom anchored acts s rooms    for rows of faces that are open, of asks that stand, and for all that is made or sent, and
 --                             for each face and ask to come lists with room
 use Rattle.std.specs.Prelude.{◌≡◌, ℕ, Bool, true, false, ◌+◌, ◌≤◌, ◌<◌, ◌&&◌, not, nat_le, List, [], ◌∷◌, length}
-use Rattle.std.specs.Option.{IsSome}
+use Rattle.std.specs.Option.{IsSome, Option}
 use Rattle.std.specs.Ordering.{nat_cmp}
 use Rattle.std.specs.declared.cmp.Ordering.{Ordering}
+use Rattle.zt_keys.specs.declared.anchor.Anchor.{Anchor}
 use Rattle.zt_region.specs.declared.region.Region.{Region}
 use Rattle.zt_region.specs.declared.region.Zid.{Zid}
 use Rattle.zt_grouped.specs.GroupRoom.{room_of}
@@ -13,6 +14,9 @@ use Rattle.zt_model.specs.Lists.{at_id}
 use Rattle.zt_model.specs.Strategy.{is_region_of}
 use Rattle.zt_rows.specs.Face.{AskRoom, FaceRoom}
 use Rattle.zt_faces.specs.Rooms.{Kind, answer_room, face_room, kind_room, listing_room}
+use Rattle.zt_holders.specs.Held.{total_held}
+use Rattle.zt_holders.specs.Order.{bucket_cmp}
+use Rattle.zt_holders.specs.declared.bucket.Bucket.{Bucket}
 use Rattle.zt_needs.specs.Need.{group_order, total}
 use Rattle.zt_tables.specs.RegionOrder.{region_cmp}
 use Rattle.zt_tables.specs.Tokens.{total_tokens}
@@ -41,7 +45,7 @@ abbrev pub SuitAsks : {K : Type 0} → List (Act K) → ℕ → List AskRoom →
 SuitAsks acts number [] = Unit {0}
 SuitAsks acts number (spare ∷ spares) = SuitsAsk acts number spare × SuitAsks acts (number + 1) spares
 
-pub record HasRoom {K : Type 0} (acts : List (Act K)) (s : Store K) (rooms : Rooms) : Type 0 where
+pub record HasRoom {K : Type 0} (anchored : Anchor → K → Option ℕ) (acts : List (Act K)) (s : Store K) (rooms : Rooms) : Type 0 where
   pub faces : total (λ need. need.faces.faces) acts ≤ rooms.faces.faces
   pub face_spares : total (λ need. need.faces.faces) acts ≤ length rooms.spare_faces
   pub faces_suit : SuitFaces acts (s.rows.made + 1) rooms.spare_faces
@@ -56,8 +60,9 @@ pub record HasRoom {K : Type 0} (acts : List (Act K)) (s : Store K) (rooms : Roo
   pub trees : total (λ need. need.trees) acts ≤ rooms.trees
   pub routed : (group : Region × Zid) → total (λ need. need.routed group) acts ≤ room_of group_order group rooms.routed
   pub tokens : (region : Region) → is_region_of s.rows.regions region ≡ true → total_tokens acts ≤ room_of region_cmp region rooms.tokens
+  pub holders : (bucket : Bucket) → total_held anchored bucket acts ≤ room_of bucket_cmp bucket rooms.holders
   pub outboxes : (n : ℕ) → is_gone n s ≡ false → total (λ need. need.outboxes n) acts ≤ room_of nat_cmp n rooms.outboxes
 
 -- once the change is made there is room for those behind it
-pub record LeavesRoom {K : Type 0} (cmp : K → K → Ordering) (matching : K → K → Bool) (act : Act K) (s : Store K) (old new : Rooms) : Type 0 where
-  pub behind : (acts : List (Act K)) → HasRoom (act ∷ acts) s old → HasRoom acts (acted cmp matching act s) new
+pub record LeavesRoom {K : Type 0} (cmp : K → K → Ordering) (matching : K → K → Bool) (anchored : Anchor → K → Option ℕ) (act : Act K) (s : Store K) (old new : Rooms) : Type 0 where
+  pub behind : (acts : List (Act K)) → HasRoom anchored (act ∷ acts) s old → HasRoom anchored acts (acted cmp matching act s) new

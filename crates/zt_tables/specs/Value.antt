@@ -6,9 +6,10 @@ use Rattle.zt_model.specs.Acts.{Store}
 use Rattle.zt_model.specs.Rows.{ById}
 use Rattle.zt_rows.specs.Face.{AskRoom, FaceRoom}
 use Rattle.zt_faces.specs.Table.{FacesRooms}
+use Rattle.zt_holders.specs.declared.bucket.Bucket.{Bucket}
 
--- the room of the faces, for numbers of the dictionary, for tokens of each router, for trees, for messages to a face, and
--- for counts of tokens in each region,
+-- the room of the faces, for numbers of the dictionary, for tokens of each router, for trees, for messages to a face, for
+-- counts of live rows in each region, and for interests in each bucket of their index,
 -- and that of the lists that wait for faces and asks to come, the next one first
 pub record Rooms : Type 0 where
   pub faces : FacesRooms
@@ -17,6 +18,7 @@ pub record Rooms : Type 0 where
   pub trees : ℕ
   pub outboxes : ById ℕ
   pub tokens : List (Region × ℕ)
+  pub holders : List (Bucket × ℕ)
   pub spare_faces : List FaceRoom
   pub spare_asks : List AskRoom
 
