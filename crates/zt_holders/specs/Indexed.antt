@@ -1,30 +1,32 @@
 -- An index of the interests that faces hold, which is what the rows give, and stays so.
 --     held_under id face                  what a face holds under an id
 --     kept_in anchored bucket interest    what a bucket keeps of an interest: its expression, if the interest belongs there
---     IsIndexed anchored g index          the index keeps each interest in its bucket, and nothing else
+--     IsIndexed anchored faces index          the index keeps each interest in its bucket, and nothing else
 --     indexed-still                       after a change that adds and takes no interest
 --     indexed-added, indexed-dropped      after an interest more, and one less
 --     indexed-closed                      after a face goes that holds none
-use Rattle.std.specs.Prelude.{◌≡◌, ℕ, Bool, true, false, ◌==◌, ◌&&◌, if◌then◌else◌, List, [], Option, Some, None, option_map, unwrap_or, refl}
+use Rattle.std.specs.Prelude.{◌≡◌, ℕ, Bool, true, false, ◌==◌, ◌&&◌, not, if◌then◌else◌, List, [], Option, Some, None, option_map, unwrap_or, refl}
 use Rattle.std.specs.Cmp.{tied_itself}
-use Rattle.std.specs.FinMap.Entries.{find, find-put, put}
+use Rattle.std.specs.FinMap.Entries.{find, find-put, is_sorted, is_sorted-put, is_sorted-where_key, put}
 use Rattle.std.specs.Ordering.{is_eq, nat_cmp, ordering_then}
 use Rattle.std.specs.declared.cmp.Ordering.{Ordering}
 use Rattle.std.proofs.Common.{ap, subst, sym, ◌∙◌}
 use Rattle.std.proofs.lemmas.Bool.{eqb-true, eq-eqb}
+use Rattle.std.proofs.lemmas.Cmp.{nat_cmp_total}
+use Rattle.zt_rows.specs.ById.{without-without_id}
 use Rattle.zt_keys.specs.declared.anchor.Anchor.{Anchor}
-use Rattle.zt_ordered.specs.Groups.{rows_at}
+use Rattle.zt_ordered.specs.Groups.{SameGroups, rows_at}
 use Rattle.zt_ordered.specs.Rows.{same, without}
 use Rattle.zt_ordered.specs.Sorting.{find-without}
 use Rattle.zt_ordered.specs.Table.{Table}
-use Rattle.zt_ordered.specs.Test.{by_option, by_test, is_eq-Equal}
+use Rattle.zt_ordered.specs.Test.{T-from, T-to, by_option, by_test, is_eq-Equal}
 use Rattle.zt_model.specs.Acts.{Act, AddHeld, AddPending, CloseFace, DropHeld, OpenFace, Store, acted}
 use Rattle.zt_model.specs.Lists.{at_id, is_some_and}
 use Rattle.zt_model.specs.Parts.{find_face}
-use Rattle.zt_model.specs.Rows.{Face, InterestRow, Rows}
+use Rattle.zt_model.specs.Rows.{Face, InterestRow}
 use Rattle.zt_model.specs.Routing.{unheld}
 use Rattle.zt_model.specs.Acts.{held_added}
-use Rattle.zt_changes.specs.After.{at_id-put, at_id-without}
+use Rattle.zt_changes.specs.After.{at_id-put, at_id-without, face_in}
 use Rattle.zt_changes.specs.Queries.{from_face, list_of_face}
 use Rattle.zt_changes.specs.Touches.{Changes, ChangesAll, Closes, Opens, Touch, face-acted, touch, touched}
 use Rattle.zt_holders.specs.Buckets.{bucket_of}
@@ -36,6 +38,10 @@ use Rattle.zt_holders.specs.declared.bucket.Bucket.{Bucket}
 abbrev pub held_under : {K : Type 0} → ℕ → Option (Face K) → Option (InterestRow K)
 held_under id face = from_face (λ x. at_id id x.held) face
 
+-- what a face holds, in order of id
+abbrev pub held_by : {K : Type 0} → Option (Face K) → List (ℕ × InterestRow K)
+held_by face = list_of_face (λ x. x.held) face
+
 module _ {K : Type 0} (anchored : Anchor → K → Option ℕ) where
   abbrev pub kept_in : Bucket → Option (InterestRow K) → Option (Option K)
   kept_in bucket None = None
@@ -46,8 +52,9 @@ module _ {K : Type 0} (anchored : Anchor → K → Option ℕ) where
   bucket_held None = None
   bucket_held (Some interest) = bucket_of anchored interest
 
-  pub record IsIndexed (g : Rows K) (index : List (Bucket × Table (ℕ × ℕ) (Option K))) : Type 0 where
-    pub at : (bucket : Bucket) (n id : ℕ) → find place_cmp (n, id) (rows_at bucket_cmp bucket index) ≡ kept_in bucket (held_under id (find_face n g))
+  pub record IsIndexed (faces : List (Face K)) (index : List (Bucket × Table (ℕ × ℕ) (Option K))) : Type 0 where
+    pub at : (bucket : Bucket) (n id : ℕ) → find place_cmp (n, id) (rows_at bucket_cmp bucket index) ≡ kept_in bucket (held_under id (face_in n faces))
+    pub in_order : (n : ℕ) → is_sorted nat_cmp (held_by (face_in n faces)) ≡ true
 
 -- ---- changes that leave what faces hold
 module _ {K : Type 0} where
@@ -65,6 +72,22 @@ module _ {K : Type 0} where
   mapped-holds : (id : ℕ) (change : Face K → Face K) → ((x : Face K) → (change x).held ≡ x.held) → (o : Option (Face K)) → held_under id (option_map change o) ≡ held_under id o
   mapped-holds id change kept None = refl
   mapped-holds id change kept (Some x) = ap (at_id id) (kept x)
+
+  changed-list : (b : Bool) (change : Face K → Face K) → ((x : Face K) → (change x).held ≡ x.held) → (o : Option (Face K)) → held_by (if b then option_map change o else o) ≡ held_by o
+  changed-list true change kept None = refl
+  changed-list true change kept (Some x) = kept x
+  changed-list false change kept o = refl
+
+  mapped-list : (change : Face K → Face K) → ((x : Face K) → (change x).held ≡ x.held) → (o : Option (Face K)) → held_by (option_map change o) ≡ held_by o
+  mapped-list change kept None = refl
+  mapped-list change kept (Some x) = kept x
+
+  touched-list : (n : ℕ) (t : Touch K) → KeepsHeld t → (o : Option (Face K)) → held_by (touched n t o) ≡ held_by o
+  touched-list n (Opens new) none None = by_test (n == new.number) (λ t. rw t none) (λ t. rw t refl)
+  touched-list n (Opens new) none (Some x) = refl
+  touched-list n (Closes m) kept o = absurd kept
+  touched-list n (Changes at change) kept o = changed-list (is_some_and at (λ m. m == n)) change kept o
+  touched-list n (ChangesAll m change all) kept o = mapped-list all kept.1 (if m == n then option_map change o else o) ∙ changed-list (m == n) change kept.0 o
 
   touched-holds : (n id : ℕ) (t : Touch K) → KeepsHeld t → (o : Option (Face K)) → held_under id (touched n t o) ≡ held_under id o
   touched-holds n id (Opens new) none None = by_test (n == new.number) (λ t. rw t (ap (at_id id) none)) (λ t. rw t refl)
@@ -93,11 +116,12 @@ module _ {K : Type 0} (cmp : K → K → Ordering) (matching : K → K → Bool)
     abbrev pub Index : Type 0
     Index = List (Bucket × Table (ℕ × ℕ) (Option K))
 
-    pub indexed-still : (act : Act K) (s : Store K) (index : Index) → is_still act ≡ true → IsIndexed anchored s.rows index → IsIndexed anchored (acted cmp matching act s).rows index
+    pub indexed-still : (act : Act K) (s : Store K) (index : Index) → is_still act ≡ true → IsIndexed anchored s.rows.faces index → IsIndexed anchored (acted cmp matching act s).rows.faces index
     indexed-still act s index still is = record {
       at = λ bucket n id.
           is.at bucket n id
           ∙ ap (kept_in anchored bucket) (sym (ap (held_under id) (face-acted cmp matching n act s) ∙ touched-holds n id (touch cmp matching act s) (touch-still act s still) (find_face n s.rows)));
+      in_order = λ n. ap (is_sorted nat_cmp) (ap held_by (face-acted cmp matching n act s) ∙ touched-list n (touch cmp matching act s) (touch-still act s still) (find_face n s.rows)) ∙ is.in_order n;
     }
 
     -- ---- one interest more, or less
@@ -125,15 +149,25 @@ module _ {K : Type 0} (cmp : K → K → Ordering) (matching : K → K → Bool)
     dropped-under n f id i None = by_test ((f == n) && (id == i)) (λ t. by_test (f == n) (λ u. rw (t, u) refl) (λ u. rw (t, u) refl)) (λ t. by_test (f == n) (λ u. rw (t, u) refl) (λ u. rw (t, u) refl))
     dropped-under n f id i (Some x) = by_test (f == n) (λ t. rw t (at_id-without id i x.held)) (λ t. rw t refl)
 
-    module _ (f i : ℕ) (s : Store K) (old new : Index) (is : IsIndexed anchored s.rows old) where
+    module _ (f i : ℕ) (s : Store K) (old new : Index) (is : IsIndexed anchored s.rows.faces old) where
       -- what is found where a bucket changes
       found-in : (added : Option Bucket) (change : List ((ℕ × ℕ) × Option K) → List ((ℕ × ℕ) × Option K)) → ChangesIn added change old new → (bucket : Bucket) (n id : ℕ)
           → find place_cmp (n, id) (rows_at bucket_cmp bucket new) ≡ (if is_bucket bucket added then find place_cmp (n, id) (change (rows_at bucket_cmp bucket old)) else find place_cmp (n, id) (rows_at bucket_cmp bucket old))
       found-in added change changes bucket n id =
           ap (find place_cmp (n, id)) (changes.at bucket) ∙ by_test (is_bucket bucket added) (λ t. rw t refl) (λ t. rw t refl)
 
+      put-sorted : (n : ℕ) (own : Bool) (interest : InterestRow K) (o : Option (Face K)) → is_sorted nat_cmp (held_by o) ≡ true → is_sorted nat_cmp (held_by (if own then option_map (held_added i interest) o else o)) ≡ true
+      put-sorted n true interest None sorted = refl
+      put-sorted n true interest (Some x) sorted = T-to _ (is_sorted-put nat_cmp nat_cmp_total i interest x.held (T-from _ sorted))
+      put-sorted n false interest o sorted = sorted
+
+      left-sorted : (own : Bool) (o : Option (Face K)) → is_sorted nat_cmp (held_by o) ≡ true → is_sorted nat_cmp (held_by (if own then option_map (unheld i) o else o)) ≡ true
+      left-sorted true None sorted = refl
+      left-sorted true (Some x) sorted = ap (is_sorted nat_cmp) (sym (without-without_id i x.held)) ∙ T-to _ (is_sorted-where_key nat_cmp (λ k. not (same nat_cmp i k)) x.held (T-from _ sorted))
+      left-sorted false o sorted = sorted
+
       pub indexed-added : (interest : InterestRow K) (x : Face K) → find_face f s.rows ≡ Some x → at_id i x.held ≡ None → ChangesIn (bucket_of anchored interest) (put place_cmp (f, i) interest.expr) old new
-          → IsIndexed anchored (acted cmp matching (AddHeld f i interest) s).rows new
+          → IsIndexed anchored (acted cmp matching (AddHeld f i interest) s).rows.faces new
       indexed-added interest x there none changes = record {
         at = λ bucket n id.
             let rows = rows_at bucket_cmp bucket old in
@@ -161,9 +195,10 @@ module _ {K : Type 0} (cmp : K → K → Ordering) (matching : K → K → Bool)
             by_test b
             (λ u. rw u (put_there ∙ was ∙ sym (ap (kept_in anchored bucket) now)))
             (λ u. rw u (was ∙ sym (ap (kept_in anchored bucket) now))));
+        in_order = λ n. ap (λ o. is_sorted nat_cmp (held_by o)) (face-acted cmp matching n (AddHeld f i interest) s) ∙ put-sorted n (f == n) interest (find_face n s.rows) (is.in_order n);
       }
 
-      pub indexed-dropped : ChangesIn (bucket_held anchored (held_under i (find_face f s.rows))) (without place_cmp (f, i)) old new → IsIndexed anchored (acted cmp matching (DropHeld f i) s).rows new
+      pub indexed-dropped : ChangesIn (bucket_held anchored (held_under i (find_face f s.rows))) (without place_cmp (f, i)) old new → IsIndexed anchored (acted cmp matching (DropHeld f i) s).rows.faces new
       indexed-dropped changes = record {
         at = λ bucket n id.
             let rows = rows_at bucket_cmp bucket old in
@@ -190,6 +225,7 @@ module _ {K : Type 0} (cmp : K → K → Ordering) (matching : K → K → Bool)
             by_test (is_bucket bucket (bucket_held anchored held))
             (λ u. rw u (stays ∙ was ∙ sym (ap (kept_in anchored bucket) now)))
             (λ u. rw u (was ∙ sym (ap (kept_in anchored bucket) now))));
+        in_order = λ n. ap (λ o. is_sorted nat_cmp (held_by o)) (face-acted cmp matching n (DropHeld f i) s) ∙ left-sorted (f == n) (find_face n s.rows) (is.in_order n);
       }
         where
           not-kept : (bucket : Bucket) (held : Option (InterestRow K)) → is_bucket bucket (bucket_held anchored held) ≡ false → kept_in anchored bucket held ≡ None
@@ -201,7 +237,11 @@ module _ {K : Type 0} (cmp : K → K → Ordering) (matching : K → K → Bool)
     holds-none id None none = refl
     holds-none id (Some x) none = ap (at_id id) none
 
-    pub indexed-closed : (f : ℕ) (s : Store K) (index : Index) → list_of_face (λ x. x.held) (find_face f s.rows) ≡ [] → IsIndexed anchored s.rows index → IsIndexed anchored (acted cmp matching (CloseFace f) s).rows index
+    closed-sorted : (own : Bool) (o : Option (Face K)) → is_sorted nat_cmp (held_by o) ≡ true → is_sorted nat_cmp (held_by (if own then None else o)) ≡ true
+    closed-sorted true o sorted = refl
+    closed-sorted false o sorted = sorted
+
+    pub indexed-closed : (f : ℕ) (s : Store K) (index : Index) → list_of_face (λ x. x.held) (find_face f s.rows) ≡ [] → IsIndexed anchored s.rows.faces index → IsIndexed anchored (acted cmp matching (CloseFace f) s).rows.faces index
     indexed-closed f s index none is = record {
       at = λ bucket n id.
           let after : held_under id (find_face n (acted cmp matching (CloseFace f) s).rows) ≡ held_under id (if f == n then None else find_face n s.rows) = ap (held_under id) (face-acted cmp matching n (CloseFace f) s) in
@@ -210,4 +250,12 @@ module _ {K : Type 0} (cmp : K → K → Ordering) (matching : K → K → Bool)
           (λ t. let here : find_face n s.rows ≡ find_face f s.rows = ap (λ (m : ℕ). find_face m s.rows) (sym (eqb-true f n t)) in
           ap (held_under id) here ∙ holds-none id (find_face f s.rows) none ∙ sym (after ∙ rw t refl))
           (λ t. sym (after ∙ rw t refl)));
+      in_order = λ n. ap (λ o. is_sorted nat_cmp (held_by o)) (face-acted cmp matching n (CloseFace f) s) ∙ closed-sorted (f == n) (find_face n s.rows) (is.in_order n);
     }
+
+    -- ---- an index whose buckets stay
+    pub indexed-same : (faces : List (Face K)) (old new : Index) → SameGroups bucket_cmp old new → IsIndexed anchored faces old → IsIndexed anchored faces new
+    indexed-same faces old new same_groups is = record { at = λ bucket n id. ap (find place_cmp (n, id)) (same_groups.at bucket) ∙ is.at bucket n id; in_order = is.in_order }
+
+    pub indexed-none : IsIndexed anchored [] []
+    indexed-none = record { at = λ bucket n id. refl; in_order = λ n. refl }

@@ -105,8 +105,7 @@ module _ {K : Type 0} (test : Face K → Bool) where
 -- ---- what an index finds
 module _ {K : Type 0} (matching : K → K → Bool) (anchored : Anchor → K → Option ℕ)
     (agree : (at : Anchor) (a b : K) (m n : ℕ) → matching a b ≡ true → anchored at a ≡ Some m → anchored at b ≡ Some n → m ≡ n)
-    (g : Rows K) (index : List (Bucket × Table (ℕ × ℕ) (Option K))) (indexed : IsIndexed anchored g index)
-    (in_order : (n : ℕ) → is_sorted nat_cmp (list_of_face (λ x. x.held) (find_face n g)) ≡ true) (e : K) where
+    (g : Rows K) (index : List (Bucket × Table (ℕ × ℕ) (Option K))) (indexed : IsIndexed anchored g.faces index) (e : K) where
   abbrev wanted : Option (Face K) → Bool
   wanted face = is_some_and face (λ x. wants matching x e)
 
@@ -167,7 +166,7 @@ module _ {K : Type 0} (matching : K → K → Bool) (anchored : Anchor → K →
     found-wanted found finds n =
         both-ways (has_face n found) (wanted (find_face n g))
         (λ h. elim (finds.sound n h) [ inl before ↦ cc | inr holder ↦ wanted-from holder.bucket holder.kept.id holder.kept.about (find_face n g) (sym (indexed.at holder.bucket n holder.kept.id) ∙ holder.kept.is) holder.kept.asks ])
-        (λ h. finds.complete n (holder-from n (find_face n g) refl (in_order n) h))
+        (λ h. finds.complete n (holder-from n (find_face n g) refl (indexed.in_order n) h))
 
     pub listed : (found : List (ℕ × Unit {0})) → is_rising (numbers_of g.faces) ≡ true → is_sorted nat_cmp found ≡ true → Finds matching e numbers index [] found → keys_of found ≡ holders matching e g.faces
     listed found rising sorted finds = keys-listed (λ x. wants matching x e) g.faces found rising sorted (found-wanted found finds)

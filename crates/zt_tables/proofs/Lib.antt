@@ -9,6 +9,7 @@ mod PlanTokens
 mod TokenRooms
 pub mod Reserving
 pub mod KeptActs
-mod LiveEdits
+pub mod LiveEdits
+mod HeldEdits
 pub mod Counting
 mod CountGroups

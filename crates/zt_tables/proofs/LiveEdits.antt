@@ -92,7 +92,7 @@ routed-there cmp matching o r z e s fit orderly rising other =
 
 -- ---- the first token
 module _ {A : Type 0} where
-  first-has : (id : ℕ) (rows : List (ℕ × A)) → Some id ≡ next_id None rows → has_id id rows ≡ true
+  pub first-has : (id : ℕ) (rows : List (ℕ × A)) → Some id ≡ next_id None rows → has_id id rows ≡ true
   first-has id [] h = cc
   first-has id (row ∷ rows) h = let is : id ≡ row.0 = ap (λ q. unwrap_or q id) h in rw (eq-eqb id row.0 is) refl
 
@@ -100,11 +100,11 @@ module _ {A : Type 0} where
   no-more id [] = omega arith
   no-more id (row ∷ rows) = let rest = no-more id rows in by_test (id == row.0) (λ t. rw t (omega (arith, rest))) (λ t. rw t (omega (arith, rest)))
 
-  first-less : (id : ℕ) (rows : List (ℕ × A)) → Some id ≡ next_id None rows → length (without_id id rows) < length rows
+  pub first-less : (id : ℕ) (rows : List (ℕ × A)) → Some id ≡ next_id None rows → length (without_id id rows) < length rows
   first-less id [] h = cc
   first-less id (row ∷ rows) h = let is : id ≡ row.0 = ap (λ q. unwrap_or q id) h in let rest = no-more id rows in rw (eq-eqb id row.0 is) (omega (arith, rest))
 
-  no-first : (rows : List (ℕ × A)) → next_id None rows ≡ None → rows ≡ []
+  pub no-first : (rows : List (ℕ × A)) → next_id None rows ≡ None → rows ≡ []
   no-first [] h = refl
   no-first (row ∷ rows) h = cc
 
@@ -121,7 +121,7 @@ module _ {K : Type 0} where
   live-less f id None h = cc
   live-less f id (Some x) h = rw (eq-eqb f f refl) (first-less id x.live h)
 
-  changed-open : (f : ℕ) (change : Face K → Face K) (o : Option (Face K)) → is_some (touched f (Changes (Some f) change) o) ≡ is_some o
+  pub changed-open : (f : ℕ) (change : Face K → Face K) (o : Option (Face K)) → is_some (touched f (Changes (Some f) change) o) ≡ is_some o
   changed-open f change None = rw (eq-eqb f f refl) refl
   changed-open f change (Some x) = rw (eq-eqb f f refl) refl
 
@@ -151,6 +151,7 @@ none-kept rooms = record {
   routed = λ group. omega arith;
   outboxes = λ n. omega arith;
   tokens = λ region. omega arith;
+  holders = λ bucket. omega arith;
   spare_faces = refl;
   spare_asks = refl;
 }
@@ -169,6 +170,7 @@ both-kept first second third a b = record {
   routed = λ group. let x = a.routed group in let y = b.routed group in omega (arith, x, y);
   outboxes = λ n. let x = a.outboxes n in let y = b.outboxes n in omega (arith, x, y);
   tokens = λ region. let x = a.tokens region in let y = b.tokens region in omega (arith, x, y);
+  holders = λ bucket. let x = a.holders bucket in let y = b.holders bucket in omega (arith, x, y);
   spare_faces = b.spare_faces ∙ a.spare_faces;
   spare_asks = b.spare_asks ∙ a.spare_asks;
 }
@@ -187,6 +189,7 @@ others-both f standing first second third a b = record {
   routed = λ group. let x = a.routed group in let y = b.routed group in omega (arith, x, y);
   outboxes = λ n other. let x = a.outboxes n in let y = b.outboxes n other in omega (arith, x, y);
   tokens = λ region. let x = a.tokens region in let y = b.tokens region in omega (arith, x, y);
+  holders = λ bucket. let x = a.holders bucket in let y = b.holders bucket in omega (arith, x, y);
   spare_faces = b.spare_faces ∙ a.spare_faces;
   spare_asks = b.spare_asks ∙ a.spare_asks;
 }

@@ -2,6 +2,7 @@
 use Rattle.std.specs.Prelude.{◌≡◌, ℕ, true, ◌+◌, ◌≤◌, ◌<◌, List, [], ◌∷◌, ◌++◌, length, Option, Some, None, refl}
 use Rattle.std.specs.Option.{IsSome}
 use Rattle.std.proofs.Common.{arith, subst}
+use Rattle.zt_keys.specs.declared.anchor.Anchor.{Anchor}
 use Rattle.zt_region.specs.declared.region.Region.{Region}
 use Rattle.zt_grouped.specs.GroupRoom.{room_of}
 use Rattle.zt_model.specs.Strategy.{is_region_of}
@@ -16,6 +17,9 @@ use Rattle.zt_faces.specs.Asks.{ask_in as ask_in_faces}
 use Rattle.zt_faces.specs.Needed.{Stands}
 use Rattle.zt_faces.specs.Reserved.{kinds-needed}
 use Rattle.zt_faces.specs.Rooms.{nothing}
+use Rattle.zt_holders.specs.Held.{total_held}
+use Rattle.zt_holders.specs.Order.{bucket_cmp}
+use Rattle.zt_holders.specs.declared.bucket.Bucket.{Bucket}
 use Rattle.zt_needs.specs.Counts.{Counts}
 use Rattle.zt_needs.specs.Need.{of_faces}
 use Rattle.zt_needs.specs.declared.needs.PlanNeeds.{PlanNeeds}
@@ -63,10 +67,10 @@ module _ {K : Type 0} (needs : PlanNeeds) (acts : List (Act K)) (counts : Counts
     suit-asks (number + 1) spares h.1,
   )
 
-  pub has-room : (s : Store K) (given first second : Rooms) (faces : List FaceRoom) (asks : List AskRoom) → AreAsksNumbered s → s.asks_made + needs.numbers < 4611686018427387904
-      → ((region : Region) → is_region_of s.rows.regions region ≡ true → total_tokens acts ≤ room_of region_cmp region given.tokens) → KeepsTables (of_faces nothing) given first → HasFacesRoom needs s first → KeepsTables (of_faces nothing) first second
-      → HasOtherRoom needs second → SuitEachFace needs (s.rows.made + 1) needs.faces faces → SuitEachAsk needs (s.asks_made + 1) needs.numbers asks → HasRoom acts s (record second { spare_faces = faces; spare_asks = asks })
-  has-room s given first second faces asks numbered last enough_tokens first_kept at_faces kept others faces_suit asks_suit = record {
+  pub has-room : (anchored : Anchor → K → Option ℕ) (s : Store K) (given first second : Rooms) (faces : List FaceRoom) (asks : List AskRoom) → AreAsksNumbered s → s.asks_made + needs.numbers < 4611686018427387904
+      → ((region : Region) → is_region_of s.rows.regions region ≡ true → total_tokens acts ≤ room_of region_cmp region given.tokens) → ((bucket : Bucket) → total_held anchored bucket acts ≤ room_of bucket_cmp bucket given.holders) → KeepsTables (of_faces nothing) given first → HasFacesRoom needs s first → KeepsTables (of_faces nothing) first second
+      → HasOtherRoom needs second → SuitEachFace needs (s.rows.made + 1) needs.faces faces → SuitEachAsk needs (s.asks_made + 1) needs.numbers asks → HasRoom anchored acts s (record second { spare_faces = faces; spare_asks = asks })
+  has-room anchored s given first second faces asks numbered last enough_tokens enough_held first_kept at_faces kept others faces_suit asks_suit = record {
     faces = let enough = at_faces.faces in let is = counts.faces in let less = kept.faces.faces in omega (arith, enough, is, less);
     face_spares = let enough = faces_suit.count in let is = counts.faces in omega (arith, enough, is);
     faces_suit = suit-faces (s.rows.made + 1) faces faces_suit.suit;
@@ -81,5 +85,6 @@ module _ {K : Type 0} (needs : PlanNeeds) (acts : List (Act K)) (counts : Counts
     trees = let enough = others.trees in let is = counts.trees in omega (arith, enough, is);
     routed = λ group. let enough = others.routed group in let is = counts.routed group in omega (arith, enough, is);
     tokens = λ region listed. let enough = enough_tokens region listed in let less = first_kept.tokens region in let then_less = kept.tokens region in omega (arith, enough, less, then_less);
+    holders = λ bucket. let enough = enough_held bucket in let less = first_kept.holders bucket in let then_less = kept.holders bucket in omega (arith, enough, less, then_less);
     outboxes = λ n there. let enough = others.outboxes n in let is = counts.outboxes n in omega (arith, enough, is);
   }

@@ -10,6 +10,7 @@ use Rattle.std.specs.declared.cmp.Ordering.{Ordering}
 use Rattle.std.proofs.Common.{ap, sym, ◌∙◌, subst, arith}
 use Rattle.std.proofs.lemmas.Bool.{eqb-true, false≢true}
 use Rattle.std.proofs.lemmas.Bool.Decides.{nat_tests}
+use Rattle.zt_keys.specs.declared.anchor.Anchor.{Anchor}
 use Rattle.zt_region.specs.declared.region.Bound.{Bound}
 use Rattle.zt_region.specs.declared.region.Region.{Region}
 use Rattle.zt_region.specs.declared.region.WhatAmI.{WhatAmI}
@@ -27,6 +28,7 @@ use Rattle.zt_changes.specs.AsksMade.{asks_in, made-acted as asks_made-acted}
 use Rattle.zt_changes.specs.Touches.{Changes, ChangesAll, Closes, Opens, Touch, face-acted, made-acted, made_by, touch, touched}
 use Rattle.zt_rows.specs.Face.{AskRoom, FaceRoom}
 use Rattle.zt_faces.specs.Rooms.{OpensRoom, all_of_ask, answer_room, face_room, listing_room, one_ask, one_face}
+use Rattle.zt_holders.specs.Held.{bucket_added}
 use Rattle.zt_needs.specs.Need.{need_of, of_faces, total}
 use Rattle.zt_tables.specs.HasRoom.{HasRoom, LeavesRoom, SuitAsks, SuitFaces, is_gone}
 use Rattle.zt_tables.specs.HatPlans.{acted-same}
@@ -52,8 +54,8 @@ module _ {K : Type 0} (act : Act K) (acts : List (Act K)) where
   asks-left number [] h = tt
   asks-left number (spare ∷ spares) h = (record { listings = let all = h.0.listings in omega (arith, all); answers = let all = h.0.answers in omega (arith, all) }, asks-left (number + 1) spares h.1)
 
-  pub room-less : (s : Store K) (rooms : Rooms) → HasRoom (act ∷ acts) s rooms → HasRoom (act ∷ []) s rooms
-  room-less s rooms h = record {
+  pub room-less : (anchored : Anchor → K → Option ℕ) (s : Store K) (rooms : Rooms) → HasRoom anchored (act ∷ acts) s rooms → HasRoom anchored (act ∷ []) s rooms
+  room-less anchored s rooms h = record {
     faces = let all = h.faces in omega (arith, all);
     face_spares = let all = h.face_spares in omega (arith, all);
     faces_suit = faces-first (s.rows.made + 1) rooms.spare_faces h.faces_suit;
@@ -67,6 +69,7 @@ module _ {K : Type 0} (act : Act K) (acts : List (Act K)) where
     dictionary = let all = h.dictionary in omega (arith, all);
     trees = let all = h.trees in omega (arith, all);
     tokens = λ region listed. let all = h.tokens region listed in omega (arith, all);
+    holders = λ bucket. let all = h.holders bucket in omega (arith, all);
     routed = λ group. let all = h.routed group in omega (arith, all);
     outboxes = λ n there. let all = h.outboxes n there in omega (arith, all);
   }
@@ -112,7 +115,7 @@ module _ {K : Type 0} where
   closed-own : (n m : ℕ) (o : Option (Face K)) → (m == n) ≡ true → is_some (touched n (Closes m) o) ≡ false
   closed-own n m o own = rw own refl
 
-module _ {K : Type 0} (cmp : K → K → Ordering) (matching : K → K → Bool) where
+module _ {K : Type 0} (cmp : K → K → Ordering) (matching : K → K → Bool) (anchored : Anchor → K → Option ℕ) where
   -- a change leaves which faces are open, and how many were made
   record Leaves (act : Act K) (s : Store K) : Type 0 where
     still : (n : ℕ) → is_open n (acted cmp matching act s) ≡ is_open n s
@@ -154,9 +157,9 @@ module _ {K : Type 0} (cmp : K → K → Ordering) (matching : K → K → Bool)
 
   -- ---- after a change
 
-  module _ (act : Act K) (acts : List (Act K)) (s : Store K) (rooms left : Rooms) (numbered : AreAsksNumbered s) (h : HasRoom (act ∷ acts) s rooms) where
-    module _ (k : KeepsTablesFor (tokens_in (token_of act)) (need_of act) rooms left) where
-      pub after-plain : is_plain act ≡ true → HasRoom acts (acted cmp matching act s) left
+  module _ (act : Act K) (acts : List (Act K)) (s : Store K) (rooms left : Rooms) (numbered : AreAsksNumbered s) (h : HasRoom anchored (act ∷ acts) s rooms) where
+    module _ (k : KeepsTablesFor (tokens_in (token_of act)) (bucket_added anchored act) (need_of act) rooms left) where
+      pub after-plain : is_plain act ≡ true → HasRoom anchored acts (acted cmp matching act s) left
       after-plain plain =
           let spare_faces = k.spare_faces in
           let spare_asks = k.spare_asks in
@@ -176,6 +179,7 @@ module _ {K : Type 0} (cmp : K → K → Ordering) (matching : K → K → Bool)
             dictionary = let all = h.dictionary in let kept = k.dictionary in omega (arith, all, kept);
             trees = let all = h.trees in let kept = k.trees in omega (arith, all, kept);
             tokens = λ region listed. let all = h.tokens region (listed-was act s region listed) in let kept = k.tokens region in omega (arith, all, kept);
+            holders = λ bucket. let all = h.holders bucket in let kept = k.holders bucket in omega (arith, all, kept);
             routed = λ group. let all = h.routed group in let kept = k.routed group in omega (arith, all, kept);
             outboxes = λ n there. let all = h.outboxes n (sym (gone-same act s leaves n) ∙ there) in let kept = k.outboxes n in omega (arith, all, kept);
           }
@@ -185,7 +189,7 @@ module _ {K : Type 0} (cmp : K → K → Ordering) (matching : K → K → Bool)
   kept-was test None there = there
   kept-was test (Some p) there = refl
 
-  module _ (f : ℕ) (acts : List (Act K)) (s : Store K) (rooms left : Rooms) (numbered : AreAsksNumbered s) (h : HasRoom (CloseFace f ∷ acts) s rooms) where
+  module _ (f : ℕ) (acts : List (Act K)) (s : Store K) (rooms left : Rooms) (numbered : AreAsksNumbered s) (h : HasRoom anchored (CloseFace f ∷ acts) s rooms) where
     still-other : (n : ℕ) → (f == n) ≡ false → is_open n (acted cmp matching (CloseFace f) s) ≡ is_open n s
     still-other n other = ap is_some (face-acted cmp matching n (CloseFace f) s) ∙ closed-other n f (find_face n s.rows) other
 
@@ -195,7 +199,7 @@ module _ {K : Type 0} (cmp : K → K → Ordering) (matching : K → K → Bool)
     is-other : (n : ℕ) → is_open n (acted cmp matching (CloseFace f) s) ≡ true → (f == n) ≡ false
     is-other n open_now = by_test (f == n) (λ t. absurd (false≢true (sym (closed-now n t) ∙ open_now))) (λ t. t)
 
-    pub after-close : f ≤ s.rows.made → KeepsOthers f (acted cmp matching (CloseFace f) s).numbers rooms left → HasRoom acts (acted cmp matching (CloseFace f) s) left
+    pub after-close : f ≤ s.rows.made → KeepsOthers f (acted cmp matching (CloseFace f) s).numbers rooms left → HasRoom anchored acts (acted cmp matching (CloseFace f) s) left
     after-close given k =
         let spare_faces = k.spare_faces in
         let spare_asks = k.spare_asks in
@@ -221,6 +225,7 @@ module _ {K : Type 0} (cmp : K → K → Ordering) (matching : K → K → Bool)
           dictionary = let all = h.dictionary in let kept = k.dictionary in omega (arith, all, kept);
           trees = let all = h.trees in let kept = k.trees in omega (arith, all, kept);
           tokens = λ region listed. let all = h.tokens region (listed-was (CloseFace f) s region listed) in let kept = k.tokens region in omega (arith, all, kept);
+          holders = λ bucket. let all = h.holders bucket in let kept = k.holders bucket in omega (arith, all, kept);
           routed = λ group. let all = h.routed group in let kept = k.routed group in omega (arith, all, kept);
           outboxes = λ n there.
               by_test (f == n)
@@ -237,7 +242,7 @@ module _ {K : Type 0} (cmp : K → K → Ordering) (matching : K → K → Bool)
         }
 
   -- ---- after an ask is dropped
-  module _ (m : ℕ) (acts : List (Act K)) (s : Store K) (rooms left : Rooms) (numbered : AreAsksNumbered s) (h : HasRoom (DropAsk m ∷ acts) s rooms) where
+  module _ (m : ℕ) (acts : List (Act K)) (s : Store K) (rooms left : Rooms) (numbered : AreAsksNumbered s) (h : HasRoom anchored (DropAsk m ∷ acts) s rooms) where
     dropped-other : (n : ℕ) → IsSome (at_id n (acted cmp matching (DropAsk m) s).numbers) → (n == m) ≡ false
     dropped-other n standing =
         by_test (n == m)
@@ -250,7 +255,7 @@ module _ {K : Type 0} (cmp : K → K → Ordering) (matching : K → K → Bool)
         none-there None h there = cc there
         none-there (Some x) h there = cc h
 
-    pub after-drop : KeepsTables (of_faces (all_of_ask m rooms.faces)) rooms left → HasRoom acts (acted cmp matching (DropAsk m) s) left
+    pub after-drop : KeepsTables (of_faces (all_of_ask m rooms.faces)) rooms left → HasRoom anchored acts (acted cmp matching (DropAsk m) s) left
     unfolding is_mild
     after-drop k =
         let spare_faces = k.spare_faces in
@@ -286,6 +291,7 @@ module _ {K : Type 0} (cmp : K → K → Ordering) (matching : K → K → Bool)
           dictionary = let all = h.dictionary in let kept = k.dictionary in omega (arith, all, kept);
           trees = let all = h.trees in let kept = k.trees in omega (arith, all, kept);
           tokens = λ region listed. let all = h.tokens region (listed-was (DropAsk m) s region listed) in let kept = k.tokens region in omega (arith, all, kept);
+          holders = λ bucket. let all = h.holders bucket in let kept = k.holders bucket in omega (arith, all, kept);
           routed = λ group. let all = h.routed group in let kept = k.routed group in omega (arith, all, kept);
           outboxes = λ n there. let all = h.outboxes n (sym (gone-same (DropAsk m) s leaves n) ∙ there) in let kept = k.outboxes n in omega (arith, all, kept);
         }
@@ -294,14 +300,14 @@ module _ {K : Type 0} (cmp : K → K → Ordering) (matching : K → K → Bool)
         leaves-drop = leaves-faces (DropAsk m) s refl refl
 
   -- ---- after a face is opened
-  module _ (zid : Zid) (whatami : WhatAmI) (region : Region) (bound : Bound) (first : ℕ) (acts : List (Act K)) (s : Store K) (rooms left : Rooms) (numbered : AreAsksNumbered s) (h : HasRoom (OpenFace zid whatami region bound first ∷ acts) s rooms) where
+  module _ (zid : Zid) (whatami : WhatAmI) (region : Region) (bound : Bound) (first : ℕ) (acts : List (Act K)) (s : Store K) (rooms left : Rooms) (numbered : AreAsksNumbered s) (h : HasRoom anchored (OpenFace zid whatami region bound first ∷ acts) s rooms) where
     abbrev opening : Act K
     opening = OpenFace zid whatami region bound first
 
     opened-still : (n : ℕ) → (n == s.rows.made + 1) ≡ false → is_open n (acted cmp matching opening s) ≡ is_open n s
     opened-still n other = ap is_some (face-acted cmp matching n opening s) ∙ opened-other n _ (find_face n s.rows) other
 
-    pub after-open : (spare : FaceRoom) (spares : List FaceRoom) → rooms.spare_faces ≡ spare ∷ spares → KeepsTables (of_faces one_face) (record rooms { spare_faces = spares }) left → OpensRoom spare (s.rows.made + 1) left.faces → HasRoom acts (acted cmp matching opening s) left
+    pub after-open : (spare : FaceRoom) (spares : List FaceRoom) → rooms.spare_faces ≡ spare ∷ spares → KeepsTables (of_faces one_face) (record rooms { spare_faces = spares }) left → OpensRoom spare (s.rows.made + 1) left.faces → HasRoom anchored acts (acted cmp matching opening s) left
     after-open spare spares were k own =
         let spare_faces = k.spare_faces in
         let spare_asks = k.spare_asks in
@@ -331,6 +337,7 @@ module _ {K : Type 0} (cmp : K → K → Ordering) (matching : K → K → Bool)
           dictionary = let all = h.dictionary in let kept = k.dictionary in omega (arith, all, kept);
           trees = let all = h.trees in let kept = k.trees in omega (arith, all, kept);
           tokens = λ region listed. let all = h.tokens region (listed-was opening s region listed) in let kept = k.tokens region in omega (arith, all, kept);
+          holders = λ bucket. let all = h.holders bucket in let kept = k.holders bucket in omega (arith, all, kept);
           routed = λ group. let all = h.routed group in let kept = k.routed group in omega (arith, all, kept);
           outboxes = λ n there.
               let was : is_gone n s ≡ false =
@@ -350,7 +357,7 @@ module _ {K : Type 0} (cmp : K → K → Ordering) (matching : K → K → Bool)
         }
 
   -- ---- after an ask is made
-  module _ (f id : ℕ) (interest : InterestRow K) (acts : List (Act K)) (s : Store K) (rooms left : Rooms) (numbered : AreAsksNumbered s) (h : HasRoom (AddAsk f id interest ∷ acts) s rooms) where
+  module _ (f id : ℕ) (interest : InterestRow K) (acts : List (Act K)) (s : Store K) (rooms left : Rooms) (numbered : AreAsksNumbered s) (h : HasRoom anchored (AddAsk f id interest ∷ acts) s rooms) where
     abbrev asking : Act K
     asking = AddAsk f id interest
 
@@ -359,7 +366,7 @@ module _ {K : Type 0} (cmp : K → K → Ordering) (matching : K → K → Bool)
         let same_place : (if n == s.asks_made + 1 then Some (f, id) else at_id n s.numbers) ≡ at_id n s.numbers = rw other refl in standing-was n asking s numbered same_place standing
 
     pub after-ask : (spare : AskRoom) (spares : List AskRoom) → rooms.spare_asks ≡ spare ∷ spares → KeepsTables (of_faces (one_ask f)) (record rooms { spare_asks = spares }) left
-        → spare.pendings ≤ listing_room (s.asks_made + 1) left.faces → spare.answers ≤ answer_room (s.asks_made + 1) left.faces → HasRoom acts (acted cmp matching asking s) left
+        → spare.pendings ≤ listing_room (s.asks_made + 1) left.faces → spare.answers ≤ answer_room (s.asks_made + 1) left.faces → HasRoom anchored acts (acted cmp matching asking s) left
     unfolding is_mild
     after-ask spare spares were k own_listings own_answers =
         let spare_faces = k.spare_faces in
@@ -396,6 +403,7 @@ module _ {K : Type 0} (cmp : K → K → Ordering) (matching : K → K → Bool)
           dictionary = let all = h.dictionary in let kept = k.dictionary in omega (arith, all, kept);
           trees = let all = h.trees in let kept = k.trees in omega (arith, all, kept);
           tokens = λ region listed. let all = h.tokens region (listed-was asking s region listed) in let kept = k.tokens region in omega (arith, all, kept);
+          holders = λ bucket. let all = h.holders bucket in let kept = k.holders bucket in omega (arith, all, kept);
           routed = λ group. let all = h.routed group in let kept = k.routed group in omega (arith, all, kept);
           outboxes = λ n there. let all = h.outboxes n (sym (gone-same asking s leaves n) ∙ there) in let kept = k.outboxes n in omega (arith, all, kept);
         }
@@ -409,21 +417,21 @@ module _ {K : Type 0} (cmp : K → K → Ordering) (matching : K → K → Bool)
   first-rest x (y ∷ ys) h = let is : x ≡ y = ap (λ o. unwrap_or o x) h in ap (λ z. z ∷ ys) (sym is)
 
   module _ (s : Store K) (old new : Rooms) (numbered : AreAsksNumbered s) where
-    pub plain-leaves-room : (act : Act K) → KeepsTablesFor (tokens_in (token_of act)) (need_of act) old new → is_plain act ≡ true → LeavesRoom cmp matching act s old new
+    pub plain-leaves-room : (act : Act K) → KeepsTablesFor (tokens_in (token_of act)) (bucket_added anchored act) (need_of act) old new → is_plain act ≡ true → LeavesRoom cmp matching anchored act s old new
     plain-leaves-room act k plain = record { behind = λ acts h. after-plain act acts s old new numbered h k plain }
 
-    pub close-leaves-room : (f : ℕ) → f ≤ s.rows.made → KeepsOthers f (acted cmp matching (CloseFace f) s).numbers old new → LeavesRoom cmp matching (CloseFace f) s old new
+    pub close-leaves-room : (f : ℕ) → f ≤ s.rows.made → KeepsOthers f (acted cmp matching (CloseFace f) s).numbers old new → LeavesRoom cmp matching anchored (CloseFace f) s old new
     close-leaves-room f given k = record { behind = λ acts h. after-close f acts s old new numbered h given k }
 
-    pub drop-leaves-room : (m : ℕ) → KeepsTables (of_faces (all_of_ask m old.faces)) old new → LeavesRoom cmp matching (DropAsk m) s old new
+    pub drop-leaves-room : (m : ℕ) → KeepsTables (of_faces (all_of_ask m old.faces)) old new → LeavesRoom cmp matching anchored (DropAsk m) s old new
     drop-leaves-room m k = record { behind = λ acts h. after-drop m acts s old new numbered h k }
 
     pub open-leaves-room : (zid : Zid) (whatami : WhatAmI) (region : Region) (bound : Bound) (first : ℕ) (spare : FaceRoom) → Some spare ≡ first_of old.spare_faces
-        → KeepsTables (of_faces one_face) (record old { spare_faces = rest_of old.spare_faces }) new → OpensRoom spare (s.rows.made + 1) new.faces → LeavesRoom cmp matching (OpenFace zid whatami region bound first) s old new
+        → KeepsTables (of_faces one_face) (record old { spare_faces = rest_of old.spare_faces }) new → OpensRoom spare (s.rows.made + 1) new.faces → LeavesRoom cmp matching anchored (OpenFace zid whatami region bound first) s old new
     open-leaves-room zid whatami region bound first spare taken k own =
         record { behind = λ acts h. after-open zid whatami region bound first acts s old new numbered h spare (rest_of old.spare_faces) (first-rest spare old.spare_faces taken) k own }
 
     pub ask-leaves-room : (f id : ℕ) (interest : InterestRow K) (spare : AskRoom) → Some spare ≡ first_of old.spare_asks → KeepsTables (of_faces (one_ask f)) (record old { spare_asks = rest_of old.spare_asks }) new
-        → spare.pendings ≤ listing_room (s.asks_made + 1) new.faces → spare.answers ≤ answer_room (s.asks_made + 1) new.faces → LeavesRoom cmp matching (AddAsk f id interest) s old new
+        → spare.pendings ≤ listing_room (s.asks_made + 1) new.faces → spare.answers ≤ answer_room (s.asks_made + 1) new.faces → LeavesRoom cmp matching anchored (AddAsk f id interest) s old new
     ask-leaves-room f id interest spare taken k own_listings own_answers =
         record { behind = λ acts h. after-ask f id interest acts s old new numbered h spare (rest_of old.spare_asks) (first-rest spare old.spare_asks taken) k own_listings own_answers }

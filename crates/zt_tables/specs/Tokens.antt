@@ -5,11 +5,12 @@
 --     NextToken act waiting token left     the token that an act adds is taken from those that wait
 use Rattle.std.specs.Prelude.{◌≡◌, ℕ, ◌+◌, List, [], ◌∷◌, ◌++◌, length, Option, Some, None, refl}
 use Rattle.std.proofs.Common.{ap, arith, sym, ◌∙◌}
-use Rattle.zt_model.specs.Acts.{Act, AddLive, AddRouted}
+use Rattle.zt_model.specs.Acts.{Act, AddHeld, AddLive, AddRouted}
 
 abbrev pub token_of : {K : Type 0} → Act K → Option K
 token_of (AddLive n id e) = Some e
 token_of (AddRouted region source e) = Some e
+token_of (AddHeld n id interest) = interest.expr
 token_of _ = None
 
 abbrev pub with_token : {K : Type 0} → Option K → List K → List K

@@ -43,5 +43,5 @@ pub record AreTables {K : Type 0} (cmp : K → K → Ordering) (anchored : Ancho
   pub counted : IsCounted 1 a.dictionary.rows
   pub dictionary : length a.dictionary.rows ≤ 65535
   pub kept : IsKept cmp (table_rows a).store a.tokens.counts
-  pub indexed : IsIndexed anchored (table_rows a).store.rows a.holders.rows
+  pub indexed : IsIndexed anchored a.faces.faces a.holders.rows
   pub served : AreServed (table_rows a).store a.faces.served

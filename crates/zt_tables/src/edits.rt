@@ -1,5 +1,5 @@
 // One change of the tables at a time.
-ghost use Rattle.std.specs.Prelude.{◌≡◌, ◌+◌, ◌<◌, ◌≤◌, [], IfSome, true};
+ghost use Rattle.std.specs.Prelude.{◌≡◌, ◌+◌, ◌<◌, ◌≤◌, [], IfSome, None, true};
 ghost use Rattle.std.specs.Ordering.{nat_cmp};
 ghost use Rattle.zt_grouped.specs.GroupRoom.{room_of};
 ghost use Rattle.zt_model.specs.Acts.{AddAsk, AddHeld, AddLive, AddLocal, AddPending, AddRouted, Answered, CloseFace, DropAsk, DropHeld, DropLive, DropLocal, DropPending, DropRouted, FinaliseInitial, Fits, Number, OpenFace, Send, SetEntities, SetMoment, SetTree, Tell, Untell, acted};
@@ -13,11 +13,16 @@ ghost use Rattle.zt_model.specs.Parts.{find_face};
 ghost use Rattle.zt_model.specs.Strategy.{is_region_of};
 ghost use Rattle.zt_changes.specs.Orderly.{IsOrderly};
 ghost use Rattle.zt_changes.specs.Queries.{list_of_face};
+ghost use Rattle.zt_holders.specs.Buckets.{bucket_of};
+ghost use Rattle.zt_holders.specs.Indexed.{bucket_held, held_under};
+ghost use Rattle.zt_holders.specs.Order.{bucket_cmp};
 ghost use Rattle.zt_tables.specs.RegionOrder.{region_cmp};
 ghost use Rattle.zt_tables.specs.Room.{KeepsOthers, KeepsTables, KeepsTablesFor};
+ghost use Rattle.zt_tables.specs.Tokens.{tokens_in};
 ghost use Rattle.zt_needs.specs.Need.{of_faces, one_message, one_number, one_routed, one_tree};
 
 use crate::tables::Tables;
+use zt_holders::{Bucket, bucket_of, drop_holder, keep_holder};
 use zt_keys::Key;
 use zt_protocol::{Message, QueryableInfo, TreeTable};
 use zt_region::{Region, Zid};
@@ -38,7 +43,7 @@ impl<K: Key> Tables<K> {
         requires token_room { (region : Region) → is_region_of self.old.store.rows.regions region ≡ true → 0 < room_of region_cmp region self.old.rooms.tokens }
         requires token { token ≡ expr }
         ensures store { self.new.store ≡ acted K.cmp K.matching (AddLive f id expr) self.old.store }
-        ensures rooms { KeepsTablesFor 1 (of_faces (one_row f LiveRows)) self.old.rooms self.new.rooms }
+        ensures rooms { KeepsTablesFor 1 None (of_faces (one_row f LiveRows)) self.old.rooms self.new.rooms }
     {
         self.orderly();
         match self.faces.get(f) {
@@ -91,14 +96,32 @@ impl<K: Key> Tables<K> {
         self.faces.untell(f, expr);
     }
 
-    // The face holds an interest.
-    pub(crate) fn add_held(&mut self, f: u32, row: HeldRow<K>)
+    // The face holds an interest, whose expression is given a second time for the index.
+    pub(crate) fn add_held(&mut self, f: u32, row: HeldRow<K>, about: Option<K>)
         requires fits { Fits K.cmp K.matching (AddHeld f row.id (interest_held row)) self.old.store }
         requires room { 0 < face_room f HeldRows self.old.rooms.faces }
+        requires bucket_room { IfSome (bucket_of K.anchored (interest_held row)) (λ b. 0 < room_of bucket_cmp b self.old.rooms.holders) }
+        requires about { about ≡ row.interest.expr }
         ensures store { self.new.store ≡ acted K.cmp K.matching (AddHeld f row.id (interest_held row)) self.old.store }
-        ensures rooms { KeepsTables (of_faces (one_row f HeldRows)) self.old.rooms self.new.rooms }
+        ensures rooms { KeepsTablesFor (tokens_in row.interest.expr) (bucket_of K.anchored (interest_held row)) (of_faces (one_row f HeldRows)) self.old.rooms self.new.rooms }
     {
+        keep_holder(
+            &mut self.holders,
+            bucket_of(&row.interest),
+            (f, row.id),
+            about,
+        );
         self.faces.add_held(f, row);
+    }
+
+    // The bucket of the interest that the face holds under the id, if it is one in tokens.
+    fn bucket_held(&self, f: u32, id: u32) -> Option<Bucket>
+        ensures { result ≡ bucket_held K.anchored (held_under id (find_face f self.now.store.rows)) }
+    {
+        match self.held(f, id) {
+            Some(row) => bucket_of(&row.interest),
+            None => None,
+        }
     }
 
     // The interest of the id is held no more.
@@ -107,6 +130,8 @@ impl<K: Key> Tables<K> {
         ensures store { self.new.store ≡ acted K.cmp K.matching (DropHeld f id) self.old.store }
         ensures rooms { KeepsTables (of_faces nothing) self.old.rooms self.new.rooms }
     {
+        let bucket = self.bucket_held(f, id);
+        drop_holder(&mut self.holders, bucket, (f, id));
         self.faces.drop_held(f, id);
     }
 
@@ -208,7 +233,7 @@ impl<K: Key> Tables<K> {
         requires token_room { (other : Region) → is_region_of self.old.store.rows.regions other ≡ true → 0 < room_of region_cmp other self.old.rooms.tokens }
         requires token { token ≡ expr }
         ensures store { self.new.store ≡ acted K.cmp K.matching (AddRouted region source expr) self.old.store }
-        ensures rooms { KeepsTablesFor 1 (one_routed (region, source)) self.old.rooms self.new.rooms }
+        ensures rooms { KeepsTablesFor 1 None (one_routed (region, source)) self.old.rooms self.new.rooms }
     {
         self.orderly();
         if source == self.zid() {
@@ -252,16 +277,45 @@ impl<K: Key> Tables<K> {
         ensures rooms { KeepsOthers f self.new.store.numbers self.old.rooms self.new.rooms }
         ensures given { f ≤ self.old.store.rows.made }
     {
-        while let Some(id) = self.next_live(f, None) {
-            self.drop_live(f, id);
-        }
+        self.drop_tokens(f);
+        self.drop_interests(f);
         self.close_silent(f);
     }
 
-    // The face goes, which declares no token any more.
+    // Whatever the face declared goes, and it closes as before.
+    fn drop_tokens(&mut self, f: u32)
+        requires { Fits K.cmp K.matching (CloseFace f) self.old.store }
+        ensures fits { Fits K.cmp K.matching (CloseFace f) self.new.store }
+        ensures left { acted K.cmp K.matching (CloseFace f) self.new.store ≡ acted K.cmp K.matching (CloseFace f) self.old.store }
+        ensures silent { list_of_face (λ x. x.live) (find_face f self.new.store.rows) ≡ [] }
+        ensures rooms { KeepsTables (of_faces nothing) self.old.rooms self.new.rooms }
+        ensures made { self.new.store.rows.made ≡ self.old.store.rows.made }
+    {
+        while let Some(id) = self.next_live(f, None) {
+            self.drop_live(f, id);
+        }
+    }
+
+    // Whatever the face holds goes, and it closes as before.
+    fn drop_interests(&mut self, f: u32)
+        requires { Fits K.cmp K.matching (CloseFace f) self.old.store }
+        ensures fits { Fits K.cmp K.matching (CloseFace f) self.new.store }
+        ensures left { acted K.cmp K.matching (CloseFace f) self.new.store ≡ acted K.cmp K.matching (CloseFace f) self.old.store }
+        ensures live { list_of_face (λ x. x.live) (find_face f self.new.store.rows) ≡ list_of_face (λ x. x.live) (find_face f self.old.store.rows) }
+        ensures none_held { list_of_face (λ x. x.held) (find_face f self.new.store.rows) ≡ [] }
+        ensures rooms { KeepsTables (of_faces nothing) self.old.rooms self.new.rooms }
+        ensures made { self.new.store.rows.made ≡ self.old.store.rows.made }
+    {
+        while let Some(id) = self.next_held(f, None) {
+            self.drop_held(f, id);
+        }
+    }
+
+    // The face goes, which declares no token and holds no interest any more.
     fn close_silent(&mut self, f: u32)
         requires fits { Fits K.cmp K.matching (CloseFace f) self.old.store }
         requires silent { list_of_face (λ x. x.live) (find_face f self.old.store.rows) ≡ [] }
+        requires none_held { list_of_face (λ x. x.held) (find_face f self.old.store.rows) ≡ [] }
         ensures store { self.new.store ≡ acted K.cmp K.matching (CloseFace f) self.old.store }
         ensures rooms { KeepsOthers f self.new.store.numbers self.old.rooms self.new.rooms }
         ensures given { f ≤ self.old.store.rows.made }

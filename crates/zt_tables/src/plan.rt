@@ -34,12 +34,13 @@ impl<K: Key> Model for Plan<K> {
     ghost invariant = { IsPlan };
 }
 
-// The expression of the token that the change adds, of a face or of a router.
+// The expression of the row that the change adds and that an index keeps: a token of a face or of a router, or an interest.
 pub(crate) fn token_of<K: Key>(change: &Change<K>) -> Option<&K>
     ensures { option_copied result ≡ token_of (plain_change change.now) }
 {
     match change {
         Change::AddLive { expr, .. } | Change::AddRouted { expr, .. } => Some(expr),
+        Change::AddHeld { row, .. } => row.interest.expr.as_ref(),
         _ => None,
     }
 }
@@ -67,9 +68,9 @@ fn tokens_in<K: Key>(change: &Change<K>) -> usize
     ensures tokens { result ≡ tokens_in (token_of (plain_change change.now)) }
     ensures most { result ≤ 1 }
 {
-    match change {
-        Change::AddLive { .. } | Change::AddRouted { .. } => 1,
-        _ => 0,
+    match token_of(change) {
+        Some(_) => 1,
+        None => 0,
     }
 }
 

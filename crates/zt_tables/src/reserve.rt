@@ -14,6 +14,8 @@ ghost use Rattle.zt_grouped.specs.Counted.{CountsAlike};
 ghost use Rattle.zt_grouped.specs.GroupRoom.{room_of};
 ghost use Rattle.zt_grouped.specs.Prepared.{HasRooms};
 ghost use Rattle.zt_model.specs.Strategy.{is_region_of};
+ghost use Rattle.zt_holders.specs.Held.{CountsHeld};
+ghost use Rattle.zt_holders.specs.Order.{bucket_cmp};
 ghost use Rattle.zt_tables.specs.RegionOrder.{region_cmp};
 ghost use Rattle.zt_tables.specs.Tokens.{total_tokens};
 
@@ -22,8 +24,10 @@ use crate::tables::Tables;
 use std::alloc::{AllocError, Global};
 use std::collections::VecDeque;
 use zt_grouped::GroupedCounts;
+use zt_holders::{Bucket, count_held, prepare_holders};
 use zt_keys::{Key, Memory};
 use zt_needs::PlanNeeds;
+use zt_ordered::OrderedRows;
 use zt_region::Region;
 use zt_rows::{SpareAsk, SpareFace};
 
@@ -144,16 +148,31 @@ impl<K: Key> Tables<K> {
         prepare_each(&mut self.tokens, self.alloc, &self.regions, more)
     }
 
-    // All the room that is needed, and for counts of so many tokens.
-    fn reserve_needs(&mut self, needs: &PlanNeeds, tokens: usize) -> Result<(), AllocError>
+    // Room for so many more interests in each bucket that has a row.
+    fn reserve_holders(&mut self, held: &OrderedRows<Bucket, usize>) -> Result<(), AllocError>
         ensures store { self.new.store ≡ self.old.store }
-        ensures ok { OnOk result ((acts : List (Act K)) → Counts needs.now acts → total_tokens acts ≡ tokens → HasRoom acts self.old.store self.new.rooms) }
+        ensures rooms { KeepsTables (of_faces nothing) self.old.rooms self.new.rooms }
+        ensures ok { OnOk result (HasRooms bucket_cmp held.now.rows self.new.rooms.holders) }
+    {
+        prepare_holders(&mut self.holders, self.alloc, held)
+    }
+
+    // All the room that is needed, for counts of so many tokens, and for so many interests in each bucket.
+    fn reserve_needs(
+        &mut self,
+        needs: &PlanNeeds,
+        tokens: usize,
+        held: &OrderedRows<Bucket, usize>,
+    ) -> Result<(), AllocError>
+        ensures store { self.new.store ≡ self.old.store }
+        ensures ok { OnOk result ((acts : List (Act K)) → Counts needs.now acts → total_tokens acts ≡ tokens → CountsHeld K.anchored held.now.rows acts → HasRoom K.anchored acts self.old.store self.new.rooms) }
     {
         let made = self.next_ask() - 1;
         match made.checked_add(needs.numbers as u64) {
             Some(numbers) if numbers < 1 << 62 => (),
             _ => return Err(AllocError),
         }
+        self.reserve_holders(held)?;
         self.reserve_tokens(tokens)?;
         self.reserve_faces(needs)?;
         self.reserve_others(needs)?;
@@ -166,10 +185,11 @@ impl<K: Key> Tables<K> {
     pub fn reserve(&mut self, plan: &mut Plan<K>) -> Result<(), Memory>
         ensures store { self.new.store ≡ self.old.store }
         ensures plan { plan.new ≡ plan.old }
-        ensures ok { OnOk result (HasRoom plan.old self.old.store self.new.rooms) }
+        ensures ok { OnOk result (HasRoom K.anchored plan.old self.old.store self.new.rooms) }
     {
         let needs = PlanNeeds::of(self.alloc, plan.changes())?;
-        self.reserve_needs(&needs, plan.tokens_added())?;
+        let held = count_held(self.alloc, plan.changes())?;
+        self.reserve_needs(&needs, plan.tokens_added(), &held)?;
         Ok(())
     }
 }

@@ -22,8 +22,9 @@ use std::marker::Model;
 use zt_changes::RegionTest;
 use zt_faces::Faces;
 use zt_grouped::{GroupedCounts, GroupedKeys, Outboxes};
+use zt_holders::Bucket;
 use zt_keys::Key;
-use zt_ordered::OrderedRows;
+use zt_ordered::{KeyGroups, OrderedRows};
 use zt_protocol::{Message, TreeTable};
 use zt_region::{Admission, Region, WhatAmI, Zid};
 use zt_rows::{AskRows, FaceRow, FaceRows, KeyIds, SpareAsk, SpareFace};
@@ -44,6 +45,8 @@ pub struct Tables<K: Key> {
     pub(crate) outboxes: Outboxes<K>,
     // How many live rows of each expression stand in each region.
     pub(crate) tokens: GroupedCounts<Region, K>,
+    // The interests in tokens that faces hold, by face and id, in the bucket in which a token looks for them.
+    pub(crate) holders: KeyGroups<Bucket, (u32, u32), Option<K>>,
     pub(crate) alloc: Global,
     // Lists with room for the faces and the asks that a plan makes, the next one's first.
     pub(crate) spare_faces: VecDeque<SpareFace<K>>,
@@ -59,7 +62,7 @@ impl<K: Key> Model for Tables<K> {
 
     ghost view = { table_rows };
 
-    ghost invariant = { AreTables K.cmp };
+    ghost invariant = { AreTables K.cmp K.anchored };
 }
 
 impl<K: Key> Tables<K> {
@@ -103,6 +106,7 @@ impl<K: Key> Tables<K> {
             trees: OrderedRows::new(alloc),
             outboxes: Outboxes::new(alloc),
             tokens: GroupedCounts::new(alloc),
+            holders: KeyGroups::new(alloc),
             alloc,
             spare_faces: VecDeque::new(alloc),
             spare_asks: VecDeque::new(alloc),

@@ -7,6 +7,7 @@ use Rattle.zt_model.specs.Strategy.{is_region_of}
 use Rattle.zt_changes.specs.Orderly.{IsOrderly}
 use Rattle.zt_grouped.specs.Counted.{CountsOneMore}
 use Rattle.zt_tables.specs.RegionOrder.{region_cmp}
+use Rattle.zt_holders.specs.Indexed.{indexed-still}
 use Rattle.zt_tables.specs.View.{table_rows}
 use Rattle.zt_tables.specs.Serving.{served-same}
 use Rattle.zt_tables.proofs.KeptActs.{kept-added}
@@ -39,7 +40,8 @@ invariant_of-self g c =
     let of_expr = subst (λ e. CountsOneMore region_cmp g.K.Ord.cmp x.region e c.self.inside.tokens.counts c.add.new.self.counts) c.requires.token more in
     let kept = kept-added g.K.Ord.cmp g.K.Key.matching g.met.K.Ord.total (table_rows c.self.inside).store c.self.inside.tokens.counts c.add.new.self.counts c.self.invariant.kept orderly c.args.f c.args.id c.args.expr x (sym there) fit of_expr in
     let serves = served-same g.K.Ord.cmp g.K.Key.matching (AddLive c.args.f c.args.id c.args.expr) (table_rows c.self.inside).store c.self.invariant.kept.numbered fit c.self.inside.faces.served c.self.invariant.served (λ p o. refl) in
-    record { counted = c.self.invariant.counted; dictionary = c.self.invariant.dictionary; kept = rw c.add_live.ensures.faces kept; served = rw c.add_live.ensures.faces serves }
+    let holds = indexed-still g.K.Ord.cmp g.K.Key.matching g.K.Key.anchored (AddLive c.args.f c.args.id c.args.expr) (table_rows c.self.inside).store c.self.inside.holders.rows refl c.self.invariant.indexed in
+    record { counted = c.self.invariant.counted; dictionary = c.self.invariant.dictionary; kept = rw c.add_live.ensures.faces kept; indexed = rw c.add_live.ensures.faces holds; served = rw c.add_live.ensures.faces serves }
 
 pub returns-clause-store : goal.returns-clause-store
 unfolding acted with_face
@@ -54,6 +56,7 @@ returns-clause-rooms g c =
       routed = λ group. omega arith;
       outboxes = λ n. omega arith;
       tokens = λ region. one-room region c.row.result.now.region c.self.inside.tokens.rooms c.add.new.self.rooms c.add.ensures.rooms;
+      holders = λ bucket. omega arith;
       spare_faces = refl;
       spare_asks = refl;
     })

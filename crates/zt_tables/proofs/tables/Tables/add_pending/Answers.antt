@@ -6,6 +6,7 @@ use Rattle.zt_model.specs.Parts.{with_face}
 use Rattle.zt_rows.specs.Plain.{plain_pending}
 use Rattle.zt_tables.proofs.KeptActs.{kept-silent}
 use Rattle.zt_tables.specs.Fitting.{place-named, weaker-second}
+use Rattle.zt_holders.specs.Indexed.{indexed-still}
 use Rattle.zt_tables.specs.View.{table_rows}
 use Rattle.zt_faces.specs.Served.{served_at-put, served_put}
 use Rattle.zt_tables.specs.Serving.{served-acted}
@@ -25,7 +26,8 @@ invariant_of-self g c =
     let fit = subst (λ t. Fits g.K.Ord.cmp g.K.Key.matching (AddPending c.args.f row.id row.ask (plain_pending row)) t.store) (sym c.self.view_is) c.requires.fits in
     let kept = kept-silent g.K.Ord.cmp g.K.Key.matching (AddPending c.args.f row.id row.ask (plain_pending row)) (table_rows c.self.inside).store c.self.inside.tokens.counts c.self.invariant.kept fit (λ e test. refl) in
     let serves = served-acted g.K.Ord.cmp g.K.Key.matching (AddPending c.args.f row.id row.ask (plain_pending row)) (table_rows c.self.inside).store c.self.invariant.kept.numbered fit c.self.inside.faces.served c.self.invariant.served (served_put c.args.f row.id row.ask c.self.inside.faces.served) (λ p. served_at-put p c.args.f c.self.inside.faces.served row.id row.ask) in
-    record { counted = c.self.invariant.counted; dictionary = c.self.invariant.dictionary; kept = rw (c.add_pending.ensures.faces, place-named row.ask (table_rows c.self.inside).store) kept; served = rw (c.add_pending.ensures.faces, place-named row.ask (table_rows c.self.inside).store) serves }
+    let holds = indexed-still g.K.Ord.cmp g.K.Key.matching g.K.Key.anchored (AddPending c.args.f row.id row.ask (plain_pending row)) (table_rows c.self.inside).store c.self.inside.holders.rows refl c.self.invariant.indexed in
+    record { counted = c.self.invariant.counted; dictionary = c.self.invariant.dictionary; kept = rw (c.add_pending.ensures.faces, place-named row.ask (table_rows c.self.inside).store) kept; indexed = rw (c.add_pending.ensures.faces, place-named row.ask (table_rows c.self.inside).store) holds; served = rw (c.add_pending.ensures.faces, place-named row.ask (table_rows c.self.inside).store) serves }
 
 pub returns-clause-store : goal.returns-clause-store
 unfolding acted with_face

@@ -13,7 +13,7 @@ loop-change-init g c =
     let whole : map plain_change (into_iter_items c.into_iter-rest.result) ≡ c.args.plan = ap (map plain_change) c.into_iter-rest.ensures.rest ∙ c.into_parts-changes.ensures.changes in
     record {
       fits = subst (λ acts. Fit g.K.Ord.cmp g.K.Key.matching acts s) (sym whole) c.requires.fits;
-      room = subst (λ acts. HasRoom acts s c.args.self.now.rooms) (sym whole) c.requires.room;
+      room = subst (λ acts. HasRoom g.K.Key.anchored acts s c.args.self.now.rooms) (sym whole) c.requires.room;
       tokens = c.into_iter-tokens.ensures.rest ∙ c.into_parts-changes.ensures.tokens ∙ ap tokens_added (sym whole);
       left = ap (λ acts. acted_all g.K.Ord.cmp g.K.Key.matching acts s) whole;
     }
@@ -34,8 +34,8 @@ make-requires-clause-fits g c =
 pub make-requires-clause-room : goal.make-requires-clause-room
 make-requires-clause-room g c =
     let items : into_iter_items c.loop-change.rest ≡ c.in-Some.change ∷ into_iter_items c.next.new.self = rw c.in-Some.is at c.next.ensures.items in
-    let room = subst (λ changes. HasRoom (map plain_change changes) c.loop-change.self.store c.loop-change.self.rooms) items c.loop-change.invariant.room in
-    room-less (plain_change c.in-Some.change) (map plain_change (into_iter_items c.next.new.self)) c.loop-change.self.store c.loop-change.self.rooms room
+    let room = subst (λ changes. HasRoom g.K.Key.anchored (map plain_change changes) c.loop-change.self.store c.loop-change.self.rooms) items c.loop-change.invariant.room in
+    room-less (plain_change c.in-Some.change) (map plain_change (into_iter_items c.next.new.self)) g.K.Key.anchored c.loop-change.self.store c.loop-change.self.rooms room
 
 pub loop-change-preserved : goal.loop-change-preserved
 unfolding Fit acted_all
@@ -43,7 +43,7 @@ loop-change-preserved g c =
     let later = map plain_change (into_iter_items c.next.new.self) in
     let items : into_iter_items c.loop-change.rest ≡ c.in-Some.change ∷ into_iter_items c.next.new.self = rw c.in-Some.is at c.next.ensures.items in
     let fit = subst (λ changes. Fit g.K.Ord.cmp g.K.Key.matching (map plain_change changes) c.loop-change.self.store) items c.loop-change.invariant.fits in
-    let room = subst (λ changes. HasRoom (map plain_change changes) c.loop-change.self.store c.loop-change.self.rooms) items c.loop-change.invariant.room in
+    let room = subst (λ changes. HasRoom g.K.Key.anchored (map plain_change changes) c.loop-change.self.store c.loop-change.self.rooms) items c.loop-change.invariant.room in
     let waiting = subst (λ changes. into_iter_items c.loop-change.tokens ≡ tokens_added (map plain_change changes)) items c.loop-change.invariant.tokens in
     let left = subst (λ changes. acted_all g.K.Ord.cmp g.K.Key.matching (map plain_change changes) c.loop-change.self.store ≡ acted_all g.K.Ord.cmp g.K.Key.matching c.args.plan c.args.self.now.store) items c.loop-change.invariant.left in
     record {

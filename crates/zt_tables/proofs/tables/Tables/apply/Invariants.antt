@@ -9,7 +9,7 @@ use Rattle.zt_tables.proofs.tables.Tables.apply.Given as goal
 abbrev pub invariant-loop-change : goal.invariant-loop-change
 invariant-loop-change g l = record {
   fits : Fit g.K.Ord.cmp g.K.Key.matching (map plain_change (into_iter_items l.rest)) l.self.store;
-  room : HasRoom (map plain_change (into_iter_items l.rest)) l.self.store l.self.rooms;
+  room : HasRoom g.K.Key.anchored (map plain_change (into_iter_items l.rest)) l.self.store l.self.rooms;
   tokens : into_iter_items l.tokens ≡ tokens_added (map plain_change (into_iter_items l.rest));
   left : acted_all g.K.Ord.cmp g.K.Key.matching (map plain_change (into_iter_items l.rest)) l.self.store ≡ acted_all g.K.Ord.cmp g.K.Key.matching l.fn.plan l.fn.self.store;
 }

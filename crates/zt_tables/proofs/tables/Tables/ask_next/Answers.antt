@@ -10,7 +10,7 @@ use Rattle.zt_tables.proofs.tables.Tables.ask_next.Goals as goal
 
 pub add_ask-requires-clause-row_room : goal.add_ask-requires-clause-row_room
 add_ask-requires-clause-row_room g c =
-    rw (c.from_spare.ensures.face, c.take_spare_ask.ensures.left) (asked-room g.K.Ord.cmp g.K.Key.matching c.args.self.now.store c.args.self.now.rooms c.args.row.face c.args.row.id (plain_interest c.args.row.interest) c.requires.fits c.requires.room)
+    rw (c.from_spare.ensures.face, c.take_spare_ask.ensures.left) (asked-room g.K.Ord.cmp g.K.Key.matching g.K.Key.anchored c.args.self.now.store c.args.self.now.rooms c.args.row.face c.args.row.id (plain_interest c.args.row.interest) c.requires.fits c.requires.room)
 
 pub returns-clause-room : goal.returns-clause-room
 returns-clause-room g c =
@@ -26,4 +26,4 @@ returns-clause-room g c =
     let listings = subst (λ n. n ≤ listing_room number new.faces) (ap (λ r. r.pendings) c.from_spare.ensures.room) listed in
     let answered = subst (λ t. c.from_spare.result.answer_room ≤ answer_room (t.store.asks_made + 1) new.faces) left c.add_ask.ensures.answers in
     let answers = subst (λ n. n ≤ answer_room number new.faces) (ap (λ r. r.answers) c.from_spare.ensures.room) answered in
-    ask-leaves-room g.K.Ord.cmp g.K.Key.matching c.args.self.now.store c.args.self.now.rooms new c.next_ask-number.ensures.numbered row.face row.id (plain_interest row.interest) spare c.in-Some.ensures.taken rooms listings answers
+    ask-leaves-room g.K.Ord.cmp g.K.Key.matching g.K.Key.anchored c.args.self.now.store c.args.self.now.rooms new c.next_ask-number.ensures.numbered row.face row.id (plain_interest row.interest) spare c.in-Some.ensures.taken rooms listings answers

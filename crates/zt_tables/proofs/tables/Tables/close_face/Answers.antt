@@ -1,33 +1,6 @@
-use Rattle.std.proofs.Common.{◌∙◌, refl}
-use Rattle.zt_model.specs.Acts.{DropLive, fits}
-use Rattle.zt_model.specs.Parts.{find_face}
-use Rattle.zt_changes.specs.Touches.{made-acted}
-use Rattle.zt_tables.proofs.LiveEdits.{both-kept, dropped-closed, dropped-less, dropped-open, live-stands, none-kept}
+use Rattle.std.proofs.Common.{◌∙◌}
+use Rattle.zt_tables.proofs.LiveEdits.{both-kept, others-both}
 use Rattle.zt_tables.proofs.tables.Tables.close_face.Goals as goal
 
-pub loop-id-init : goal.loop-id-init
-loop-id-init g c = record { fits = c.requires; left = refl; rooms = none-kept c.args.self.now.rooms; made = refl }
-
-pub drop_live-requires : goal.drop_live-requires
-unfolding fits
-drop_live-requires g c =
-    let first = rw c.in-Some.is at c.next_live.ensures in live-stands c.in-Some.id (find_face c.args.f c.loop-id.self.store.rows) first
-
-pub loop-id-smaller : goal.loop-id-smaller
-loop-id-smaller g c =
-    let first = rw c.in-Some.is at c.next_live.ensures in
-    let less = dropped-less g.K.Ord.cmp g.K.Key.matching c.args.f c.in-Some.id c.loop-id.self.store first in
-    rw c.drop_live.ensures.store less
-
-pub loop-id-preserved : goal.loop-id-preserved
-loop-id-preserved g c =
-    let s = c.loop-id.self.store in
-    let fits = dropped-open g.K.Ord.cmp g.K.Key.matching c.args.f c.in-Some.id s c.loop-id.invariant.fits in
-    let left = dropped-closed g.K.Ord.cmp g.K.Key.matching c.args.f c.in-Some.id s ∙ c.loop-id.invariant.left in
-    let made = made-acted g.K.Ord.cmp g.K.Key.matching (DropLive c.args.f c.in-Some.id) s ∙ c.loop-id.invariant.made in
-    record {
-      fits = rw c.drop_live.ensures.store fits;
-      left = rw c.drop_live.ensures.store left;
-      rooms = both-kept c.args.self.now.rooms c.loop-id.self.rooms c.drop_live.new.self.rooms c.loop-id.invariant.rooms c.drop_live.ensures.rooms;
-      made = rw c.drop_live.ensures.store made;
-    }
+pub returns-clause-store : goal.returns-clause-store
+returns-clause-store g c = c.close_silent.ensures.store ∙ c.drop_interests.ensures.left ∙ c.drop_tokens.ensures.left

@@ -7,6 +7,7 @@ use Rattle.zt_model.specs.Parts.{with_face}
 use Rattle.zt_changes.specs.LiveRows.{live-parts}
 use Rattle.zt_changes.specs.Orderly.{IsOrderly}
 use Rattle.zt_tables.specs.RegionOrder.{region_cmp}
+use Rattle.zt_holders.specs.Indexed.{indexed-still}
 use Rattle.zt_tables.specs.View.{table_rows}
 use Rattle.zt_tables.specs.Serving.{served-same}
 use Rattle.zt_tables.proofs.KeptActs.{kept-dropped}
@@ -50,7 +51,8 @@ invariant_of-self g c =
     let found = rw c.in-Some-live.is at c.live.ensures in
     let kept = kept-dropped g.K.Ord.cmp g.K.Key.matching g.met.K.Ord.total (table_rows c.self.inside).store c.self.inside.tokens.counts c.remove.new.self.counts c.self.invariant.kept orderly c.args.f c.args.id c.in-Some-live.expr.now x (sym there) fit c.in_order.ensures.live (sym found) less in
     let serves = served-same g.K.Ord.cmp g.K.Key.matching (DropLive c.args.f c.args.id) (table_rows c.self.inside).store c.self.invariant.kept.numbered fit c.self.inside.faces.served c.self.invariant.served (λ p o. refl) in
-    record { counted = c.self.invariant.counted; dictionary = c.self.invariant.dictionary; kept = rw c.drop_live.ensures.faces kept; served = rw c.drop_live.ensures.faces serves }
+    let holds = indexed-still g.K.Ord.cmp g.K.Key.matching g.K.Key.anchored (DropLive c.args.f c.args.id) (table_rows c.self.inside).store c.self.inside.holders.rows refl c.self.invariant.indexed in
+    record { counted = c.self.invariant.counted; dictionary = c.self.invariant.dictionary; kept = rw c.drop_live.ensures.faces kept; indexed = rw c.drop_live.ensures.faces holds; served = rw c.drop_live.ensures.faces serves }
 
 pub returns-clause-store : goal.returns-clause-store
 unfolding acted with_face
@@ -65,6 +67,7 @@ returns-clause-rooms g c =
       routed = λ group. omega arith;
       outboxes = λ n. omega arith;
       tokens = λ region. no-room region c.row.result.now.region c.self.inside.tokens.rooms c.remove.new.self.rooms c.remove.ensures.rooms;
+      holders = λ bucket. omega arith;
       spare_faces = refl;
       spare_asks = refl;
     })

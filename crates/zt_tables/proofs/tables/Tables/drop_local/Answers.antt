@@ -4,6 +4,7 @@ use Rattle.zt_model.specs.Parts.{with_face}
 use Rattle.zt_model.specs.Acts.{DropLocal}
 use Rattle.zt_tables.specs.Fitting.{has-face}
 use Rattle.zt_tables.proofs.KeptActs.{kept-silent}
+use Rattle.zt_holders.specs.Indexed.{indexed-still}
 use Rattle.zt_tables.specs.View.{table_rows}
 use Rattle.zt_tables.specs.Serving.{served-same}
 use Rattle.zt_tables.proofs.tables.Tables.drop_local.Goals as goal
@@ -18,7 +19,8 @@ invariant_of-self g c =
     let fit = subst (λ t. Fits g.K.Ord.cmp g.K.Key.matching (DropLocal c.args.f c.args.id) t.store) (sym c.self.view_is) c.requires in
     let kept = kept-silent g.K.Ord.cmp g.K.Key.matching (DropLocal c.args.f c.args.id) (table_rows c.self.inside).store c.self.inside.tokens.counts c.self.invariant.kept fit (λ e test. refl) in
     let serves = served-same g.K.Ord.cmp g.K.Key.matching (DropLocal c.args.f c.args.id) (table_rows c.self.inside).store c.self.invariant.kept.numbered fit c.self.inside.faces.served c.self.invariant.served (λ p o. refl) in
-    record { counted = c.self.invariant.counted; dictionary = c.self.invariant.dictionary; kept = rw c.drop_local.ensures.faces kept; served = rw c.drop_local.ensures.faces serves }
+    let holds = indexed-still g.K.Ord.cmp g.K.Key.matching g.K.Key.anchored (DropLocal c.args.f c.args.id) (table_rows c.self.inside).store c.self.inside.holders.rows refl c.self.invariant.indexed in
+    record { counted = c.self.invariant.counted; dictionary = c.self.invariant.dictionary; kept = rw c.drop_local.ensures.faces kept; indexed = rw c.drop_local.ensures.faces holds; served = rw c.drop_local.ensures.faces serves }
 
 pub returns-clause-store : goal.returns-clause-store
 unfolding acted with_face

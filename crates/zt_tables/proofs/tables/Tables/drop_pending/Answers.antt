@@ -4,6 +4,7 @@ use Rattle.zt_model.specs.Parts.{with_face}
 use Rattle.zt_model.specs.Acts.{DropPending}
 use Rattle.zt_tables.specs.Fitting.{has-face}
 use Rattle.zt_tables.proofs.KeptActs.{kept-silent}
+use Rattle.zt_holders.specs.Indexed.{indexed-still}
 use Rattle.zt_tables.specs.View.{table_rows}
 use Rattle.zt_faces.specs.Served.{served_at-dropped, served_dropped}
 use Rattle.zt_tables.specs.Serving.{served-acted}
@@ -19,7 +20,8 @@ invariant_of-self g c =
     let fit = subst (λ t. Fits g.K.Ord.cmp g.K.Key.matching (DropPending c.args.f c.args.id) t.store) (sym c.self.view_is) c.requires in
     let kept = kept-silent g.K.Ord.cmp g.K.Key.matching (DropPending c.args.f c.args.id) (table_rows c.self.inside).store c.self.inside.tokens.counts c.self.invariant.kept fit (λ e test. refl) in
     let serves = served-acted g.K.Ord.cmp g.K.Key.matching (DropPending c.args.f c.args.id) (table_rows c.self.inside).store c.self.invariant.kept.numbered fit c.self.inside.faces.served c.self.invariant.served (served_dropped c.args.f c.args.id c.self.inside.faces.served) (λ p. served_at-dropped p c.args.f c.self.inside.faces.served c.args.id) in
-    record { counted = c.self.invariant.counted; dictionary = c.self.invariant.dictionary; kept = rw c.drop_pending.ensures.faces kept; served = rw c.drop_pending.ensures.faces serves }
+    let holds = indexed-still g.K.Ord.cmp g.K.Key.matching g.K.Key.anchored (DropPending c.args.f c.args.id) (table_rows c.self.inside).store c.self.inside.holders.rows refl c.self.invariant.indexed in
+    record { counted = c.self.invariant.counted; dictionary = c.self.invariant.dictionary; kept = rw c.drop_pending.ensures.faces kept; indexed = rw c.drop_pending.ensures.faces holds; served = rw c.drop_pending.ensures.faces serves }
 
 pub returns-clause-store : goal.returns-clause-store
 unfolding acted with_face

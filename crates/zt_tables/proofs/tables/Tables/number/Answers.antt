@@ -39,6 +39,7 @@ invariant_of-self g c =
         listed = record { at = kept.listed.at };
         tokens = record { at = kept.tokens.at };
       };
+      indexed = c.self.invariant.indexed;
       served = served-too s (record s { rows = record s.rows { dictionary = keys_by_id (rows ++ (c.len.result + 1, c.args.expr) ∷ []) } }) refl refl refl c.self.inside.faces.served c.self.invariant.served;
     })
 

@@ -4,6 +4,7 @@ use Rattle.zt_ordered.specs.Test.{and_second}
 use Rattle.zt_model.specs.Acts.{Fits, OpenFace, acted, fits}
 use Rattle.zt_model.specs.Rows.{Face}
 use Rattle.zt_tables.proofs.KeptActs.{kept-silent}
+use Rattle.zt_holders.specs.Indexed.{indexed-still}
 use Rattle.zt_tables.specs.View.{table_rows}
 use Rattle.zt_tables.specs.Serving.{served-opened}
 use Rattle.zt_tables.proofs.tables.Tables.open_face.Goals as goal
@@ -25,6 +26,7 @@ invariant_of-self g c =
     let fit = subst (λ t. Fits g.K.Ord.cmp g.K.Key.matching (OpenFace row.zid row.whatami row.region row.remote_bound row.first) t.store) (sym c.self.view_is) c.requires.fits in
     let kept = kept-silent g.K.Ord.cmp g.K.Key.matching (OpenFace row.zid row.whatami row.region row.remote_bound row.first) (table_rows c.self.inside).store c.self.inside.tokens.counts c.self.invariant.kept fit (λ e test. refl) in
     let serves = served-opened g.K.Ord.cmp g.K.Key.matching (OpenFace row.zid row.whatami row.region row.remote_bound row.first) (table_rows c.self.inside).store c.self.invariant.kept.numbered fit c.self.inside.faces.served c.self.invariant.served (c.self.inside.faces.made + 1) (λ p o. refl) in
+    let holds = indexed-still g.K.Ord.cmp g.K.Key.matching g.K.Key.anchored (OpenFace row.zid row.whatami row.region row.remote_bound row.first) (table_rows c.self.inside).store c.self.inside.holders.rows refl c.self.invariant.indexed in
     record {
       counted = c.self.invariant.counted;
       dictionary = c.self.invariant.dictionary;
@@ -33,7 +35,7 @@ invariant_of-self g c =
         listed = record { at = kept.listed.at };
         tokens = record { at = kept.tokens.at };
       });
-      served = rw (c.open.ensures.faces, c.requires.served, c.requires.face, ← c.self.view_is) serves;
+      indexed = rw (c.open.ensures.faces, c.requires.served, c.requires.face, ← c.self.view_is) holds; served = rw (c.open.ensures.faces, c.requires.served, c.requires.face, ← c.self.view_is) serves;
     }
 
 pub returns-clause-store : goal.returns-clause-store

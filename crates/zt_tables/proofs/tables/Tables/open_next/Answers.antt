@@ -26,4 +26,4 @@ returns-clause-room g c =
     let given = subst (λ t. OpensRoom c.from_spare-face.result.room (t.store.rows.made + 1) c.open_face.new.self.rooms.faces) left c.open_face.ensures.own_rooms in
     let own = subst (λ room. OpensRoom room number c.open_face.new.self.rooms.faces) c.from_spare-face.ensures.room given in
     let numbered = subst (λ t. AreAsksNumbered t.store) c.self.view_is c.self.invariant.kept.numbered in
-    open-leaves-room g.K.Ord.cmp g.K.Key.matching c.args.self.now.store c.args.self.now.rooms c.open_face.new.self.rooms numbered row.zid row.whatami row.region row.remote_bound row.first c.in-Some.spare c.in-Some.ensures.taken rooms own
+    open-leaves-room g.K.Ord.cmp g.K.Key.matching g.K.Key.anchored c.args.self.now.store c.args.self.now.rooms c.open_face.new.self.rooms numbered row.zid row.whatami row.region row.remote_bound row.first c.in-Some.spare c.in-Some.ensures.taken rooms own

@@ -13,6 +13,7 @@ returns-in_err-prepare_each-clause-rooms g c =
       routed = λ group. let more = c.prepare_each.ensures.rooms.at group in omega (arith, more);
       outboxes = λ n. omega arith;
       tokens = λ region. omega arith;
+      holders = λ bucket. omega arith;
       spare_faces = refl;
       spare_asks = refl;
     })
@@ -28,6 +29,7 @@ returns-clause-rooms g c =
       routed = λ group. let more = c.prepare_each.ensures.rooms.at group in omega (arith, more);
       outboxes = λ n. let more = c.prepare_each-2.ensures.rooms.at n in omega (arith, more);
       tokens = λ region. omega arith;
+      holders = λ bucket. omega arith;
       spare_faces = refl;
       spare_asks = refl;
     })

@@ -5,6 +5,7 @@ use Rattle.zt_model.specs.Acts.{SetMoment}
 use Rattle.std.proofs.Common.{refl}
 use Rattle.zt_model.specs.Acts.{acted}
 use Rattle.zt_tables.proofs.KeptActs.{kept-silent}
+use Rattle.zt_holders.specs.Indexed.{indexed-still}
 use Rattle.zt_tables.specs.View.{table_rows}
 use Rattle.zt_tables.specs.Serving.{served-same}
 use Rattle.zt_tables.proofs.tables.Tables.set_moment.Goals as goal
@@ -15,7 +16,8 @@ invariant_of-self g c =
     let fit = subst (λ t. Fits g.K.Ord.cmp g.K.Key.matching (SetMoment c.args.now) t.store) (sym c.self.view_is) c.requires in
     let kept = kept-silent g.K.Ord.cmp g.K.Key.matching (SetMoment c.args.now) (table_rows c.self.inside).store c.self.inside.tokens.counts c.self.invariant.kept fit (λ e test. refl) in
     let serves = served-same g.K.Ord.cmp g.K.Key.matching (SetMoment c.args.now) (table_rows c.self.inside).store c.self.invariant.kept.numbered fit c.self.inside.faces.served c.self.invariant.served (λ p o. refl) in
-    record { counted = c.self.invariant.counted; dictionary = c.self.invariant.dictionary; kept = kept; served = serves }
+    let holds = indexed-still g.K.Ord.cmp g.K.Key.matching g.K.Key.anchored (SetMoment c.args.now) (table_rows c.self.inside).store c.self.inside.holders.rows refl c.self.invariant.indexed in
+    record { counted = c.self.invariant.counted; dictionary = c.self.invariant.dictionary; kept = kept; indexed = holds; served = serves }
 
 pub returns-clause-store : goal.returns-clause-store
 unfolding acted

@@ -17,4 +17,4 @@ returns-clause-store g c =
 
 pub returns-clause-rooms : goal.returns-clause-rooms
 returns-clause-rooms g c =
-    rw (← c.self.view_is) (record { faces = faces-same c.self.inside.faces.rooms; dictionary = omega arith; trees = c.put.ensures.room; routed = λ group. omega arith; outboxes = λ n. omega arith; tokens = λ region. omega arith; spare_faces = refl; spare_asks = refl })
+    rw (← c.self.view_is) (record { faces = faces-same c.self.inside.faces.rooms; dictionary = omega arith; trees = c.put.ensures.room; routed = λ group. omega arith; outboxes = λ n. omega arith; tokens = λ region. omega arith; holders = λ bucket. omega arith; spare_faces = refl; spare_asks = refl })

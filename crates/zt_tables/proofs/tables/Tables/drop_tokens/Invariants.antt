@@ -5,7 +5,7 @@ use Rattle.zt_changes.specs.Queries.{list_of_face}
 use Rattle.zt_faces.specs.Rooms.{nothing}
 use Rattle.zt_needs.specs.Need.{of_faces}
 use Rattle.zt_tables.specs.Room.{KeepsTables}
-use Rattle.zt_tables.proofs.tables.Tables.close_face.Given as goal
+use Rattle.zt_tables.proofs.tables.Tables.drop_tokens.Given as goal
 
 abbrev pub invariant-loop-id : goal.invariant-loop-id
 invariant-loop-id g l = record {
