@@ -1,8 +1,8 @@
 -- Whether the tables have the room that a plan takes.
 --     HasRoom anchored acts s rooms    for rows of faces that are open, of asks that stand, and for all that is made or sent, and
 --                             for each face and ask to come lists with room
-use Rattle.std.specs.Prelude.{◌≡◌, ℕ, Bool, true, false, ◌+◌, ◌≤◌, ◌<◌, ◌&&◌, not, nat_le, List, [], ◌∷◌, length}
-use Rattle.std.specs.Option.{IsSome, Option}
+use Rattle.std.specs.Prelude.{◌≡◌, ℕ, Bool, true, false, ◌+◌, ◌≤◌, ◌<◌, ◌&&◌, not, nat_le, List, [], ◌∷◌, length, Option}
+use Rattle.std.specs.Option.{IsSome}
 use Rattle.std.specs.Ordering.{nat_cmp}
 use Rattle.std.specs.declared.cmp.Ordering.{Ordering}
 use Rattle.zt_keys.specs.declared.anchor.Anchor.{Anchor}

@@ -20,6 +20,7 @@ mod asks;
 mod edits;
 mod facts;
 mod hat;
+mod holders;
 mod nexts;
 mod plan;
 mod planned;

@@ -3,7 +3,7 @@ use Rattle.zt_model.specs.Acts.{DropAsk, Fits, fits}
 use Rattle.zt_model.specs.Lists.{at_id}
 use Rattle.zt_tables.proofs.KeptActs.{kept-silent}
 use Rattle.zt_tables.specs.Fitting.{ask-stands, dropped-store}
-use Rattle.zt_holders.specs.Indexed.{indexed-still}
+use Rattle.zt_holders.specs.Indexed.{IsIndexed, indexed-still}
 use Rattle.zt_tables.specs.View.{table_rows}
 use Rattle.std.proofs.Common.{refl}
 use Rattle.zt_tables.specs.Serving.{served-same}
@@ -19,7 +19,7 @@ invariant_of-self g c =
     let kept = kept-silent g.K.Ord.cmp g.K.Key.matching (DropAsk c.args.n) (table_rows c.self.inside).store c.self.inside.tokens.counts c.self.invariant.kept fit (λ e test. refl) in
     let serves = served-same g.K.Ord.cmp g.K.Key.matching (DropAsk c.args.n) (table_rows c.self.inside).store c.self.invariant.kept.numbered fit c.self.inside.faces.served c.self.invariant.served (λ p o. refl) in
     let holds = indexed-still g.K.Ord.cmp g.K.Key.matching g.K.Key.anchored (DropAsk c.args.n) (table_rows c.self.inside).store c.self.inside.holders.rows refl c.self.invariant.indexed in
-    record { counted = c.self.invariant.counted; dictionary = c.self.invariant.dictionary; kept = rw (c.drop_ask.ensures.faces, dropped-store g.K.Ord.cmp g.K.Key.matching c.args.n (table_rows c.self.inside).store) kept; indexed = rw (c.drop_ask.ensures.faces, dropped-store g.K.Ord.cmp g.K.Key.matching c.args.n (table_rows c.self.inside).store) holds; served = rw (c.drop_ask.ensures.faces, dropped-store g.K.Ord.cmp g.K.Key.matching c.args.n (table_rows c.self.inside).store) serves }
+    record { counted = c.self.invariant.counted; dictionary = c.self.invariant.dictionary; kept = rw (c.drop_ask.ensures.faces, dropped-store g.K.Ord.cmp g.K.Key.matching c.args.n (table_rows c.self.inside).store) kept; indexed = rw c.drop_ask.ensures.faces (subst (λ t. IsIndexed g.K.Key.anchored t.rows.faces c.self.inside.holders.rows) (sym (dropped-store g.K.Ord.cmp g.K.Key.matching c.args.n (table_rows c.self.inside).store)) holds); served = rw (c.drop_ask.ensures.faces, dropped-store g.K.Ord.cmp g.K.Key.matching c.args.n (table_rows c.self.inside).store) serves }
 
 pub returns-clause-store : goal.returns-clause-store
 returns-clause-store g c = rw (← c.self.view_is, c.drop_ask.ensures.faces) (dropped-store g.K.Ord.cmp g.K.Key.matching c.args.n (table_rows c.self.inside).store)

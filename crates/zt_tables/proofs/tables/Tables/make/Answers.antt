@@ -2,7 +2,7 @@ use Rattle.std.proofs.Common.{refl}
 use Rattle.zt_protocol.specs.Plain.{trees_of}
 use Rattle.zt_model.specs.Acts.{AddHeld, AddLive, AddLocal, AddPending, AddRouted, Answered, DropHeld, DropLive, DropLocal, DropPending, DropRouted, FinaliseInitial, Number, Send, SetEntities, SetMoment, SetTree, Tell, Untell}
 use Rattle.zt_rows.specs.Plain.{plain_interest, plain_pending}
-use Rattle.zt_tables.proofs.MakeRoom.{answer-room, held-room, listed-room, live-room, local-room, message-room, pending-room, told-room}
+use Rattle.zt_tables.proofs.MakeRoom.{answer-room, held-room, holder-room, listed-room, live-room, local-room, message-room, pending-room, told-room}
 use Rattle.zt_tables.proofs.RoomAfter.{close-leaves-room, drop-leaves-room, plain-leaves-room}
 use Rattle.zt_tables.proofs.tables.Tables.make.Goals as goal
 
@@ -121,3 +121,7 @@ returns-in-CloseFace-clause-room g c =
 pub returns-in-DropAsk-clause-room : goal.returns-in-DropAsk-clause-room
 returns-in-DropAsk-clause-room g c =
     rw c.in-DropAsk.is (drop-leaves-room g.K.Ord.cmp g.K.Key.matching g.K.Key.anchored c.args.self.now.store c.args.self.now.rooms c.drop_ask.new.self.rooms c.next_ask-numbered.ensures.numbered c.in-DropAsk.ask c.drop_ask.ensures.rooms)
+
+pub add_held-requires-clause-bucket_room : goal.add_held-requires-clause-bucket_room
+add_held-requires-clause-bucket_room g c =
+    holder-room g.K.Ord.cmp g.K.Key.matching g.K.Key.anchored c.args.self.now.store c.args.self.now.rooms c.in-AddHeld.face c.in-AddHeld.row.id (plain_interest c.in-AddHeld.row.interest) (rw c.in-AddHeld.is at c.requires.room)

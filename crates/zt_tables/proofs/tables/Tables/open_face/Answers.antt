@@ -35,7 +35,8 @@ invariant_of-self g c =
         listed = record { at = kept.listed.at };
         tokens = record { at = kept.tokens.at };
       });
-      indexed = rw (c.open.ensures.faces, c.requires.served, c.requires.face, ← c.self.view_is) holds; served = rw (c.open.ensures.faces, c.requires.served, c.requires.face, ← c.self.view_is) serves;
+      indexed = rw (c.open.ensures.faces, c.requires.face, ← c.self.view_is) holds;
+      served = rw (c.open.ensures.faces, c.requires.served, c.requires.face, ← c.self.view_is) serves;
     }
 
 pub returns-clause-store : goal.returns-clause-store
