@@ -23,9 +23,9 @@ pub mod Orderly
 pub mod LiveCounts
 pub mod LiveTokens
 pub mod RegionTests
-pub mod RoutedLive
 pub mod Regions
 pub mod RoutedActs
+pub mod LiveRows
 pub mod NumberActs
 pub mod AsksMade
 pub mod AskPlaces

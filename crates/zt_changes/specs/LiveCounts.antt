@@ -1,7 +1,7 @@
 -- What the acts make of how many tokens of an expression are live at faces of regions that pass a test.
---     live_added, live_taken         how many an act adds and takes
---     declared_step, declared-next   how many there are after an act
---     IsNext, next-act               one act more of a list that fits
+--     live_added, live_taken, declared-acted   how many an act adds and takes
+--     is_silent, declared-silent               an act that adds and takes no live row
+--     IsNext, next-act                         one act more of a list that fits
 use Rattle.std.specs.Prelude.{⊤, ◌≡◌, ℕ, ◌+◌, ◌-◌, ◌<◌, zero, suc, Bool, true, false, ◌&&◌, not, if◌then◌else◌, List, [], ◌∷◌, Option, Some, None, length, option_map, map, take, refl}
 use Rattle.std.specs.FinMap.Entries.{is_sorted}
 use Rattle.std.specs.List.{list_any}
@@ -10,23 +10,26 @@ use Rattle.std.specs.declared.cmp.Ordering.{Ordering}
 use Rattle.std.proofs.Common.{add-one, ap, arith, get_or, ◌∙◌}
 use Rattle.std.proofs.lemmas.List.Sums.{sum_by_push}
 use Rattle.zt_region.specs.declared.region.Region.{Region}
-use Rattle.zt_model.specs.Acts.{Act, AddLive, AddPending, CloseFace, DropLive, Fit, Fits, OpenFace, Store, acted, acted_all, fits}
+use Rattle.zt_model.specs.Acts.{Act, AddLive, AddPending, AddRouted, CloseFace, DropLive, DropRouted, Fit, Fits, OpenFace, Store, acted, acted_all, fits}
 use Rattle.zt_model.specs.Lists.{at_id, has_id, is_some_and, same}
 use Rattle.zt_model.specs.Parts.{find_face}
 use Rattle.zt_model.specs.Routing.{face_opened}
 use Rattle.zt_model.specs.Rows.{Face}
 use Rattle.zt_model.specs.Telling.{registered, unregistered}
+use Rattle.zt_model.specs.Trees.{routed_order}
 use Rattle.zt_ordered.specs.Test.{by_test}
+use Rattle.zt_rows.specs.Rising.{AreRising}
 use Rattle.zt_changes.specs.Asks.{one_where}
 use Rattle.zt_changes.specs.Orderly.{IsOrderly}
 use Rattle.zt_changes.specs.Queries.{from_face, list_of_face}
 use Rattle.zt_changes.specs.Touches.{Changes, ChangesAll, Closes, Opens, Touch, changed_where, faces-acted, touch, touched_all}
 use Rattle.zt_changes.specs.Weights.{declared, given_at, is_tested, is_token, sum-changed, sum-closed, sum-mapped, sum-where, tokens-put, tokens-without, tokens_at, tokens_of}
 
--- the tokens of the face of which one is dropped stand in order
-abbrev pub IsInOrderAt : {K : Type 0} → Act K → Store K → Type 0
-IsInOrderAt (DropLive n id) s = is_sorted nat_cmp (list_of_face (λ x. x.live) (find_face n s.rows)) ≡ true
-IsInOrderAt _ s = ⊤
+-- the rows stand in order among which one is dropped: the tokens of its face, or the rows of router regions
+abbrev pub IsInOrderAt : {K : Type 0} → (K → K → Ordering) → (K → K → Bool) → Act K → Store K → Type 0
+IsInOrderAt cmp matching (DropLive n id) s = is_sorted nat_cmp (list_of_face (λ x. x.live) (find_face n s.rows)) ≡ true
+IsInOrderAt cmp matching (DropRouted region source e) s = AreRising (routed_order cmp matching) s.rows.routed
+IsInOrderAt cmp matching _ s = ⊤
 
 module _ {K : Type 0} (cmp : K → K → Ordering) (e : K) (test : Region → Bool) where
   -- how many tokens an act adds, and how many it takes
@@ -84,7 +87,7 @@ module _ {K : Type 0} (cmp : K → K → Ordering) (e : K) (test : Region → Bo
   face-closed (Some x) = refl
 
   module _ (matching : K → K → Bool) where
-    declared-touched : (act : Act K) (s : Store K) → Fits cmp matching act s → IsOrderly s → IsInOrderAt act s
+    declared-touched : (act : Act K) (s : Store K) → Fits cmp matching act s → IsOrderly s → IsInOrderAt cmp matching act s
         → declared cmp e test (touched_all (touch cmp matching act s) s.rows.faces) + live_taken act s ≡ declared cmp e test s.rows.faces + live_added act s
     unfolding fits
     declared-touched (OpenFace zid whatami region bound first) s fit h ordered =
@@ -108,46 +111,17 @@ module _ {K : Type 0} (cmp : K → K → Ordering) (e : K) (test : Region → Bo
         ap (λ m. m + 0) (tokens-kept (touch cmp matching (AddPending n id ask pending) s) (λ i x. (refl, refl)) s.rows.faces)
     declared-touched act s fit h ordered = ap (λ m. m + 0) (tokens-kept (touch cmp matching act s) (λ i x. refl) s.rows.faces)
 
-    declared-acted : (act : Act K) (s : Store K) → Fits cmp matching act s → IsOrderly s → IsInOrderAt act s
+    pub declared-acted : (act : Act K) (s : Store K) → Fits cmp matching act s → IsOrderly s → IsInOrderAt cmp matching act s
         → declared cmp e test (acted cmp matching act s).rows.faces + live_taken act s ≡ declared cmp e test s.rows.faces + live_added act s
     declared-acted act s fit h ordered = ap (λ faces. declared cmp e test faces + live_taken act s) (faces-acted cmp matching act s) ∙ declared-touched act s fit h ordered
 
-    -- how many there are after an act, where there were so many before
-    abbrev pub declared_step : Act K → Store K → ℕ → ℕ
-    declared_step (AddLive n id k) s count = if same cmp e k && is_tested test (find_face n s.rows) then count + 1 else count
-    declared_step (DropLive n id) s count =
-        if is_token cmp e (from_face (λ x. at_id id x.live) (find_face n s.rows)) && is_tested test (find_face n s.rows) then count - 1 else count
-    declared_step (CloseFace n) s count = if is_tested test (find_face n s.rows) then count - tokens_of cmp e (list_of_face (λ x. x.live) (find_face n s.rows)) else count
-    declared_step _ s count = count
-
-    more-where : (b : Bool) (n m : ℕ) → n + 0 ≡ m + one_where b → n ≡ (if b then m + 1 else m)
-    more-where true n m h = omega (arith, h)
-    more-where false n m h = omega (arith, h)
-
-    less-where : (b : Bool) (n m : ℕ) → n + one_where b ≡ m + 0 → n ≡ (if b then m - 1 else m)
-    less-where true n m h = omega (arith, h)
-    less-where false n m h = omega (arith, h)
-
-    all-where : (b : Bool) (n m k : ℕ) → n + (if b then k else 0) ≡ m + 0 → n ≡ (if b then m - k else m)
-    all-where true n m k h = omega (arith, h)
-    all-where false n m k h = omega (arith, h)
-
-    same-count : (n m : ℕ) → n + 0 ≡ m + 0 → n ≡ m
-    same-count n m h = omega (arith, h)
-
-    pub declared-next : (act : Act K) (s : Store K) → Fits cmp matching act s → IsOrderly s → IsInOrderAt act s
-        → declared cmp e test (acted cmp matching act s).rows.faces ≡ declared_step act s (declared cmp e test s.rows.faces)
-    declared-next (AddLive n id k) s fit h ordered = more-where (same cmp e k && is_tested test (find_face n s.rows)) _ _ (declared-acted (AddLive n id k) s fit h ordered)
-    declared-next (DropLive n id) s fit h ordered =
-        less-where (is_token cmp e (from_face (λ x. at_id id x.live) (find_face n s.rows)) && is_tested test (find_face n s.rows)) _ _ (declared-acted (DropLive n id) s fit h ordered)
-    declared-next (CloseFace n) s fit h ordered = all-where (is_tested test (find_face n s.rows)) _ _ _ (declared-acted (CloseFace n) s fit h ordered)
-    declared-next act s fit h ordered = same-count _ _ (declared-acted act s fit h ordered)
-
-    -- an act that neither adds nor takes tokens
+    -- an act that neither adds nor takes live rows, of faces or of other routers
     abbrev pub is_silent : Act K → Bool
     is_silent (AddLive n id k) = false
     is_silent (DropLive n id) = false
     is_silent (CloseFace n) = false
+    is_silent (AddRouted region source k) = false
+    is_silent (DropRouted region source k) = false
     is_silent _ = true
 
     silent-touched : (act : Act K) (s : Store K) → is_silent act ≡ true → declared cmp e test (touched_all (touch cmp matching act s) s.rows.faces) ≡ declared cmp e test s.rows.faces
@@ -159,6 +133,8 @@ module _ {K : Type 0} (cmp : K → K → Ordering) (e : K) (test : Region → Bo
     silent-touched (CloseFace n) s silent = cc
     silent-touched (AddLive n id k) s silent = cc
     silent-touched (DropLive n id) s silent = cc
+    silent-touched (AddRouted region source k) s silent = cc
+    silent-touched (DropRouted region source k) s silent = cc
     silent-touched (AddPending n id ask pending) s silent = tokens-kept (touch cmp matching (AddPending n id ask pending) s) (λ i x. (refl, refl)) s.rows.faces
     silent-touched act s silent = tokens-kept (touch cmp matching act s) (λ i x. refl) s.rows.faces
 

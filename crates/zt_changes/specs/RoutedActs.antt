@@ -22,7 +22,7 @@ pub routed-at_ask : {K : Type 0} (n : ℕ) (change : ℕ → Face K → Face K) 
 unfolding with_face
 routed-at_ask n change s = by_option (at_id n s.numbers) (λ p is. rw (is, at_ask) refl) (λ none. rw (none, at_ask) refl)
 
-zid-at_ask : {K : Type 0} (n : ℕ) (change : ℕ → Face K → Face K) (s : Store K) → (at_ask n change s).rows.zid ≡ s.rows.zid
+pub zid-at_ask : {K : Type 0} (n : ℕ) (change : ℕ → Face K → Face K) (s : Store K) → (at_ask n change s).rows.zid ≡ s.rows.zid
 unfolding with_face
 zid-at_ask n change s = by_option (at_id n s.numbers) (λ p is. rw (is, at_ask) refl) (λ none. rw (none, at_ask) refl)
 

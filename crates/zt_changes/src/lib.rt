@@ -3,7 +3,7 @@
 //!
 //! Contracts say the answer as a fold of steps over the model's acts. The laws in `specs/` say that, where the acts fit a
 //! store, the fold of what is found in the store is what is found in the store that they leave: `FaceActs` (rows of
-//! a face by id), `ToldActs` (what a face was told), `LiveCounts`, `LiveTokens` and `RoutedLive` (which tokens are live),
+//! a face by id), `ToldActs` (what a face was told), `LiveCounts`, `LiveTokens` and `LiveRows` (how many tokens are live),
 //! `Queries` (what is found in a store), `After` (how a change at one face shows at another), `NextKeys` (what comes next
 //! among keys, found by going from candidate to candidate), `KeysAdded` and `RoutedKeys` (the keys that acts add to what
 //! a face was told and to router regions) and `IdsBelow` (drawn ids stay below the next).
@@ -29,7 +29,7 @@ pub use interests::{held_stays, wants_added};
 pub use keys::{next_routed_added, next_source_added, next_told_added};
 pub use kinds::{RowKind, next_added};
 pub use listed::{answers_any, names_pending};
-pub use live::{adds_any_token, routed_added, routed_stays};
+pub use live::adds_any_token;
 pub use numbers::{asks_added, dictionary_len_after, number_after};
 pub use opened::{face_after, face_stays, next_opened};
 pub use regions::RegionTest;

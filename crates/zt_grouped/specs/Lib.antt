@@ -1,6 +1,5 @@
 pub mod Grouped
 pub mod GroupRoom
-pub mod AnyGroup
 pub mod GroupTable
 pub mod GroupView
 pub mod NextPair

@@ -11,7 +11,6 @@ ghost use Rattle.zt_grouped.specs.GroupRoom.{room_of, KeepsRooms};
 ghost use Rattle.zt_grouped.specs.Prepared.{HasRooms};
 ghost use Rattle.zt_grouped.specs.NextPair.{group_after, key_after};
 ghost use Rattle.zt_grouped.specs.GroupOrder.{is_in_group_order};
-ghost use Rattle.zt_grouped.specs.AnyGroup.{SaysGroup};
 
 use std::alloc::{AllocError, Global};
 use std::hash::Hash;
@@ -109,17 +108,6 @@ impl<G: Ord + Eq + Hash, K: Ord + Eq + Hash> GroupedKeys<G, K> {
             Some(keys) => keys.next_key(after),
             None => None,
         }
-    }
-}
-
-impl<G: Ord + Eq + Hash, K: Ord + Eq + Hash> GroupedKeys<G, K> {
-    /// Whether some group that passes the test has the key. A scan of the groups; those that have the key are tested.
-    pub fn any_group<F: Fn(&G) -> bool>(&self, key: &K, test: F) -> bool
-        requires { F.IsAlwaysCallable test }
-        ensures { SaysGroup (F.post test) K.cmp key.now self.now.pairs result }
-    {
-        self.groups
-            .any(|group, keys| keys.contains(key) && test(group))
     }
 }
 

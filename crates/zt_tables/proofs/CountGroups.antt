@@ -1,5 +1,5 @@
 -- What the counts in groups sum up to.
---     groups-declared    the groups that pass count what faces of regions that pass declare
+--     groups-live    the groups that pass count the live rows of regions that pass
 use Rattle.std.specs.Prelude.{◌≡◌, ℕ, ◌+◌, Bool, true, false, ◌&&◌, ◌||◌, if◌then◌else◌, List, [], ◌∷◌, refl}
 use Rattle.std.specs.FinMap.Entries.{below_all, is_sorted}
 use Rattle.std.specs.List.{list_any}
@@ -16,17 +16,20 @@ use Rattle.zt_ordered.specs.Found.{sorted-head, sorted-tail}
 use Rattle.zt_ordered.specs.Test.{and_first, and_second, by_test}
 use Rattle.zt_grouped.specs.Counted.{counted, sum_counted}
 use Rattle.zt_model.specs.Acts.{Store}
-use Rattle.zt_model.specs.Rows.{Face}
-use Rattle.zt_changes.specs.Weights.{declared, tokens_at, tokens_of}
+use Rattle.zt_model.specs.Lists.{same}
+use Rattle.zt_model.specs.Visible.{live_rows}
+use Rattle.zt_changes.specs.Asks.{one_where}
+use Rattle.zt_changes.specs.LiveRows.{count-cons, count_in, live_count}
 use Rattle.zt_tables.specs.Kept.{AreCounted}
 use Rattle.zt_tables.specs.RegionOrder.{region_cmp, region_cmp-eq, region_eq-turned}
 
 -- ---- tests
-either : (a b : Bool) (n : ℕ) → (a && b) ≡ false → (if a || b then n else 0) ≡ (if a then n else 0) + (if b then n else 0)
-either true true n h = cc
-either true false n h = omega arith
-either false true n h = omega arith
-either false false n h = refl
+either : (s a b : Bool) → (a && b) ≡ false → one_where (s && (a || b)) ≡ one_where (s && a) + one_where (s && b)
+either true true true h = cc
+either true true false h = refl
+either true false true h = refl
+either true false false h = refl
+either false a b h = refl
 
 and-true : (a : Bool) → (a && true) ≡ a
 and-true true = refl
@@ -47,9 +50,9 @@ lt-apart Less h = refl
 lt-apart Equal h = cc
 lt-apart Greater h = cc
 
-zero-where : (b : Bool) (n : ℕ) → n ≡ 0 → (if b then n else 0) ≡ 0
-zero-where true n h = h
-zero-where false n h = refl
+none-where : (a b : Bool) → one_where a ≡ 0 → one_where (a && b) ≡ 0
+none-where true b h = cc
+none-where false b h = refl
 
 guarded : (test : Region → Bool) (g : Region) (b : Bool) → test g ≡ b → (r : Region) → (region_eq r g && test r) ≡ (region_eq r g && b)
 guarded test g b is r = by_test (region_eq r g) (λ u. let own : test r ≡ b = ap test (region_eq-same r g u) ∙ is in rw (u, own) refl) (λ u. rw u refl)
@@ -58,26 +61,36 @@ module _ {K : Type 0} (cmp : K → K → Ordering) (e : K) where
   abbrev Groups : Type 0
   Groups = List (Region × List (K × ℕ))
 
-  -- ---- tokens by tests of regions
-  apart-tests : (p q : Region → Bool) → ((r : Region) → (p r && q r) ≡ false) → (faces : List (Face K)) → declared cmp e (λ r. p r || q r) faces ≡ declared cmp e p faces + declared cmp e q faces
+  abbrev Rows : Type 0
+  Rows = List (Region × K)
+
+  abbrev passing : (Region → Bool) → Region × K → Bool
+  passing test row = same cmp e row.1 && test row.0
+
+  -- ---- rows by tests of regions
+  apart-tests : (p q : Region → Bool) → ((r : Region) → (p r && q r) ≡ false) → (rows : Rows) → count_in cmp e (λ r. p r || q r) rows ≡ count_in cmp e p rows + count_in cmp e q rows
   apart-tests p q apart [] = refl
   apart-tests p q apart (x ∷ xs) =
-      let both = sum_by-cons (tokens_at cmp e (λ r. p r || q r)) x xs in
-      let first = sum_by-cons (tokens_at cmp e p) x xs in
-      let second = sum_by-cons (tokens_at cmp e q) x xs in
+      let both = count-cons (passing (λ r. p r || q r)) x xs in
+      let first = count-cons (passing p) x xs in
+      let second = count-cons (passing q) x xs in
       let rest = apart-tests p q apart xs in
-      let here = either (p x.region) (q x.region) (tokens_of cmp e x.live) (apart x.region) in
+      let here = either (same cmp e x.1) (p x.0) (q x.0) (apart x.0) in
       omega (arith, both, first, second, rest, here)
 
-  no-test : (faces : List (Face K)) → declared cmp e (λ r. false) faces ≡ 0
+  no-test : (rows : Rows) → count_in cmp e (λ r. false) rows ≡ 0
   no-test [] = refl
-  no-test (x ∷ xs) = let first = sum_by-cons (tokens_at cmp e (λ r. false)) x xs in let rest = no-test xs in omega (arith, first, rest)
+  no-test (x ∷ xs) =
+      let first = count-cons (passing (λ r. false)) x xs in
+      let rest = no-test xs in
+      let none : one_where (same cmp e x.1 && false) ≡ 0 = ap one_where (and-false (same cmp e x.1)) in
+      omega (arith, first, rest, none)
 
-  one-test : (test : Region → Bool) (g : Region) (faces : List (Face K)) → (if test g then declared cmp e (λ r. region_eq r g) faces else 0) ≡ declared cmp e (λ r. region_eq r g && test r) faces
-  one-test test g faces =
+  one-test : (test : Region → Bool) (g : Region) (rows : Rows) → (if test g then count_in cmp e (λ r. region_eq r g) rows else 0) ≡ count_in cmp e (λ r. region_eq r g && test r) rows
+  one-test test g rows =
       by_test (test g)
-      (λ t. rw t (sym (λ i. declared cmp e (λ r. (guarded test g true t r ∙ and-true (region_eq r g)) i) faces)))
-      (λ t. rw t (sym ((λ i. declared cmp e (λ r. (guarded test g false t r ∙ and-false (region_eq r g)) i) faces) ∙ no-test faces)))
+      (λ t. rw t (sym (λ i. count_in cmp e (λ r. (guarded test g true t r ∙ and-true (region_eq r g)) i) rows)))
+      (λ t. rw t (sym ((λ i. count_in cmp e (λ r. (guarded test g false t r ∙ and-false (region_eq r g)) i) rows) ∙ no-test rows)))
 
   -- ---- groups in order
   abbrev among : Groups → Region → Bool
@@ -100,51 +113,51 @@ module _ {K : Type 0} (cmp : K → K → Ordering) (e : K) where
   none-counted r (row ∷ rows) none = by_test (region_eq row.0 r) (λ t. cc (rw t at none)) (λ t. other-count r row rows t ∙ none-counted r rows (rw t at none))
 
   -- ---- the groups that pass
-  part : (faces : List (Face K)) (counts : Groups) → is_sorted region_cmp counts ≡ true → ((r : Region) → among counts r ≡ true → counted region_cmp cmp r e counts ≡ declared cmp e (λ q. region_eq q r) faces)
-      → (test : Region → Bool) → sum_counted cmp e test counts ≡ declared cmp e (λ r. among counts r && test r) faces
-  part faces [] sorted h test = sym (no-test faces)
-  part faces (row ∷ rows) sorted h test =
-      let below : among rows row.0 ≡ false = below-apart row.0 rows (sorted-head region_cmp row rows sorted) in
-      let first = sum_by-cons (λ (r : Region × List (K × ℕ)). if test r.0 then count_at cmp e r.1 else 0) row rows in
-      let own_there : among (row ∷ rows) row.0 ≡ true = rw (region_eq-refl row.0) refl in
-      let own : count_at cmp e row.1 ≡ declared cmp e (λ q. region_eq q row.0) faces = sym (own-count row rows) ∙ h row.0 own_there in
-      let here = ap (λ (n : ℕ). if test row.0 then n else 0) own ∙ one-test test row.0 faces in
-      let others = λ (r : Region) (there : among rows r ≡ true).
-      by_test (region_eq row.0 r)
-      (λ t. absurd (false≢true (sym below ∙ ap (among rows) (region_eq-same row.0 r t) ∙ there)))
-      (λ t. let stands : among (row ∷ rows) r ≡ true = rw t there in sym (other-count r row rows t) ∙ h r stands)
+  part : (rows : Rows) (counts : Groups) → is_sorted region_cmp counts ≡ true → ((r : Region) → among counts r ≡ true → counted region_cmp cmp r e counts ≡ count_in cmp e (λ q. region_eq q r) rows)
+      → (test : Region → Bool) → sum_counted cmp e test counts ≡ count_in cmp e (λ r. among counts r && test r) rows
+  part rows [] sorted h test = sym (no-test rows)
+  part rows (group ∷ groups) sorted h test =
+      let below : among groups group.0 ≡ false = below-apart group.0 groups (sorted-head region_cmp group groups sorted) in
+      let first = sum_by-cons (λ (r : Region × List (K × ℕ)). if test r.0 then count_at cmp e r.1 else 0) group groups in
+      let own_there : among (group ∷ groups) group.0 ≡ true = rw (region_eq-refl group.0) refl in
+      let own : count_at cmp e group.1 ≡ count_in cmp e (λ q. region_eq q group.0) rows = sym (own-count group groups) ∙ h group.0 own_there in
+      let here = ap (λ (n : ℕ). if test group.0 then n else 0) own ∙ one-test test group.0 rows in
+      let others = λ (r : Region) (there : among groups r ≡ true).
+      by_test (region_eq group.0 r)
+      (λ t. absurd (false≢true (sym below ∙ ap (among groups) (region_eq-same group.0 r t) ∙ there)))
+      (λ t. let stands : among (group ∷ groups) r ≡ true = rw t there in sym (other-count r group groups t) ∙ h r stands)
       in
-      let rest = part faces rows (sorted-tail region_cmp row rows sorted) others test in
+      let rest = part rows groups (sorted-tail region_cmp group groups sorted) others test in
       let disjoint = λ (r : Region).
-      by_test (region_eq r row.0)
-      (λ t. let none : among rows r ≡ false = ap (among rows) (region_eq-same r row.0 t) ∙ below in rw (t, none) (and-false (test r)))
+      by_test (region_eq r group.0)
+      (λ t. let none : among groups r ≡ false = ap (among groups) (region_eq-same r group.0 t) ∙ below in rw (t, none) (and-false (test r)))
       (λ t. rw t refl)
       in
-      let both = apart-tests (λ r. region_eq r row.0 && test r) (λ r. among rows r && test r) disjoint faces in
-      let joined = λ (r : Region). (λ i. (region_eq-turned r row.0 i && test r) || (among rows r && test r)) ∙ distribute (region_eq row.0 r) (among rows r) (test r) in
-      first ∙ (λ i. here i + rest i) ∙ sym both ∙ (λ i. declared cmp e (λ r. joined r i) faces)
+      let both = apart-tests (λ r. region_eq r group.0 && test r) (λ r. among groups r && test r) disjoint rows in
+      let joined = λ (r : Region). (λ i. (region_eq-turned r group.0 i && test r) || (among groups r && test r)) ∙ distribute (region_eq group.0 r) (among groups r) (test r) in
+      first ∙ (λ i. here i + rest i) ∙ sym both ∙ (λ i. count_in cmp e (λ r. joined r i) rows)
 
-  -- what no group counts no face declares
-  covered : (counts : Groups) (test : Region → Bool) (faces : List (Face K)) → ((r : Region) → among counts r ≡ false → declared cmp e (λ q. region_eq q r) faces ≡ 0)
-      → declared cmp e (λ r. among counts r && test r) faces ≡ declared cmp e test faces
+  -- no row stands in a region that no group counts
+  covered : (counts : Groups) (test : Region → Bool) (rows : Rows) → ((r : Region) → among counts r ≡ false → count_in cmp e (λ q. region_eq q r) rows ≡ 0)
+      → count_in cmp e (λ r. among counts r && test r) rows ≡ count_in cmp e test rows
   covered counts test [] h = refl
   covered counts test (x ∷ xs) h =
-      let first = sum_by-cons (tokens_at cmp e (λ r. among counts r && test r)) x xs in
-      let whole = sum_by-cons (tokens_at cmp e test) x xs in
-      let rest = covered counts test xs (λ r none. let all = h r none in let split = sum_by-cons (tokens_at cmp e (λ q. region_eq q r)) x xs in omega (arith, all, split)) in
-      let here : tokens_at cmp e (λ r. among counts r && test r) x ≡ tokens_at cmp e test x =
-      by_test (among counts x.region)
+      let first = count-cons (passing (λ r. among counts r && test r)) x xs in
+      let whole = count-cons (passing test) x xs in
+      let rest = covered counts test xs (λ r none. let all = h r none in let split = count-cons (passing (λ q. region_eq q r)) x xs in omega (arith, all, split)) in
+      let here : one_where (same cmp e x.1 && (among counts x.0 && test x.0)) ≡ one_where (same cmp e x.1 && test x.0) =
+      by_test (among counts x.0)
       (λ t. rw t refl)
       (λ t.
-      let all = h x.region t in
-      let split = sum_by-cons (tokens_at cmp e (λ q. region_eq q x.region)) x xs in
-      let own : tokens_at cmp e (λ q. region_eq q x.region) x ≡ tokens_of cmp e x.live = rw (region_eq-refl x.region) refl in
-      let none : tokens_of cmp e x.live ≡ 0 = omega (arith, all, split, own) in
-      rw t (sym (zero-where (test x.region) (tokens_of cmp e x.live) none)))
+      let all = h x.0 t in
+      let split = count-cons (passing (λ q. region_eq q x.0)) x xs in
+      let own : one_where (same cmp e x.1 && region_eq x.0 x.0) ≡ one_where (same cmp e x.1) = ap (λ b. one_where (same cmp e x.1 && b)) (region_eq-refl x.0) ∙ ap one_where (and-true (same cmp e x.1)) in
+      let none : one_where (same cmp e x.1) ≡ 0 = omega (arith, all, split, own) in
+      rw t (ap one_where (and-false (same cmp e x.1)) ∙ sym (none-where (same cmp e x.1) (test x.0) none)))
       in
       omega (arith, first, whole, rest, here)
 
-  pub groups-declared : (s : Store K) (counts : Groups) → AreCounted cmp s counts → is_sorted region_cmp counts ≡ true → (test : Region → Bool) → sum_counted cmp e test counts ≡ declared cmp e test s.rows.faces
-  groups-declared s counts are sorted test =
-      part s.rows.faces counts sorted (λ r there. are.at r e) test
-      ∙ covered counts test s.rows.faces (λ r none. sym (are.at r e) ∙ none-counted r counts none)
+  pub groups-live : (s : Store K) (counts : Groups) → AreCounted cmp s counts → is_sorted region_cmp counts ≡ true → (test : Region → Bool) → sum_counted cmp e test counts ≡ live_count cmp e test s.rows
+  groups-live s counts are sorted test =
+      part (live_rows s.rows) counts sorted (λ r there. are.at r e) test
+      ∙ covered counts test (live_rows s.rows) (λ r none. sym (are.at r e) ∙ none-counted r counts none)

@@ -12,4 +12,3 @@ pub mod KeptActs
 mod LiveEdits
 pub mod Counting
 mod CountGroups
-pub mod LiveAfter

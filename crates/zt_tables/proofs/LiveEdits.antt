@@ -1,28 +1,34 @@
 -- A token more, a token less, and all tokens of a face less.
 --     one-room, no-room                          the room for counts that one token more takes, and one less
 --     found-none                                 an id that stands is found
---     counts-there                               a token of a face counts
+--     counts-there, routed-there                 a token of a face counts, and a row of another router
 --     live-stands, none-live                     the first token of a face stands, where there is one
 --     dropped-less, dropped-open, dropped-closed a face that loses a token has fewer, is open, and closes as before
 --     none-kept, both-kept, others-both          room that stays, step by step
-use Rattle.std.specs.Prelude.{◌≡◌, ℕ, Bool, true, false, ◌+◌, ◌==◌, ◌≤◌, ◌<◌, not, if◌then◌else◌, List, [], ◌∷◌, filter, length, Option, Some, None, is_some, refl, unwrap_or}
+use Rattle.std.specs.Prelude.{◌≡◌, ℕ, Bool, true, false, ◌+◌, ◌==◌, ◌&&◌, ◌≤◌, ◌<◌, not, if◌then◌else◌, List, [], ◌∷◌, filter, length, Option, Some, None, is_some, refl, unwrap_or}
 use Rattle.std.specs.Cmp.{IsTotalOrder, tied_itself}
 use Rattle.std.specs.Ordering.{is_eq}
 use Rattle.std.specs.declared.cmp.Ordering.{Ordering}
 use Rattle.std.proofs.Common.{ap, arith, subst, sym, ◌∙◌}
 use Rattle.std.proofs.lemmas.Bool.{eq-eqb}
 use Rattle.std.proofs.lemmas.List.Sums.{sum_by-cons}
+use Rattle.zt_region.specs.Region.{region_eq, region_eq-refl, zid_eq}
 use Rattle.zt_region.specs.declared.region.Region.{Region}
+use Rattle.zt_region.specs.declared.region.Zid.{Zid}
 use Rattle.zt_ordered.specs.Rows.{same}
 use Rattle.zt_ordered.specs.Test.{by_test}
 use Rattle.zt_grouped.specs.GroupRoom.{KeepsRooms, room_of}
-use Rattle.zt_model.specs.Acts.{CloseFace, DropLive, Fits, Store, acted, fits}
+use Rattle.zt_model.specs.Acts.{CloseFace, DropLive, DropRouted, Fits, Store, acted, fits}
 use Rattle.zt_model.specs.Lists.{at_id, first_where, has_id, is_some_and, same as same_key, without_id}
 use Rattle.zt_model.specs.Parts.{find_face, with_face}
 use Rattle.zt_model.specs.Rows.{ById, Face}
 use Rattle.zt_model.specs.Telling.{unregistered}
+use Rattle.zt_model.specs.Trees.{routed_order}
+use Rattle.zt_rows.specs.Rising.{AreRising}
 use Rattle.zt_rows.specs.ById.{next_id}
 use Rattle.zt_changes.specs.Asks.{one_where}
+use Rattle.zt_changes.specs.LiveRows.{live-acted, live_count}
+use Rattle.zt_changes.specs.Orderly.{IsOrderly}
 use Rattle.zt_changes.specs.Queries.{from_face, list_of_face}
 use Rattle.zt_changes.specs.Touches.{Changes, face-acted, touched}
 use Rattle.zt_changes.specs.Weights.{declared, tokens-cons, tokens_at, tokens_of}
@@ -74,6 +80,15 @@ module _ {K : Type 0} (cmp : K → K → Ordering) (o : IsTotalOrder cmp) (e : K
       let some = tokens-there id x.live found in
       omega (arith, first, here, some))
       (λ t. let rest = counts-there test f x id ys (rw t at there) passes found in omega (arith, first, rest))
+
+-- a row of another router that stands counts
+pub routed-there : {K : Type 0} (cmp : K → K → Ordering) (matching : K → K → Bool) → IsTotalOrder cmp → (r : Region) (z : Zid) (e : K) (s : Store K) → Fits cmp matching (DropRouted r z e) s → IsOrderly s
+    → AreRising (routed_order cmp matching) s.rows.routed → zid_eq z s.rows.zid ≡ false → 0 < live_count cmp e (λ q. region_eq q r) s.rows
+routed-there cmp matching o r z e s fit orderly rising other =
+    let own : same_key cmp e e ≡ true = ap is_eq (tied_itself o e) in
+    let one : one_where (same_key cmp e e && (region_eq r r && not (zid_eq z s.rows.zid))) ≡ 1 = rw (own, region_eq-refl r, other) refl in
+    let less = live-acted cmp e (λ q. region_eq q r) matching o (DropRouted r z e) s fit orderly rising in
+    omega (arith, one, less)
 
 -- ---- the first token
 module _ {A : Type 0} where

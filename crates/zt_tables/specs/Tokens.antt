@@ -1,14 +1,15 @@
--- The tokens that changes add.
+-- The tokens that changes add, of faces and of routers.
 --     token_of act          the expression of the token that a change adds
 --     tokens_added acts     those of a list of changes, in order
 --     total_tokens acts     how many they are
 --     NextToken act waiting token left     the token that an act adds is taken from those that wait
 use Rattle.std.specs.Prelude.{◌≡◌, ℕ, ◌+◌, List, [], ◌∷◌, ◌++◌, length, Option, Some, None, refl}
 use Rattle.std.proofs.Common.{ap, arith, sym, ◌∙◌}
-use Rattle.zt_model.specs.Acts.{Act, AddLive}
+use Rattle.zt_model.specs.Acts.{Act, AddLive, AddRouted}
 
 abbrev pub token_of : {K : Type 0} → Act K → Option K
 token_of (AddLive n id e) = Some e
+token_of (AddRouted region source e) = Some e
 token_of _ = None
 
 abbrev pub with_token : {K : Type 0} → Option K → List K → List K

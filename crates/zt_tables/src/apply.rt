@@ -106,7 +106,10 @@ impl<K: Key> Tables<K> {
                 region,
                 source,
                 expr,
-            } => self.add_routed(region, source, expr),
+            } => match token {
+                Some(token) => self.add_routed(region, source, expr, token),
+                None => unreachable!(),
+            },
             Change::DropRouted {
                 region,
                 source,

@@ -200,14 +200,23 @@ impl<K: Key> Tables<K> {
         self.dictionary.add(expr, number);
     }
 
-    // A row of a router region.
-    pub(crate) fn add_routed(&mut self, region: Region, source: Zid, expr: K)
+    // A row of a router region. The token is the expression a second time; a row that the gateway itself shows isn't
+    // counted.
+    pub(crate) fn add_routed(&mut self, region: Region, source: Zid, expr: K, token: K)
         requires fits { Fits K.cmp K.matching (AddRouted region source expr) self.old.store }
         requires room { 0 < room_of group_order (region, source) self.old.rooms.routed }
+        requires token_room { (other : Region) → is_region_of self.old.store.rows.regions other ≡ true → 0 < room_of region_cmp other self.old.rooms.tokens }
+        requires token { token ≡ expr }
         ensures store { self.new.store ≡ acted K.cmp K.matching (AddRouted region source expr) self.old.store }
-        ensures rooms { KeepsTables (one_routed (region, source)) self.old.rooms self.new.rooms }
+        ensures rooms { KeepsTablesFor 1 (one_routed (region, source)) self.old.rooms self.new.rooms }
     {
-        self.routed.add(&(region, source), expr);
+        self.orderly();
+        if source == self.zid() {
+            self.routed.add(&(region, source), expr);
+        } else {
+            self.tokens.add(&region, token);
+            self.routed.add(&(region, source), expr);
+        }
     }
 
     // The row of the source and the expression goes.
@@ -216,7 +225,14 @@ impl<K: Key> Tables<K> {
         ensures store { self.new.store ≡ acted K.cmp K.matching (DropRouted region source expr.now) self.old.store }
         ensures rooms { KeepsTables (of_faces nothing) self.old.rooms self.new.rooms }
     {
-        self.routed.remove(&(region, source), expr);
+        self.orderly();
+        self.routed_rise();
+        if source != self.zid() {
+            self.tokens.remove(&region, expr);
+            self.routed.remove(&(region, source), expr);
+        } else {
+            self.routed.remove(&(region, source), expr);
+        }
     }
 
     // The tree of a router region becomes this one.

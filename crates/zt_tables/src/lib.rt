@@ -7,12 +7,12 @@
 //!
 //! `Tables::reserve` makes the room that a plan takes, and `Tables::apply` makes its changes.
 //!
-//! Definitions and laws stand in `specs/`: `Live` (which tokens are live), `View` (how the store lies in memory), `Room`
-//! (what a change takes of the room), `HasRoom` and `Reserved` (room for a plan), `HatConditions`, `HatAnswers` and
-//! `HatPlans` (what the strategies' contracts speak of), `HatTokenActs` and `HatInterestActs` over the words of `HatActs`
-//! (what each call of a strategy adds to a plan). Laws say of the acts that tell, forget, route, end and open that they
-//! send what the model says (`HatTokenSends`, `HatInterestSends`, `HatPhases`), that they draw as many ids as their
-//! messages (`HatDraws`), and that no region's strategy disturbs another's (`HatAlike`, `HatApart`).
+//! Definitions and laws stand in `specs/`: `Live` (how many live rows an expression has), `View` (how the store lies in
+//! memory), `Room` (what a change takes of the room), `HasRoom` and `Reserved` (room for a plan), `HatConditions`,
+//! `HatAnswers` and `HatPlans` (what the strategies' contracts speak of), `HatTokenActs` and `HatInterestActs` over the
+//! words of `HatActs` (what each call of a strategy adds to a plan). Laws say of the acts that tell, forget, route, end
+//! and open that they send what the model says (`HatTokenSends`, `HatInterestSends`, `HatPhases`), that they draw as
+//! many ids as their messages (`HatDraws`), and that no region's strategy disturbs another's (`HatAlike`, `HatApart`).
 #![tactic(auto)]
 
 mod apply;

@@ -16,7 +16,7 @@ use zt_rows::Change;
 #[derive(Drop)]
 pub struct Plan<K: Key> {
     changes: Vec<Change<K>>,
-    // The expressions of the tokens that are added, each a second time: the tables count tokens by their expressions.
+    // The expressions of the tokens that are added, each a second time: the tables count live rows by their expressions.
     tokens: Vec<K>,
 }
 
@@ -34,12 +34,12 @@ impl<K: Key> Model for Plan<K> {
     ghost invariant = { IsPlan };
 }
 
-// The expression of the token that the change adds.
+// The expression of the token that the change adds, of a face or of a router.
 pub(crate) fn token_of<K: Key>(change: &Change<K>) -> Option<&K>
     ensures { option_copied result ≡ token_of (plain_change change.now) }
 {
     match change {
-        Change::AddLive { expr, .. } => Some(expr),
+        Change::AddLive { expr, .. } | Change::AddRouted { expr, .. } => Some(expr),
         _ => None,
     }
 }
@@ -68,7 +68,7 @@ fn tokens_in<K: Key>(change: &Change<K>) -> usize
     ensures most { result ≤ 1 }
 {
     match change {
-        Change::AddLive { .. } => 1,
+        Change::AddLive { .. } | Change::AddRouted { .. } => 1,
         _ => 0,
     }
 }

@@ -1,53 +1,40 @@
 // Which tokens are live after a plan, and which a face may know of.
-ghost use Rattle.std.specs.Prelude.{◌≡◌, ◌&&◌, ◌||◌, map};
+ghost use Rattle.std.specs.Prelude.{◌≡◌, ◌&&◌};
 ghost use Rattle.std.specs.List.{list_any};
 ghost use Rattle.zt_region.specs.Region.{region_eq};
 ghost use Rattle.zt_model.specs.Acts.{Fit, acted_all};
 ghost use Rattle.zt_model.specs.Lists.{is_some_and, same};
 ghost use Rattle.zt_model.specs.Parts.{find_face};
-ghost use Rattle.zt_model.specs.Visible.{is_visible, live_rows, routed_rows};
+ghost use Rattle.zt_model.specs.Visible.{is_visible, live_rows};
+ghost use Rattle.zt_changes.specs.LiveRows.{live_count};
 ghost use Rattle.zt_changes.specs.RegionTests.{passes};
-ghost use Rattle.zt_changes.specs.Weights.{declared};
 ghost use Rattle.zt_faces.specs.Declaring.{any_in};
 
 use crate::plan::Plan;
-use crate::planned_tokens::{declared_counted, in_order_at};
+use crate::planned_tokens::{in_order_at, live_counted};
 use crate::tables::Tables;
-use zt_changes::{RegionTest, adds_any_token, routed_added};
+use zt_changes::{RegionTest, adds_any_token};
 use zt_keys::Key;
 use zt_region::Region;
 
 impl<K: Key> Plan<K> {
-    // How many tokens of the expression faces of regions that pass declare. One step for each change; where one adds or
-    // takes such a token, one more for each change before it; and where one closes a face, that for each of its tokens.
-    fn count_declared(&self, tables: &Tables<K>, expr: &K, test: RegionTest) -> u128
+    // How many live rows of the expression stand in regions that pass. One step for each change; where one adds or takes
+    // such a token of a face, one more for each change before it; and where one closes a face, that for each of its tokens.
+    fn count_live(&self, tables: &Tables<K>, expr: &K, test: RegionTest) -> u128
         ensures { Fit K.cmp K.matching self.now tables.now.store
-            → result ≡ declared K.cmp expr.now (passes test) (acted_all K.cmp K.matching self.now tables.now.store).rows.faces }
+            → result ≡ live_count K.cmp expr.now (passes test) (acted_all K.cmp K.matching self.now tables.now.store).rows }
     {
         tables.faces_rise();
         let changes = self.changes();
         let adds = adds_any_token(changes, expr);
-        let mut count = tables.count_declared(expr, test);
+        let mut count = tables.count_live(expr, test);
         for i in 0..changes.len() {
             let before = &changes[..i];
             let change = &changes[i];
             in_order_at(tables, before, change);
-            count = declared_counted(tables, before, change, expr, test, adds, count);
+            count = live_counted(tables, before, change, expr, test, adds, count);
         }
         count
-    }
-
-    // Whether a row of the expression of another router stands in a region that passes.
-    fn any_routed(&self, tables: &Tables<K>, expr: &K, test: RegionTest) -> bool
-        ensures { Fit K.cmp K.matching self.now tables.now.store
-            → result ≡ any_in K.cmp expr.now (passes test) (routed_rows (acted_all K.cmp K.matching self.now tables.now.store).rows) }
-    {
-        let changes = self.changes();
-        if routed_added(changes, tables.zid(), expr, test) {
-            true
-        } else {
-            tables.any_routed_left(changes, expr, test)
-        }
     }
 
     // Whether a live row of the expression stands in a region that passes.
@@ -55,11 +42,7 @@ impl<K: Key> Plan<K> {
         ensures { Fit K.cmp K.matching self.now tables.now.store
             → result ≡ any_in K.cmp expr.now (passes test) (live_rows (acted_all K.cmp K.matching self.now tables.now.store).rows) }
     {
-        if self.count_declared(tables, expr, test) > 0 {
-            true
-        } else {
-            self.any_routed(tables, expr, test)
-        }
+        self.count_live(tables, expr, test) != 0
     }
 
     /// Whether a live row of the expression stands in the region.

@@ -1,12 +1,14 @@
-// How many tokens of an expression faces declare after changes, counted on by one change after another.
+// How many live rows of an expression there are after changes, counted on by one change after another.
 ghost use Rattle.std.specs.Prelude.{◌≡◌, ◌+◌, ◌-◌, ◌<◌, ◌≤◌, ◌^◌, ◌==◌, ◌&&◌, ◌||◌, if◌then◌else◌, true, map, option_map};
 ghost use Rattle.std.specs.List.{list_any};
 ghost use Rattle.std.specs.Option.{option_copied};
 ghost use Rattle.zt_model.specs.Acts.{CloseFace, Fit, acted_all};
 ghost use Rattle.zt_model.specs.Lists.{at_id, same};
 ghost use Rattle.zt_model.specs.Parts.{find_face};
+ghost use Rattle.zt_model.specs.Trees.{row_at};
 ghost use Rattle.zt_rows.specs.Change.{plain_change};
-ghost use Rattle.zt_changes.specs.LiveCounts.{IsInOrderAt, declared_step};
+ghost use Rattle.zt_changes.specs.LiveCounts.{IsInOrderAt};
+ghost use Rattle.zt_changes.specs.LiveRows.{count_step, is_live_row};
 ghost use Rattle.zt_changes.specs.LiveTokens.{adds_token, tokens_in, tokens_step};
 ghost use Rattle.zt_changes.specs.Opened.{facts_of, facts_opened};
 ghost use Rattle.zt_changes.specs.Queries.{from_face};
@@ -17,6 +19,7 @@ use crate::planned_rows::in_order;
 use crate::tables::Tables;
 use zt_changes::{RegionTest, face_after, live_after};
 use zt_keys::Key;
+use zt_region::{Region, Zid};
 use zt_rows::{Change, FaceRow};
 
 fn is_token<K: Key>(found: Option<&K>, expr: &K) -> bool
@@ -179,13 +182,15 @@ fn tokens_after<K: Key>(
     count
 }
 
-// A fact alone: where the change drops a token of a face, the tokens of the face stand in order.
+// A fact alone: the tokens of a face stand in order where the change drops one of them, and so do the rows of router
+// regions where it drops one of those.
 pub(crate) fn in_order_at<K: Key>(tables: &Tables<K>, before: &[Change<K>], change: &Change<K>)
     ensures { Fit K.cmp K.matching (map plain_change before.now) tables.now.store
-        → IsInOrderAt (plain_change change.now) (acted_all K.cmp K.matching (map plain_change before.now) tables.now.store) }
+        → IsInOrderAt K.cmp K.matching (plain_change change.now) (acted_all K.cmp K.matching (map plain_change before.now) tables.now.store) }
 {
     match change {
         Change::DropLive { face, .. } => in_order(tables, *face),
+        Change::DropRouted { .. } => tables.routed_rise(),
         _ => (),
     }
 }
@@ -237,7 +242,7 @@ fn closed_counted<K: Key>(
 ) -> u128
     ensures step { Fit K.cmp K.matching (map plain_change before.now) tables.now.store
         → (list_any (adds_token K.cmp expr.now) (map plain_change before.now) ≡ true → adds ≡ true)
-        → result ≡ declared_step K.cmp expr.now (passes test) K.matching (CloseFace face) (acted_all K.cmp K.matching (map plain_change before.now) tables.now.store) count }
+        → result ≡ count_step K.cmp expr.now (passes test) K.matching (CloseFace face) (acted_all K.cmp K.matching (map plain_change before.now) tables.now.store) count }
     ensures most { result ≤ count }
 {
     if is_tested_after(tables, before, face, test) {
@@ -247,8 +252,22 @@ fn closed_counted<K: Key>(
     }
 }
 
-// How many tokens of the expression faces of regions that pass declare after one change more.
-pub(crate) fn declared_counted<K: Key>(
+// Whether the row is of the expression, of another router than the gateway, and in a region that passes.
+fn is_live_row<K: Key>(
+    region: Region,
+    source: Zid,
+    key: &K,
+    own: Zid,
+    expr: &K,
+    test: RegionTest,
+) -> bool
+    ensures { result ≡ is_live_row K.cmp expr.now (passes test) own (row_at K.cmp K.matching region source key.now) }
+{
+    expr == key && test.passes(region) && source != own
+}
+
+// How many live rows of the expression stand in regions that pass after one change more.
+pub(crate) fn live_counted<K: Key>(
     tables: &Tables<K>,
     before: &[Change<K>],
     change: &Change<K>,
@@ -260,7 +279,7 @@ pub(crate) fn declared_counted<K: Key>(
     requires { count + 1 < 2 ^ 128 }
     ensures step { Fit K.cmp K.matching (map plain_change before.now) tables.now.store
         → (list_any (adds_token K.cmp expr.now) (map plain_change before.now) ≡ true → adds ≡ true)
-        → result ≡ declared_step K.cmp expr.now (passes test) K.matching (plain_change change.now) (acted_all K.cmp K.matching (map plain_change before.now) tables.now.store) count }
+        → result ≡ count_step K.cmp expr.now (passes test) K.matching (plain_change change.now) (acted_all K.cmp K.matching (map plain_change before.now) tables.now.store) count }
     ensures most { result ≤ count + 1 }
 {
     match change {
@@ -276,6 +295,22 @@ pub(crate) fn declared_counted<K: Key>(
         Change::CloseFace { face } => {
             closed_counted(tables, before, *face, expr, test, adds, count)
         }
+        Change::AddRouted {
+            region,
+            source,
+            expr: key,
+        } => more_where(
+            count,
+            is_live_row(*region, *source, key, tables.zid(), expr, test),
+        ),
+        Change::DropRouted {
+            region,
+            source,
+            expr: key,
+        } => less_where(
+            count,
+            is_live_row(*region, *source, key, tables.zid(), expr, test),
+        ),
         _ => count,
     }
 }

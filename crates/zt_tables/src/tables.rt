@@ -12,26 +12,21 @@ ghost use Rattle.std.specs.List.{list_any};
 ghost use Rattle.zt_model.specs.Trees.{is_own_row, is_routed_row, row_at};
 ghost use Rattle.zt_protocol.specs.Plain.{trees_of};
 ghost use Rattle.std.specs.List.{AllByRecursion};
-ghost use Rattle.std.specs.Prelude.{◌&&◌, map};
-ghost use Rattle.zt_rows.specs.Change.{plain_change};
 ghost use Rattle.zt_changes.specs.RegionTests.{passes};
-ghost use Rattle.zt_changes.specs.RoutedLive.{is_live_row, routed_kept};
-ghost use Rattle.zt_changes.specs.Weights.{declared};
-ghost use Rattle.zt_tables.specs.Live.{SaysRouted};
-ghost use Rattle.zt_tables.specs.Routed.{is_other_router};
+ghost use Rattle.zt_changes.specs.LiveRows.{live_count};
 ghost use Rattle.zt_changes.specs.Queries.{next_face_after, next_number_after, numbered, table_set};
 
 use std::alloc::Global;
 use std::collections::VecDeque;
 use std::marker::Model;
-use zt_changes::{RegionTest, routed_stays};
+use zt_changes::RegionTest;
 use zt_faces::Faces;
 use zt_grouped::{GroupedCounts, GroupedKeys, Outboxes};
 use zt_keys::Key;
 use zt_ordered::OrderedRows;
 use zt_protocol::{Message, TreeTable};
 use zt_region::{Admission, Region, WhatAmI, Zid};
-use zt_rows::{AskRows, Change, FaceRow, FaceRows, KeyIds, SpareAsk, SpareFace};
+use zt_rows::{AskRows, FaceRow, FaceRows, KeyIds, SpareAsk, SpareFace};
 
 /// The rows of a gateway. Contracts see them as the model's store, and apart from it the room for more.
 #[derive(Drop)]
@@ -47,35 +42,12 @@ pub struct Tables<K: Key> {
     pub(crate) routed: GroupedKeys<(Region, Zid), K>,
     pub(crate) trees: OrderedRows<Region, TreeTable>,
     pub(crate) outboxes: Outboxes<K>,
-    // How many tokens of each expression the faces of each region declare.
+    // How many live rows of each expression stand in each region.
     pub(crate) tokens: GroupedCounts<Region, K>,
     pub(crate) alloc: Global,
     // Lists with room for the faces and the asks that a plan makes, the next one's first.
     pub(crate) spare_faces: VecDeque<SpareFace<K>>,
     pub(crate) spare_asks: VecDeque<SpareAsk<K>>,
-}
-
-// Whether rows of the router are live in a region that passes, and the changes leave its row of the expression.
-fn is_left<K: Key>(
-    group: &(Region, Zid),
-    own: Zid,
-    changes: &[Change<K>],
-    expr: &K,
-    test: RegionTest,
-) -> bool
-    ensures { result ≡ (is_other_router own (passes test) group.now && routed_kept K.cmp K.matching (map plain_change changes.now) (row_at K.cmp K.matching group.now.0 group.now.1 expr.now)) }
-{
-    if is_other_router(group, own, test) {
-        routed_stays(changes, group.0, group.1, expr)
-    } else {
-        false
-    }
-}
-
-fn is_other_router(group: &(Region, Zid), own: Zid, test: RegionTest) -> bool
-    ensures { result ≡ is_other_router own (passes test) group.now }
-{
-    test.passes(group.0) && group.1 != own
 }
 
 impl<K: Key> Model for Tables<K> {
@@ -253,33 +225,13 @@ impl<K: Key> Tables<K> {
         self.trees.get(&region)
     }
 
-    // Whether another router's row of the expression stands in a region that passes the test. A scan of the routers.
-    pub(crate) fn any_routed<F: Fn(&Region) -> bool>(&self, expr: &K, test: &F) -> bool
-        requires { F.IsAlwaysCallable test.now }
-        ensures { SaysRouted (F.post test.now) K.cmp expr.now self.now.store.rows result }
-    {
-        let own = self.zid;
-        self.routed
-            .any_group(expr, |group| test(&group.0) && group.1 != own)
-    }
-
-    // The same of rows that the changes leave, where the regions are those of a plain test.
-    pub(crate) fn any_routed_left(&self, changes: &[Change<K>], expr: &K, test: RegionTest) -> bool
-        ensures { result ≡ list_any (λ row. is_live_row K.cmp self.now.store.rows.zid expr.now (passes test) row && routed_kept K.cmp K.matching (map plain_change changes.now) row) self.now.store.rows.routed }
-    {
-        let own = self.zid;
-        self.routed
-            .any_group(expr, |group| is_left(group, own, changes, expr, test))
-    }
-
-    // How many tokens of the expression faces of regions that pass declare. For one region no scan, else one of the
-    // regions.
-    pub(crate) fn count_declared(&self, expr: &K, test: RegionTest) -> u128
-        ensures count { result ≡ declared K.cmp expr.now (passes test) self.now.store.rows.faces }
+    // How many live rows of the expression stand in regions that pass. For one region no scan, else one of the regions.
+    pub(crate) fn count_live(&self, expr: &K, test: RegionTest) -> u128
+        ensures count { result ≡ live_count K.cmp expr.now (passes test) self.now.store.rows }
         ensures most { result ≤ 340282366920938463426481119284349108225 }
     {
         match test {
-            RegionTest::Is(region) => u128::from(self.tokens.count(&region, expr)),
+            RegionTest::Is(region) => u128::from(self.declarers(region, expr)),
             RegionTest::ShownTo(_) => {
                 self.tokens.rising();
                 self.tokens.sum_groups(expr, |source| test.passes(*source))

@@ -7,6 +7,7 @@ ghost use Rattle.zt_model.specs.Parts.{find_face};
 ghost use Rattle.zt_model.specs.Visible.{is_visible, live_rows};
 ghost use Rattle.zt_changes.specs.RegionTests.{passes};
 ghost use Rattle.zt_faces.specs.Declaring.{any_in};
+ghost use Rattle.zt_tables.specs.Live.{declarers};
 
 use crate::tables::Tables;
 use zt_changes::RegionTest;
@@ -18,11 +19,14 @@ impl<K: Key> Tables<K> {
     fn any_live(&self, expr: &K, test: RegionTest) -> bool
         ensures { result ≡ any_in K.cmp expr.now (passes test) (live_rows self.now.store.rows) }
     {
-        if self.count_declared(expr, test) > 0 {
-            true
-        } else {
-            self.any_routed(expr, &|source: &Region| test.passes(*source))
-        }
+        self.count_live(expr, test) != 0
+    }
+
+    /// How many live rows of the expression stand in the region: tokens that its faces declare, and rows of other routers.
+    pub fn declarers(&self, region: Region, expr: &K) -> u64
+        ensures { result ≡ declarers K.cmp region expr.now self.now.store.rows }
+    {
+        self.tokens.count(&region, expr)
     }
 
     /// Whether a live row of the expression stands in the region.

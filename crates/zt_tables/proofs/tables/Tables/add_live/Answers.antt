@@ -37,7 +37,7 @@ invariant_of-self g c =
     let orderly = subst (λ t. IsOrderly t.store) (sym c.self.view_is) c.orderly.ensures in
     let more = subst (λ (r : Region). CountsOneMore region_cmp g.K.Ord.cmp r c.args.token c.self.inside.tokens.counts c.add.new.self.counts) c.row.ensures.region c.add.ensures.counts in
     let of_expr = subst (λ e. CountsOneMore region_cmp g.K.Ord.cmp x.region e c.self.inside.tokens.counts c.add.new.self.counts) c.requires.token more in
-    let kept = kept-added g.K.Ord.cmp g.K.Key.matching (table_rows c.self.inside).store c.self.inside.tokens.counts c.add.new.self.counts c.self.invariant.kept orderly c.args.f c.args.id c.args.expr x (sym there) fit of_expr in
+    let kept = kept-added g.K.Ord.cmp g.K.Key.matching g.met.K.Ord.total (table_rows c.self.inside).store c.self.inside.tokens.counts c.add.new.self.counts c.self.invariant.kept orderly c.args.f c.args.id c.args.expr x (sym there) fit of_expr in
     let serves = served-same g.K.Ord.cmp g.K.Key.matching (AddLive c.args.f c.args.id c.args.expr) (table_rows c.self.inside).store c.self.invariant.kept.numbered fit c.self.inside.faces.served c.self.invariant.served (λ p o. refl) in
     record { counted = c.self.invariant.counted; dictionary = c.self.invariant.dictionary; kept = rw c.add_live.ensures.faces kept; served = rw c.add_live.ensures.faces serves }
 

@@ -18,7 +18,7 @@ invariant_of-self g c =
     let fit = subst (λ t. Fits g.K.Ord.cmp g.K.Key.matching (CloseFace c.args.f) t.store) (sym c.self.view_is) c.requires.fits in
     let silent = subst (λ t. list_of_face (λ x. x.live) (find_face c.args.f t.store.rows) ≡ []) (sym c.self.view_is) c.requires.silent in
     let orderly = subst (λ t. IsOrderly t.store) (sym c.self.view_is) c.orderly.ensures in
-    let kept = kept-closed g.K.Ord.cmp g.K.Key.matching c.args.f (table_rows c.self.inside).store c.self.inside.tokens.counts c.self.invariant.kept orderly fit silent in
+    let kept = kept-closed g.K.Ord.cmp g.K.Key.matching g.met.K.Ord.total c.args.f (table_rows c.self.inside).store c.self.inside.tokens.counts c.self.invariant.kept orderly fit silent in
     let serves = served-acted g.K.Ord.cmp g.K.Key.matching (CloseFace c.args.f) (table_rows c.self.inside).store c.self.invariant.kept.numbered fit c.self.inside.faces.served c.self.invariant.served (without_id c.args.f c.self.inside.faces.served) (λ p. served_at-closed p c.args.f c.self.inside.faces.served) in
     record {
       counted = c.self.invariant.counted;

@@ -4,6 +4,7 @@ use Rattle.zt_region.specs.Region.{region_eq, region_eq-refl}
 use Rattle.zt_grouped.specs.Counted.{CountsOneMore, counted}
 use Rattle.zt_model.specs.Acts.{DropLive, Fits, acted, fits}
 use Rattle.zt_model.specs.Parts.{with_face}
+use Rattle.zt_changes.specs.LiveRows.{live-parts}
 use Rattle.zt_changes.specs.Orderly.{IsOrderly}
 use Rattle.zt_tables.specs.RegionOrder.{region_cmp}
 use Rattle.zt_tables.specs.View.{table_rows}
@@ -35,7 +36,8 @@ remove-requires g c =
     let found = rw c.in-Some-live.is at c.live.ensures in
     let some = counts-there g.K.Ord.cmp g.met.K.Ord.total e (λ r. region_eq r x.region) c.args.f x c.args.id c.self.inside.faces.faces (sym there) (region_eq-refl x.region) (sym found) in
     let is = c.self.invariant.kept.tokens.at x.region e in
-    subst (λ (r : Region). 0 < counted region_cmp g.K.Ord.cmp r e c.self.inside.tokens.counts) (sym c.row.ensures.region) (omega (arith, some, is))
+    let parts = live-parts g.K.Ord.cmp e (λ r. region_eq r x.region) (table_rows c.self.inside).store.rows in
+    subst (λ (r : Region). 0 < counted region_cmp g.K.Ord.cmp r e c.self.inside.tokens.counts) (sym c.row.ensures.region) (omega (arith, some, is, parts))
 
 pub invariant_of-self : goal.invariant_of-self
 unfolding acted with_face
@@ -46,7 +48,7 @@ invariant_of-self g c =
     let orderly = subst (λ t. IsOrderly t.store) (sym c.self.view_is) c.orderly.ensures in
     let less = subst (λ (r : Region). CountsOneMore region_cmp g.K.Ord.cmp r c.in-Some-live.expr.now c.remove.new.self.counts c.self.inside.tokens.counts) c.row.ensures.region c.remove.ensures.counts in
     let found = rw c.in-Some-live.is at c.live.ensures in
-    let kept = kept-dropped g.K.Ord.cmp g.K.Key.matching (table_rows c.self.inside).store c.self.inside.tokens.counts c.remove.new.self.counts c.self.invariant.kept orderly c.args.f c.args.id c.in-Some-live.expr.now x (sym there) fit c.in_order.ensures.live (sym found) less in
+    let kept = kept-dropped g.K.Ord.cmp g.K.Key.matching g.met.K.Ord.total (table_rows c.self.inside).store c.self.inside.tokens.counts c.remove.new.self.counts c.self.invariant.kept orderly c.args.f c.args.id c.in-Some-live.expr.now x (sym there) fit c.in_order.ensures.live (sym found) less in
     let serves = served-same g.K.Ord.cmp g.K.Key.matching (DropLive c.args.f c.args.id) (table_rows c.self.inside).store c.self.invariant.kept.numbered fit c.self.inside.faces.served c.self.invariant.served (λ p o. refl) in
     record { counted = c.self.invariant.counted; dictionary = c.self.invariant.dictionary; kept = rw c.drop_live.ensures.faces kept; served = rw c.drop_live.ensures.faces serves }
 
