@@ -14,8 +14,8 @@ pub returns-in-DropLive-clause-room : goal.returns-in-DropLive-clause-room
 returns-in-DropLive-clause-room g c =
     rw c.in-DropLive.is (plain-leaves-room g.K.Ord.cmp g.K.Key.matching g.K.Key.anchored c.args.self.now.store c.args.self.now.rooms c.drop_live.new.self.rooms c.next_ask-numbered.ensures.numbered (DropLive c.in-DropLive.face c.in-DropLive.id) c.drop_live.ensures.rooms refl)
 
-pub returns-in-AddRouted-clause-room : goal.returns-in-AddRouted-clause-room
-returns-in-AddRouted-clause-room g c =
+pub returns-in-Some-token-clause-room : goal.returns-in-Some-token-clause-room
+returns-in-Some-token-clause-room g c =
     rw c.in-AddRouted.is (plain-leaves-room g.K.Ord.cmp g.K.Key.matching g.K.Key.anchored c.args.self.now.store c.args.self.now.rooms c.add_routed.new.self.rooms c.next_ask-numbered.ensures.numbered (AddRouted c.in-AddRouted.region c.in-AddRouted.source c.in-AddRouted.expr) c.add_routed.ensures.rooms refl)
 
 pub returns-in-DropRouted-clause-room : goal.returns-in-DropRouted-clause-room
