@@ -25,6 +25,12 @@ use Rattle.zt_holders.specs.declared.bucket.Bucket.TheVariants.{Any, At}
 abbrev pub has_face : ℕ → List (ℕ × Unit {0}) → Bool
 has_face n found = is_some (find nat_cmp n found)
 
+-- one face more
+pub put-has : (n f : ℕ) (found : List (ℕ × Unit {0})) → has_face n (put nat_cmp f tt found) ≡ ((n == f) || has_face n found)
+put-has n f found =
+    ap is_some (find-put nat_cmp nat_cmp_total n f tt found)
+    ∙ by_test (n == f) (λ t. let own = is_eq-nat n f ∙ t in rw (own, t) refl) (λ t. let other = is_eq-nat n f ∙ t in rw (other, t) refl)
+
 module _ {K : Type 0} (matching : K → K → Bool) (key : K) where
   abbrev pub asks_from : ℕ → (ℕ × ℕ) × Option K → Bool
   asks_from n row = (n == row.0.0) && is_about matching row.1 key
@@ -36,11 +42,6 @@ module _ {K : Type 0} (matching : K → K → Bool) (key : K) where
     pub at : (n : ℕ) → has_face n new ≡ (has_face n old || holds_in n rows)
 
   -- one row more
-  put-has : (n f : ℕ) (found : List (ℕ × Unit {0})) → has_face n (put nat_cmp f tt found) ≡ ((n == f) || has_face n found)
-  put-has n f found =
-      ap is_some (find-put nat_cmp nat_cmp_total n f tt found)
-      ∙ by_test (n == f) (λ t. let own = is_eq-nat n f ∙ t in rw (own, t) refl) (λ t. let other = is_eq-nat n f ∙ t in rw (other, t) refl)
-
   or-swap : (a b c d : Bool) → (a && b ≡ d) → ((d || c) ≡ (c || (a && b)))
   or-swap true true true d h = rw (sym h) refl
   or-swap true true false d h = rw (sym h) refl

@@ -58,7 +58,7 @@ module _ {K : Type 0} (anchored : Anchor → K → Option ℕ) where
 
 -- ---- changes that leave what faces hold
 module _ {K : Type 0} where
-  abbrev KeepsHeld : Touch K → Type 0
+  abbrev pub KeepsHeld : Touch K → Type 0
   KeepsHeld (Opens new) = new.held ≡ []
   KeepsHeld (Closes n) = ⊥
   KeepsHeld (Changes at change) = (x : Face K) → (change x).held ≡ x.held
@@ -82,7 +82,7 @@ module _ {K : Type 0} where
   mapped-list change kept None = refl
   mapped-list change kept (Some x) = kept x
 
-  touched-list : (n : ℕ) (t : Touch K) → KeepsHeld t → (o : Option (Face K)) → held_by (touched n t o) ≡ held_by o
+  pub touched-list : (n : ℕ) (t : Touch K) → KeepsHeld t → (o : Option (Face K)) → held_by (touched n t o) ≡ held_by o
   touched-list n (Opens new) none None = by_test (n == new.number) (λ t. rw t none) (λ t. rw t refl)
   touched-list n (Opens new) none (Some x) = refl
   touched-list n (Closes m) kept o = absurd kept
@@ -104,7 +104,7 @@ is_still (DropHeld n id) = false
 is_still _ = true
 
 module _ {K : Type 0} (cmp : K → K → Ordering) (matching : K → K → Bool) where
-  touch-still : (act : Act K) (s : Store K) → is_still act ≡ true → KeepsHeld (touch cmp matching act s)
+  pub touch-still : (act : Act K) (s : Store K) → is_still act ≡ true → KeepsHeld (touch cmp matching act s)
   touch-still (CloseFace n) s still = cc
   touch-still (AddHeld n id interest) s still = cc
   touch-still (DropHeld n id) s still = cc

@@ -102,6 +102,22 @@ module _ {K : Type 0} (test : Face K → Bool) where
       (λ n. row-of n found ∙ ap (λ b. if b then Some (n, tt) else None) (has n ∙ sym (has-for n faces rising)) ∙ sym (row-of n (rows_for faces))))
       ∙ keys-for faces
 
+  -- a number is among those of the faces that pass exactly if its face passes
+  keys-any : (n : ℕ) (rows : List (ℕ × Unit {0})) → list_any (λ m. n == m) (keys_of rows) ≡ has_face n rows
+  keys-any n [] = refl
+  keys-any n (row ∷ rows) =
+      by_test (n == row.0)
+      (λ t. let own = is_eq-nat n row.0 ∙ t in rw (own, t) refl)
+      (λ t. let other = is_eq-nat n row.0 ∙ t in rw (other, t) (keys-any n rows))
+
+  pub among-listed : (n : ℕ) (faces : List (Face K)) → is_rising (numbers_of faces) ≡ true → list_any (λ m. n == m) (map (λ x. x.number) (filter test faces)) ≡ is_some_and (face_in n faces) test
+  among-listed n faces rising = ap (list_any (λ m. n == m)) (sym (keys-for faces)) ∙ keys-any n (rows_for faces) ∙ has-for n faces rising
+
+  pub listed-alike : (before after : List (Face K)) → is_rising (numbers_of before) ≡ true → is_rising (numbers_of after) ≡ true → ((n : ℕ) → is_some_and (face_in n before) test ≡ is_some_and (face_in n after) test)
+      → map (λ x. x.number) (filter test before) ≡ map (λ x. x.number) (filter test after)
+  listed-alike before after rising_before rising_after alike =
+      sym (keys-for before) ∙ keys-listed after (rows_for before) rising_after (sorted-for before rising_before) (λ n. has-for n before rising_before ∙ alike n)
+
 -- ---- what an index finds
 module _ {K : Type 0} (matching : K → K → Bool) (anchored : Anchor → K → Option ℕ)
     (agree : (at : Anchor) (a b : K) (m n : ℕ) → matching a b ≡ true → anchored at a ≡ Some m → anchored at b ≡ Some n → m ≡ n)

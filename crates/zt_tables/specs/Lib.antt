@@ -19,6 +19,7 @@ pub mod Gathered
 pub mod HatAnswers
 pub mod HatConditions
 pub mod HatPlans
+pub mod HoldersAfter
 pub mod HatActs
 pub mod HatTokenActs
 pub mod HatInterestActs

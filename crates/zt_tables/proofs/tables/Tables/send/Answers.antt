@@ -17,7 +17,7 @@ invariant_of-self g c =
     let kept = kept-silent g.K.Ord.cmp g.K.Key.matching (Send c.args.f c.args.message) (table_rows c.self.inside).store c.self.inside.tokens.counts c.self.invariant.kept fit (λ e test. refl) in
     let serves = served-same g.K.Ord.cmp g.K.Key.matching (Send c.args.f c.args.message) (table_rows c.self.inside).store c.self.invariant.kept.numbered fit c.self.inside.faces.served c.self.invariant.served (λ p o. refl) in
     let holds = indexed-still g.K.Ord.cmp g.K.Key.matching g.K.Key.anchored (Send c.args.f c.args.message) (table_rows c.self.inside).store c.self.inside.holders.rows refl c.self.invariant.indexed in
-    record { counted = c.self.invariant.counted; dictionary = c.self.invariant.dictionary; kept = rw c.push.ensures.queues kept; indexed = rw c.push.ensures.queues holds; served = rw c.push.ensures.queues serves }
+    record { counted = c.self.invariant.counted; dictionary = c.self.invariant.dictionary; kept = rw c.push.ensures.queues kept; indexed = holds; served = rw c.push.ensures.queues serves }
 
 pub returns-clause-store : goal.returns-clause-store
 unfolding acted
