@@ -13,7 +13,8 @@ use Rattle.std.specs.Map.Iter.{deref_pair}
 use Rattle.std.specs.Map.{keys_of}
 use Rattle.std.specs.Option.{is_some}
 use Rattle.std.specs.Ordering.{nat_cmp}
-use Rattle.std.proofs.Common.{ap, arith, get_or, sym, ◌∙◌}
+use Rattle.std.proofs.Common.{ap, arith, get_or, subst, sym, ◌∙◌}
+use Rattle.std.proofs.lemmas.Bool.{eqb-true}
 use Rattle.std.proofs.lemmas.Bool.Decides.{nat_tests}
 use Rattle.std.proofs.lemmas.Cmp.{nat_cmp_total}
 use Rattle.std.proofs.lemmas.List.{append-nil, map-append, take_more}
@@ -200,3 +201,37 @@ pub faces-more : {K : Type 0} (items : List (Bor ℕ × Bor (FaceTable K))) (i :
 faces-more items i d less =
     ap faces_in (ap (map deref_pair) (take_more items i d less) ∙ map-append deref_pair (take i items) (get_or items i d ∷ []))
     ∙ map-append (λ row. row.1.face) (map deref_pair (take i items)) (deref_pair (get_or items i d) ∷ [])
+
+-- ---- a change whose face is looked at anew
+module _ {K : Type 0} (matching : K → K → Bool) (e : K) (s : Store K) (act : Act K) where
+  pub looked-at : (f n : ℕ) (is_holder before : Bool) → face_held act ≡ Some f → is_holder ≡ wanted matching e (find_face f s.rows)
+      → (if f == n then is_holder else before) ≡ (if touches n act then wanted matching e (find_face n s.rows) else before)
+  looked-at f n is_holder before here is =
+      rw here (by_test (f == n)
+      (λ t. rw t (is ∙ ap (λ (m : ℕ). wanted matching e (find_face m s.rows)) (eqb-true f n t)))
+      (λ t. rw t refl))
+
+  pub not-looked-at : (n : ℕ) (before : Bool) → face_held act ≡ None → before ≡ (if touches n act then wanted matching e (find_face n s.rows) else before)
+  not-looked-at n before none = rw none refl
+
+pub any-mapped : {X Y : Type 0} (test : Y → Bool) (read : X → Y) (xs : List X) → list_any test (map read xs) ≡ list_any (λ x. test (read x)) xs
+any-mapped test read [] = refl
+any-mapped test read (x ∷ xs) = by_test (test (read x)) (λ t. rw t refl) (λ t. rw t (any-mapped test read xs))
+
+-- the numbers that are gone over
+pub numbers-next : (numbers : List ℕ) (i d : ℕ) (found reserved new : List (ℕ × Unit {0})) → i < length numbers → HasEach (λ n. list_any (λ m. n == m) (take i numbers)) found
+    → reserved ≡ found → new ≡ put nat_cmp (get_or numbers i d) tt reserved → HasEach (λ n. list_any (λ m. n == m) (take (i + 1) numbers)) new
+numbers-next numbers i d found reserved new less has same_rows is =
+    subst (HasEach (λ n. list_any (λ m. n == m) (take (i + 1) numbers))) (sym (is ∙ ap (put nat_cmp (get_or numbers i d) tt) same_rows)) (numbers-more numbers i d found less has)
+
+pub numbers-none : (found : List (ℕ × Unit {0})) → found ≡ [] → HasEach (λ n. false) found
+numbers-none found none = record { at = λ n. ap (has_face n) none }
+
+-- the changes that are gone over
+module _ {K X : Type 0} (after before : ℕ → Bool) (read : X → Act K) (items : List X) (i : ℕ) (d : X) (less : i < length items) where
+  pub corrected-next : (found more : List (ℕ × Unit {0})) → HasEach (corrected after (λ n. list_any (touches n) (map read (take i items))) before) found
+      → ((n : ℕ) → has_face n more ≡ (if touches n (read (get_or items i d)) then after n else has_face n found))
+      → HasEach (corrected after (λ n. list_any (touches n) (map read (take (i + 1) items))) before) more
+  corrected-next found more has is =
+      let next = corrected-more after before (λ n. list_any (touches n) (map read (take i items))) (λ n. touches n (read (get_or items i d))) found more has is in
+      record { at = λ n. next.at n ∙ ap (λ b. if b then after n else before n) (sym (touched-more read items i d n less)) }

@@ -92,14 +92,9 @@ fn face_held<K: Key>(change: &Change<K>) -> Option<u32>
 
 // Whether a change adds or takes interests.
 fn any_held<K: Key>(changes: &[Change<K>]) -> bool
-    ensures { result ≡ list_any (λ act. is_some (face_held act)) (map plain_change changes.now) }
+    ensures { result ≡ list_any (λ change. is_some (face_held (plain_change change))) changes.now }
 {
-    for change in changes {
-        if face_held(change).is_some() {
-            return true;
-        }
-    }
-    false
+    changes.iter().any(|change| face_held(change).is_some())
 }
 
 // The numbers as rows.

@@ -1,0 +1,1 @@
+use Rattle.zt_tables.proofs.plan.Plan.holders.Goals as goal
