@@ -1,2 +1,3 @@
+mod Freed
 mod Next
 mod WhatFits
