@@ -1,0 +1,3 @@
+mod Freed
+mod Next
+mod WhatFits

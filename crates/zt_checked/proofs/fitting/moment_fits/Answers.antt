@@ -1,0 +1,11 @@
+use Rattle.std.specs.Prelude.{List}
+use Rattle.std.proofs.Common.{◌∙◌, subst, sym}
+use Rattle.zt_model.specs.Acts.{Act, Fits, SetMoment, acted_all, fits}
+use Rattle.zt_checked.proofs.WhatFits.{none-long}
+use Rattle.zt_checked.proofs.fitting.moment_fits.Goals as goal
+
+pub returns-then-len-eq0 : goal.returns-then-len-eq0
+unfolding fits acted_all
+returns-then-len-eq0 g c later =
+    let none = none-long c.args.plan.now (sym c.len.ensures.len ∙ c.if-len-eq0.true) in
+    rw (none, ← c.moment.ensures) later

@@ -1,0 +1,9 @@
+// What no clause says: that calls succeed where there is memory, that what is asked is what the rules give for rows
+// worked out by hand, and how it goes with many changes and with the last numbers.
+mod answers;
+mod dictionary;
+mod gateway;
+mod ids;
+mod many;
+mod outboxes;
+mod thirty;
