@@ -4,6 +4,7 @@
 //!     rustc -O --edition 2021 -o tables bench/tables.rs
 //!     time ./tables one 100000 10             # on one face
 //!     time ./tables many 10000 100000 10      # spread over 10,000 faces
+//!     time ./tables held 10000 100000         # interests, and the holders of each key
 //!
 //! The last word is how many rounds of declaring, asking and dropping there are; the keys are made once, before them.
 //! Both programs print the same, and `zt_trial` is to take at most 1.5 times the processor time. Measured on a shared
@@ -94,6 +95,86 @@ fn answers(tables: &Tables, token: &Token) -> u64 {
     sum
 }
 
+// Interests by their key, and those with a wildcard by what stands behind it.
+#[derive(Default)]
+struct Held {
+    faces: HashMap<u32, HashMap<u32, Arc<str>>>,
+    plain: HashMap<Arc<str>, Vec<u32>>,
+    wild: HashMap<Arc<str>, Vec<u32>>,
+}
+
+fn behind(key: &str) -> &str {
+    key.rsplit('/').next().unwrap_or(key)
+}
+
+fn hold(held: &mut Held, token: &Token) -> bool {
+    let Some(face) = held.faces.get_mut(&token.face) else {
+        return false;
+    };
+    if face.contains_key(&token.id) {
+        return false;
+    }
+    if token.id % 8 == 7 {
+        let key: Arc<str> = Arc::from(format!("*/{}", token.id));
+        let last: Arc<str> = Arc::from(behind(&key));
+        face.insert(token.id, key);
+        held.wild.entry(last).or_default().push(token.face);
+    } else {
+        face.insert(token.id, token.key.clone());
+        held.plain.entry(token.key.clone()).or_default().push(token.face);
+    }
+    true
+}
+
+fn holders(held: &Held, key: &str) -> Vec<u32> {
+    let mut faces = Vec::new();
+    if let Some(plain) = held.plain.get(key) {
+        faces.extend_from_slice(plain);
+    }
+    if let Some(wild) = held.wild.get(behind(key)) {
+        faces.extend_from_slice(wild);
+    }
+    faces.sort();
+    faces.dedup();
+    faces
+}
+
+fn let_go(held: &mut Held, token: &Token) -> bool {
+    let Some(key) = held.faces.get_mut(&token.face).and_then(|face| face.remove(&token.id)) else {
+        return false;
+    };
+    let (groups, name) = if key.starts_with('*') {
+        (&mut held.wild, behind(&key))
+    } else {
+        (&mut held.plain, &*key)
+    };
+    if let Some(faces) = groups.get_mut(name) {
+        if let Some(at) = faces.iter().position(|face| *face == token.face) {
+            faces.remove(at);
+        }
+        if faces.is_empty() {
+            groups.remove(name);
+        }
+    }
+    true
+}
+
+fn interests(count: u32, tokens: &[Token], rounds: u32) {
+    let mut held = Held::default();
+    for number in 1..=count {
+        held.faces.insert(number, HashMap::new());
+    }
+    let (mut declared, mut answered, mut dropped) = (0u64, 0u64, 0u64);
+    for _ in 0..rounds {
+        declared += tokens.iter().filter(|token| hold(&mut held, token)).count() as u64;
+        for token in tokens {
+            answered += holders(&held, &token.key).iter().map(|face| u64::from(*face)).sum::<u64>();
+        }
+        dropped += tokens.iter().filter(|token| let_go(&mut held, token)).count() as u64;
+    }
+    println!("declared {declared} answered {answered} dropped {dropped}");
+}
+
 fn main() {
     let words: Vec<String> = env::args().skip(1).collect();
     let numbers: Vec<u32> = words[1..].iter().filter_map(|word| word.parse().ok()).collect();
@@ -102,11 +183,16 @@ fn main() {
         ("one", [tokens, rounds]) => (1, *tokens, *rounds),
         ("many", [faces, tokens]) => (*faces, *tokens, 1),
         ("many", [faces, tokens, rounds]) => (*faces, *tokens, *rounds),
-        _ => panic!("one TOKENS [ROUNDS] or many FACES TOKENS [ROUNDS]"),
+        ("held", [faces, tokens]) => (*faces, *tokens, 1),
+        ("held", [faces, tokens, rounds]) => (*faces, *tokens, *rounds),
+        _ => panic!("one TOKENS [ROUNDS], many FACES TOKENS [ROUNDS] or held FACES KEYS [ROUNDS]"),
     };
     let tokens: Vec<Token> = (0..tokens)
         .map(|id| Token { face: id % count + 1, id, key: Arc::from(format!("t/{id}")) })
         .collect();
+    if words[0] == "held" {
+        return interests(count, &tokens, rounds);
+    }
     let mut tables = Tables::default();
     for number in 1..=count {
         tables.faces.insert(number, Face { next: 1, ..Face::default() });

@@ -6,9 +6,11 @@ ghost use Rattle.zt_model.specs.Lists.{at_id};
 ghost use Rattle.zt_model.specs.Parts.{find_face, told_id};
 
 use std::alloc::Global;
+use zt_checked::{add_fitting, apply_fitting, new_plan};
 use zt_keys::{Key, Memory};
+use zt_protocol::{InterestMode, InterestOptions};
 use zt_region::{Bound, Region, WhatAmI};
-use zt_rows::{Change, FaceRow};
+use zt_rows::{Change, FaceRow, HeldRow, RemoteInterest};
 use zt_tables::{Plan, Tables};
 
 // Makes room for the plan and makes its changes. The only error is want of memory, and then no row changes.
@@ -112,4 +114,37 @@ pub(crate) fn withdraw<K: Key>(
     })?;
     carry_out(tables, plan)?;
     Ok(true)
+}
+
+// The face holds an interest in the key's tokens from now on, where it is open and holds none under the id.
+pub(crate) fn hold<K: Key>(
+    alloc: Global,
+    tables: &mut Tables<K>,
+    f: u32,
+    id: u32,
+    key: K,
+) -> Result<bool, Memory> {
+    let interest = RemoteInterest {
+        expr: Some(key),
+        options: InterestOptions::TOKENS,
+        mode: InterestMode::Future,
+    };
+    let row = HeldRow { id, interest };
+    let mut plan = new_plan(alloc, tables);
+    let added = add_fitting(tables, &mut plan, Change::AddHeld { face: f, row })?;
+    apply_fitting(tables, plan)?;
+    Ok(added)
+}
+
+// The face's interest goes, where one stands under the id.
+pub(crate) fn let_go<K: Key>(
+    alloc: Global,
+    tables: &mut Tables<K>,
+    f: u32,
+    id: u32,
+) -> Result<bool, Memory> {
+    let mut plan = new_plan(alloc, tables);
+    let added = add_fitting(tables, &mut plan, Change::DropHeld { face: f, id })?;
+    apply_fitting(tables, plan)?;
+    Ok(added)
 }

@@ -1,8 +1,10 @@
 //! `zt_trial` measures the tables of a gateway: it declares tokens on faces and tells them there, asks for each, and
-//! drops them again, a plan of two changes at a time, and prints sums of what was answered.
+//! drops them again, a plan of two changes at a time, and prints sums of what was answered. Or the faces hold interests,
+//! one a plan, each key is asked for its holders, and the faces let go of them.
 //!
 //!     one TOKENS [ROUNDS]             on one face
 //!     many FACES TOKENS [ROUNDS]      spread over the faces
+//!     held FACES KEYS [ROUNDS]        interests, each in a key and each eighth with a wildcard, spread over the faces
 //!
 //! `bench/tables.rs` is the same in plain Rust.
 #![tactic(auto)]
@@ -13,7 +15,7 @@ mod trial;
 use std::env;
 use std::io::ErrorKind;
 use std::process::ExitCode;
-use trial::{Task, trial};
+use trial::{Kind, Task, trial};
 
 // The status of a run that lacked memory, and of words that ask for nothing that the program does.
 const NO_MEMORY: u8 = 5;
@@ -28,6 +30,8 @@ fn number(word: &String) -> Option<u32> {
 fn task(words: &[String]) -> Option<Task> {
     let (mode, numbers) = words.split_first()?;
     let (faces, tokens, rounds) = match (mode.as_str(), numbers) {
+        ("held", [faces, tokens]) => (number(faces)?, number(tokens)?, 1),
+        ("held", [faces, tokens, rounds]) => (number(faces)?, number(tokens)?, number(rounds)?),
         ("one", [tokens]) => (1, number(tokens)?, 1),
         ("one", [tokens, rounds]) => (1, number(tokens)?, number(rounds)?),
         ("many", [faces, tokens]) => (number(faces)?, number(tokens)?, 1),
@@ -37,7 +41,13 @@ fn task(words: &[String]) -> Option<Task> {
     if faces == 0 {
         return None;
     }
+    let kind = if mode.as_str() == "held" {
+        Kind::Interests
+    } else {
+        Kind::Tokens
+    };
     Some(Task {
+        kind,
         faces,
         tokens,
         rounds,

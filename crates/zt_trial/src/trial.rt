@@ -1,15 +1,23 @@
 // The work that is measured.
 ghost use Rattle.std.specs.Prelude.{◌<◌};
 
-use crate::fitting::{declare, open, withdraw};
+use crate::fitting::{declare, hold, let_go, open, withdraw};
 use std::alloc::Global;
 use zt_keys::{Key, KeyError, KeyExpr, Memory};
 use zt_region::{Admission, Region, WhatAmI, Zid};
 use zt_tables::Tables;
 
-/// How many faces, how many tokens, and how often they are declared and dropped.
+/// What comes and goes.
+#[derive(Clone, Copy)]
+pub(crate) enum Kind {
+    Tokens,
+    Interests,
+}
+
+/// What comes and goes, on how many faces, how many there are, and how often they come and go.
 #[derive(Clone, Copy)]
 pub(crate) struct Task {
+    pub(crate) kind: Kind,
     pub(crate) faces: u32,
     pub(crate) tokens: u32,
     pub(crate) rounds: u32,
@@ -108,6 +116,80 @@ fn withdraw_each(
     Ok(dropped)
 }
 
+// The interest of each face in the keys that are its own, each eighth with a wildcard in the place of the first chunk.
+fn hold_each(
+    alloc: Global,
+    tables: &mut Tables<KeyExpr>,
+    tokens: &[Token],
+) -> Result<u64, KeyError> {
+    let mut held = 0u64;
+    for token in tokens {
+        let key = if token.id % 8 == 7 {
+            let text = format!(in alloc; "*/{}", token.id)?;
+            KeyExpr::read(alloc, text.as_str())?
+        } else {
+            token.key.copy(alloc)?
+        };
+        if hold(alloc, tables, token.face, token.id, key)? {
+            held = held.wrapping_add(1);
+        }
+    }
+    Ok(held)
+}
+
+// The sum of the numbers of the holders of each key.
+fn ask_holders(
+    alloc: Global,
+    tables: &Tables<KeyExpr>,
+    tokens: &[Token],
+) -> Result<u64, Memory> {
+    let mut sum = 0u64;
+    for token in tokens {
+        let holders = tables.holders(alloc, &token.key)?;
+        for number in &holders {
+            sum = sum.wrapping_add(u64::from(*number));
+        }
+    }
+    Ok(sum)
+}
+
+fn let_go_each(
+    alloc: Global,
+    tables: &mut Tables<KeyExpr>,
+    tokens: &[Token],
+) -> Result<u64, Memory> {
+    let mut dropped = 0u64;
+    for token in tokens {
+        if let_go(alloc, tables, token.face, token.id)? {
+            dropped = dropped.wrapping_add(1);
+        }
+    }
+    Ok(dropped)
+}
+
+// One round: how many came, what was answered, and how many went.
+fn round(
+    alloc: Global,
+    tables: &mut Tables<KeyExpr>,
+    kind: Kind,
+    tokens: &[Token],
+) -> Result<(u64, u64, u64), KeyError> {
+    match kind {
+        Kind::Tokens => {
+            let declared = declare_each(alloc, tables, tokens)?;
+            let answered = ask_each(tables, tokens);
+            let dropped = withdraw_each(alloc, tables, tokens)?;
+            Ok((declared, answered, dropped))
+        }
+        Kind::Interests => {
+            let held = hold_each(alloc, tables, tokens)?;
+            let answered = ask_holders(alloc, tables, tokens)?;
+            let dropped = let_go_each(alloc, tables, tokens)?;
+            Ok((held, answered, dropped))
+        }
+    }
+}
+
 /// Carries the task out. The only error is want of memory.
 pub(crate) fn trial(alloc: Global, task: Task) -> Result<Sums, KeyError> {
     let tokens = make_tokens(alloc, task)?;
@@ -118,9 +200,7 @@ pub(crate) fn trial(alloc: Global, task: Task) -> Result<Sums, KeyError> {
         dropped: 0,
     };
     for _ in 0..task.rounds {
-        let declared = declare_each(alloc, &mut tables, &tokens)?;
-        let answered = ask_each(&tables, &tokens);
-        let dropped = withdraw_each(alloc, &mut tables, &tokens)?;
+        let (declared, answered, dropped) = round(alloc, &mut tables, task.kind, &tokens)?;
         sums = Sums {
             declared: sums.declared.wrapping_add(declared),
             answered: sums.answered.wrapping_add(answered),
