@@ -13,7 +13,6 @@ pub mod Asks
 pub mod Opened
 pub mod AskRooms
 pub mod Closing
-pub mod Declaring
 pub mod Sent
 pub mod AskWritten
 pub mod Reserved

@@ -8,7 +8,7 @@ ghost use Rattle.zt_model.specs.Parts.{find_face};
 ghost use Rattle.zt_model.specs.Visible.{is_visible, live_rows};
 ghost use Rattle.zt_changes.specs.LiveRows.{live_count};
 ghost use Rattle.zt_changes.specs.RegionTests.{passes};
-ghost use Rattle.zt_faces.specs.Declaring.{any_in};
+ghost use Rattle.zt_tables.specs.Live.{any_in};
 
 use crate::plan::Plan;
 use crate::planned_tokens::{in_order_at, live_counted};

@@ -6,8 +6,7 @@ ghost use Rattle.zt_model.specs.Lists.{is_some_and, same};
 ghost use Rattle.zt_model.specs.Parts.{find_face};
 ghost use Rattle.zt_model.specs.Visible.{is_visible, live_rows};
 ghost use Rattle.zt_changes.specs.RegionTests.{passes};
-ghost use Rattle.zt_faces.specs.Declaring.{any_in};
-ghost use Rattle.zt_tables.specs.Live.{declarers};
+ghost use Rattle.zt_tables.specs.Live.{any_in, declarers};
 
 use crate::tables::Tables;
 use zt_changes::RegionTest;
