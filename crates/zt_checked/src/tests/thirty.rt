@@ -12,7 +12,7 @@ use zt_keys::{KeyError, KeyExpr};
 use zt_protocol::{InterestMode, QueryableInfo, TreeTable};
 use zt_region::{Bound, Region, Zid};
 use zt_rows::Change;
-use zt_tables::Tables;
+use zt_tables::{Plan, Tables};
 
 // A north peer, two subregion peers and a session.
 fn faces(alloc: Global) -> Result<Changes, KeyError> {
@@ -190,6 +190,14 @@ fn are_after(rt: &impl Abort, tables: &Tables<KeyExpr>, keys: &Keys) {
     assert!(rt; texts_now(tables) == TEXTS_AFTER);
 }
 
+fn are_planned(rt: &impl Abort, plan: &Plan<KeyExpr>, tables: &Tables<KeyExpr>, keys: &Keys) {
+    assert!(rt; ids_then(plan, tables, keys) == IDS_AFTER);
+    assert!(rt; asks_then(plan, tables) == ASKS_AFTER);
+    assert!(rt; truths_then(plan, tables, keys) == TRUTHS_AFTER);
+    assert!(rt; texts_then(plan, tables) == TEXTS_AFTER);
+    assert!(rt; plan.next_source(tables, Region::North, None) == Some(OWN));
+}
+
 // How many routers the table of North has.
 fn routers(tables: &Tables<KeyExpr>) -> usize {
     match tables.tree(Region::North) {
@@ -260,11 +268,7 @@ fn a_plan_answers_what_the_tables_do_not_yet(rt: HostRuntime) -> Result<(), Fail
     let tables = made(&rt, alloc)?;
     let (plan, added) = plan_fitting(alloc, &tables, thirty(alloc)?.list)?;
     assert_eq!(rt; added, 30);
-    assert!(rt; ids_then(&plan, &tables, &keys) == IDS_AFTER);
-    assert!(rt; asks_then(&plan, &tables) == ASKS_AFTER);
-    assert!(rt; truths_then(&plan, &tables, &keys) == TRUTHS_AFTER);
-    assert!(rt; texts_then(&plan, &tables) == TEXTS_AFTER);
-    assert!(rt; plan.next_source(&tables, Region::North, None) == Some(OWN));
+    are_planned(&rt, &plan, &tables, &keys);
     assert!(rt; tables.next_source(Region::North, None) == Some(Zid(9)));
     are_before(&rt, &tables, &keys);
     Ok(())

@@ -2,7 +2,7 @@ use Rattle.std.proofs.Common.{◌∙◌, sym}
 use Rattle.zt_model.specs.Acts.{acted_all, fits, is_drawn}
 use Rattle.zt_model.specs.Parts.{find_face}
 use Rattle.zt_model.specs.Visible.{keeps}
-use Rattle.zt_checked.proofs.WhatFits.{some-both, some-none}
+use Rattle.zt_checked.proofs.WhatFits.{some-none}
 use Rattle.zt_checked.proofs.draws.telling_fits.Goals as goal
 
 pub returns-else-is_told : goal.returns-else-is_told

@@ -1,6 +1,5 @@
-use Rattle.std.specs.Prelude.{List}
-use Rattle.std.proofs.Common.{◌∙◌, subst, sym}
-use Rattle.zt_model.specs.Acts.{Act, Fits, SetMoment, acted_all, fits}
+use Rattle.std.proofs.Common.{◌∙◌, sym}
+use Rattle.zt_model.specs.Acts.{acted_all, fits}
 use Rattle.zt_checked.proofs.WhatFits.{none-long}
 use Rattle.zt_checked.proofs.fitting.moment_fits.Goals as goal
 

@@ -1,4 +1,4 @@
-use Rattle.std.specs.Prelude.{◌+◌, ◌≡◌, false, is_some, length, nat_le, refl, true}
+use Rattle.std.specs.Prelude.{◌+◌, ◌≡◌, false, is_some, nat_le, refl, true}
 use Rattle.std.proofs.Common.{◌∙◌, ap, sym}
 use Rattle.zt_model.specs.Acts.{acted_all, fits}
 use Rattle.zt_model.specs.Lists.{is_among}

@@ -1,5 +1,5 @@
 use Rattle.std.specs.Prelude.{List}
-use Rattle.std.proofs.Common.{◌≡◌, ◌∙◌, ap, arith, sym}
+use Rattle.std.proofs.Common.{◌∙◌, ap, arith, sym}
 use Rattle.zt_region.specs.declared.region.Region.{Region}
 use Rattle.zt_ordered.specs.Test.{and_both}
 use Rattle.zt_model.specs.Acts.{acted_all, fits}

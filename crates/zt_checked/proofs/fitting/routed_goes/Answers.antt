@@ -1,4 +1,4 @@
-use Rattle.std.specs.Prelude.{List, not, refl, true, false}
+use Rattle.std.specs.Prelude.{List, refl, true, false}
 use Rattle.std.proofs.Common.{◌≡◌, ◌∙◌, ap, sym}
 use Rattle.zt_region.specs.declared.region.Region.{Region}
 use Rattle.zt_model.specs.Acts.{acted_all, fits}

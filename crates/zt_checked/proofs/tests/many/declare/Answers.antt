@@ -1,6 +1,5 @@
-use Rattle.std.specs.Prelude.{List, ◌+◌, [], ◌∷◌, ◌++◌}
-use Rattle.zt_model.specs.Acts.{Act, AddLive}
-use Rattle.zt_checked.specs.Checked.{IsChecked}
+use Rattle.std.specs.Prelude.{◌+◌, [], ◌∷◌, ◌++◌}
+use Rattle.zt_model.specs.Acts.{AddLive}
 use Rattle.zt_checked.proofs.Freed.{live-added, live-free, sent-added, sent-free}
 use Rattle.zt_checked.proofs.tests.many.declare.Goals as goal
 
