@@ -83,9 +83,8 @@ fn face_held<K: Key>(change: &Change<K>) -> Option<u32>
     ensures { result ≡ face_held (plain_change change.now) }
 {
     match change {
-        Change::CloseFace { face }
-        | Change::AddHeld { face, .. }
-        | Change::DropHeld { face, .. } => Some(*face),
+        Change::CloseFace { face } | Change::AddHeld { face, .. } | Change::DropHeld { face, .. } =>
+            Some(*face),
         _ => None,
     }
 }
@@ -110,11 +109,7 @@ fn rows_of_numbers(alloc: Global, numbers: &[u32]) -> Result<SortedRows<u32, ()>
 }
 
 // The face is found, or it isn't.
-fn set_face(
-    found: &mut SortedRows<u32, ()>,
-    f: u32,
-    is_holder: bool,
-) -> Result<(), AllocError>
+fn set_face(found: &mut SortedRows<u32, ()>, f: u32, is_holder: bool) -> Result<(), AllocError>
     ensures { OnOk result ((n : ℕ) → has_face n found.new.rows ≡ (if f == n then is_holder else has_face n found.old.rows)) }
 {
     if is_holder {
@@ -168,12 +163,7 @@ impl<K: Key> Plan<K> {
 
     /// The numbers of the faces that hold an interest in the expression's tokens, in order. The only error is want of
     /// memory. As many steps as `Tables::holders` makes; each face whose interests the plan changes is looked at anew.
-    pub fn holders(
-        &self,
-        alloc: Global,
-        tables: &Tables<K>,
-        expr: &K,
-    ) -> Result<Vec<u32>, Memory>
+    pub fn holders(&self, alloc: Global, tables: &Tables<K>, expr: &K) -> Result<Vec<u32>, Memory>
         ensures { Fit K.cmp K.matching self.now tables.now.store
             → IfOk result (λ v. v.items ≡ holders K.matching expr.now (acted_all K.cmp K.matching self.now tables.now.store).rows.faces) }
     {

@@ -138,11 +138,7 @@ fn hold_each(
 }
 
 // The sum of the numbers of the holders of each key.
-fn ask_holders(
-    alloc: Global,
-    tables: &Tables<KeyExpr>,
-    tokens: &[Token],
-) -> Result<u64, Memory> {
+fn ask_holders(alloc: Global, tables: &Tables<KeyExpr>, tokens: &[Token]) -> Result<u64, Memory> {
     let mut sum = 0u64;
     for token in tokens {
         let holders = tables.holders(alloc, &token.key)?;
