@@ -1,8 +1,9 @@
--- The tokens that changes add, of faces and of routers.
---     token_of act          the expression of the token that a change adds
+-- The expressions that changes bring a second time, for what the tables keep by expression: those of tokens, of faces and
+-- of routers, and those of interests that faces hold.
+--     token_of act          the expression that a change brings
 --     tokens_added acts     those of a list of changes, in order
 --     total_tokens acts     how many they are
---     NextToken act waiting token left     the token that an act adds is taken from those that wait
+--     NextToken act waiting token left     the expression that an act brings is taken from those that wait
 use Rattle.std.specs.Prelude.{◌≡◌, ℕ, ◌+◌, List, [], ◌∷◌, ◌++◌, length, Option, Some, None, refl}
 use Rattle.std.proofs.Common.{ap, arith, sym, ◌∙◌}
 use Rattle.zt_model.specs.Acts.{Act, AddHeld, AddLive, AddRouted}

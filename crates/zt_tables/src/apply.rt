@@ -26,7 +26,7 @@ fn initial_of(mode: WhatAmI, region: Region, bound: Bound) -> Option<bool>
     }
 }
 
-// The next token, where the change adds one.
+// The next expression, where the change brings one.
 fn next_token<K: Key>(change: &Change<K>, tokens: &mut IntoIter<K>) -> Option<K>
     ensures { NextToken (plain_change change.now) (into_iter_items tokens.old) result (into_iter_items tokens.new) }
 {
@@ -85,7 +85,7 @@ impl<K: Key> Tables<K> {
         }
     }
 
-    // One change is made. The token is the expression of the token that the change adds, a second time.
+    // One change is made. The token is the expression that the change brings, a second time.
     fn make(&mut self, change: Change<K>, token: Option<K>)
         requires fits { Fits K.cmp K.matching (plain_change change) self.old.store }
         requires room { HasRoom K.anchored (plain_change change ∷ []) self.old.store self.old.rooms }

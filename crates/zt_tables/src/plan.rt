@@ -16,7 +16,8 @@ use zt_rows::Change;
 #[derive(Drop)]
 pub struct Plan<K: Key> {
     changes: Vec<Change<K>>,
-    // The expressions of the tokens that are added, each a second time: the tables count live rows by their expressions.
+    // The expressions of the tokens and interests that are added, each a second time: the tables count live rows by
+    // their expressions, and keep an index of interests.
     tokens: Vec<K>,
 }
 
@@ -34,7 +35,7 @@ impl<K: Key> Model for Plan<K> {
     ghost invariant = { IsPlan };
 }
 
-// The expression of the row that the change adds and that an index keeps: a token of a face or of a router, or an interest.
+// The expression that the change brings a second time: that of a token, of a face or of a router, or of an interest.
 pub(crate) fn token_of<K: Key>(change: &Change<K>) -> Option<&K>
     ensures { option_copied result ≡ token_of (plain_change change.now) }
 {
@@ -63,7 +64,7 @@ fn add_token<K: Key>(
     Ok(())
 }
 
-// How many tokens the change adds.
+// How many expressions the change brings.
 fn tokens_in<K: Key>(change: &Change<K>) -> usize
     ensures tokens { result ≡ tokens_in (token_of (plain_change change.now)) }
     ensures most { result ≤ 1 }
@@ -74,7 +75,7 @@ fn tokens_in<K: Key>(change: &Change<K>) -> usize
     }
 }
 
-// How many tokens the changes add.
+// How many expressions the changes bring.
 fn count_tokens<K: Key>(changes: &[Change<K>]) -> usize
     ensures { result ≡ total_tokens (map plain_change changes.now) }
 {
@@ -102,7 +103,7 @@ impl<K: Key> Plan<K> {
         &self.changes
     }
 
-    // The changes, and the expressions of the tokens that they add.
+    // The changes, and the expressions that they bring.
     pub(crate) fn into_parts(self) -> (Vec<Change<K>>, Vec<K>)
         ensures changes { map plain_change result.0.items ≡ self }
         ensures tokens { result.1.items ≡ tokens_added self }
@@ -110,7 +111,7 @@ impl<K: Key> Plan<K> {
         (self.changes, self.tokens)
     }
 
-    // How many tokens the changes add.
+    // How many expressions the changes bring.
     pub(crate) fn tokens_added(&self) -> usize
         ensures { result ≡ total_tokens self.now }
     {
