@@ -3,6 +3,7 @@
 mod answers;
 mod dictionary;
 mod gateway;
+mod holders;
 mod ids;
 mod many;
 mod outboxes;
