@@ -3,7 +3,7 @@
 --     anchors_of anchored key         the numbers of a key that has one at each anchor
 --     IsLookedFor numbers bucket      a key with these numbers looks into the bucket
 --     looked-for                      an interest in such a key is kept in a bucket that the key looks into
-use Rattle.std.specs.Prelude.{◌≡◌, ℕ, Bool, true, false, ◌&&◌, ◌⊎◌, if◌then◌else◌, Option, Some, None, refl}
+use Rattle.std.specs.Prelude.{◌≡◌, ℕ, Bool, true, ◌⊎◌, if◌then◌else◌, Option, Some, None, refl}
 use Rattle.std.proofs.Common.{ap, inl, inr}
 use Rattle.std.proofs.lemmas.Option.{same_Some}
 use Rattle.zt_ordered.specs.Test.{by_option}

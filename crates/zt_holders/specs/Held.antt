@@ -6,7 +6,7 @@
 use Rattle.std.specs.Prelude.{◌≡◌, ℕ, ◌+◌, ◌≤◌, Bool, true, false, if◌then◌else◌, List, [], ◌∷◌, ◌++◌, length, Option, Some, None, unwrap_or, refl}
 use Rattle.std.specs.Cmp.{IsTotalOrder}
 use Rattle.std.specs.FinMap.Entries.{find-put, find_tied, put}
-use Rattle.std.proofs.Common.{ap, arith, get_or, map, sym, take, ◌<◌, ◌∙◌}
+use Rattle.std.proofs.Common.{ap, arith, get_or, map, take, ◌<◌, ◌∙◌}
 use Rattle.std.proofs.lemmas.List.{length-map, length-take, map-append, take_more}
 use Rattle.zt_keys.specs.declared.anchor.Anchor.{Anchor}
 use Rattle.zt_ordered.specs.Rows.{same}

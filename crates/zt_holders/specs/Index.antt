@@ -2,10 +2,10 @@
 --     rooms_in index                         the room of each bucket
 --     ChangesIn bucket change old new        the interests of the bucket change, if one is given, and no others
 --     KeepsHeldRooms bucket old new          the room of the bucket falls by no more than one, and no other room falls
-use Rattle.std.specs.Prelude.{◌≡◌, ℕ, Bool, true, false, ◌+◌, ◌≤◌, if◌then◌else◌, List, Option, Some, None, unwrap_or, refl}
+use Rattle.std.specs.Prelude.{◌≡◌, ℕ, Bool, true, false, ◌+◌, ◌≤◌, if◌then◌else◌, List, Option, unwrap_or, refl}
 use Rattle.std.specs.FinMap.Entries.{find}
-use Rattle.std.proofs.Common.{ap, arith, sym, ◌∙◌}
-use Rattle.zt_ordered.specs.Groups.{KeepsRoom, SameGroups, room_at, room_in, rows_at}
+use Rattle.std.proofs.Common.{ap, arith, ◌∙◌}
+use Rattle.zt_ordered.specs.Groups.{KeepsRoom, SameGroups, room_at, rows_at}
 use Rattle.zt_ordered.specs.Table.{Table}
 use Rattle.zt_ordered.specs.Test.{by_option}
 use Rattle.zt_ordered.specs.Rows.{same}

@@ -5,10 +5,10 @@
 --     indexed-still                       after a change that adds and takes no interest
 --     indexed-added, indexed-dropped      after an interest more, and one less
 --     indexed-closed                      after a face goes that holds none
-use Rattle.std.specs.Prelude.{◌≡◌, ℕ, Bool, true, false, ◌==◌, ◌&&◌, not, if◌then◌else◌, List, [], Option, Some, None, option_map, unwrap_or, refl}
+use Rattle.std.specs.Prelude.{◌≡◌, ℕ, Bool, true, false, ◌==◌, ◌&&◌, not, if◌then◌else◌, List, [], Option, Some, None, option_map, refl}
 use Rattle.std.specs.Cmp.{tied_itself}
 use Rattle.std.specs.FinMap.Entries.{find, find-put, is_sorted, is_sorted-put, is_sorted-where_key, put}
-use Rattle.std.specs.Ordering.{is_eq, nat_cmp, ordering_then}
+use Rattle.std.specs.Ordering.{is_eq, nat_cmp}
 use Rattle.std.specs.declared.cmp.Ordering.{Ordering}
 use Rattle.std.proofs.Common.{ap, subst, sym, ◌∙◌}
 use Rattle.std.proofs.lemmas.Bool.{eqb-true, eq-eqb}
@@ -19,7 +19,7 @@ use Rattle.zt_ordered.specs.Groups.{SameGroups, rows_at}
 use Rattle.zt_ordered.specs.Rows.{same, without}
 use Rattle.zt_ordered.specs.Sorting.{find-without}
 use Rattle.zt_ordered.specs.Table.{Table}
-use Rattle.zt_ordered.specs.Test.{T-from, T-to, by_option, by_test, is_eq-Equal}
+use Rattle.zt_ordered.specs.Test.{T-from, T-to, by_test, is_eq-Equal}
 use Rattle.zt_model.specs.Acts.{Act, AddHeld, AddPending, CloseFace, DropHeld, OpenFace, Store, acted}
 use Rattle.zt_model.specs.Lists.{at_id, is_some_and}
 use Rattle.zt_model.specs.Parts.{find_face}

@@ -1,7 +1,7 @@
 -- The faces that hold an interest in an expression's tokens, as an index finds them.
 --     holders matching e faces     their numbers, in order of the faces
 --     listed                       what an index finds is that list
-use Rattle.std.specs.Prelude.{◌≡◌, ℕ, Bool, true, false, ◌==◌, ◌&&◌, ◌⊎◌, if◌then◌else◌, List, [], ◌∷◌, Option, Some, None, is_some, option_map, filter, map, refl}
+use Rattle.std.specs.Prelude.{◌≡◌, ℕ, Bool, true, false, ◌==◌, if◌then◌else◌, List, [], ◌∷◌, Option, Some, None, filter, map, refl}
 use Rattle.std.specs.FinMap.Entries.{below_all, find, is_sorted}
 use Rattle.std.specs.List.{list_any}
 use Rattle.std.specs.Map.{keys_of}
@@ -14,7 +14,6 @@ use Rattle.std.proofs.lemmas.Cmp.{nat_cmp_total}
 use Rattle.std.proofs.lemmas.Option.{same_Some}
 use Rattle.zt_keys.specs.declared.anchor.Anchor.{Anchor}
 use Rattle.zt_ordered.specs.Found.{same_rows}
-use Rattle.zt_ordered.specs.Groups.{rows_at}
 use Rattle.zt_ordered.specs.Rows.{row_at, same}
 use Rattle.zt_ordered.specs.Table.{Table}
 use Rattle.zt_ordered.specs.Test.{and_both, and_first, and_second, by_option, by_test, is_eq-Equal}
@@ -28,12 +27,12 @@ use Rattle.zt_rows.specs.Passing.{one-number}
 use Rattle.zt_changes.specs.After.{face_in}
 use Rattle.zt_changes.specs.Opened.{is_below, is_rising, numbers_of}
 use Rattle.zt_changes.specs.Queries.{list_of_face}
-use Rattle.zt_holders.specs.Buckets.{IsLookedFor, anchors_of, bucket_of, bucket_of_expr, looked-for}
+use Rattle.zt_holders.specs.Buckets.{anchors_of, bucket_of, bucket_of_expr, looked-for}
 use Rattle.zt_holders.specs.Finding.{Finds, Found, IsHolder, any-found, found-any}
 use Rattle.zt_holders.specs.Gathering.{has_face}
 use Rattle.zt_holders.specs.Held.{is_bucket}
 use Rattle.zt_holders.specs.Indexed.{IsIndexed, held_under, kept_in}
-use Rattle.zt_holders.specs.Order.{bucket-total, bucket_cmp, place_cmp}
+use Rattle.zt_holders.specs.Order.{bucket-total}
 use Rattle.zt_holders.specs.declared.bucket.Anchors.{Anchors}
 use Rattle.zt_holders.specs.declared.bucket.Bucket.{Bucket}
 

@@ -1,15 +1,15 @@
 -- The changes of the trial's plans fit where the tables answer so.
-use Rattle.std.specs.Prelude.{◌≡◌, ℕ, Bool, true, false, ◌==◌, ◌-◌, ◌+◌, ◌&&◌, not, nat_le, nat_lt, if◌then◌else◌, List, [], ◌∷◌, Option, Some, None, is_some, option_map, refl}
+use Rattle.std.specs.Prelude.{◌≡◌, ℕ, Bool, true, false, ◌==◌, ◌-◌, ◌+◌, ◌&&◌, not, nat_le, nat_lt, if◌then◌else◌, [], ◌∷◌, Option, Some, None, is_some, option_map, refl}
 use Rattle.std.specs.List.{list_any}
 use Rattle.std.specs.declared.cmp.Ordering.{Ordering}
-use Rattle.std.proofs.Common.{arith, sym, subst}
+use Rattle.std.proofs.Common.{arith}
 use Rattle.std.proofs.lemmas.Bool.Decides.{nat_tests}
 use Rattle.zt_region.specs.declared.region.Bound.{Bound}
 use Rattle.zt_region.specs.declared.region.Region.TheVariants.{Local}
 use Rattle.zt_region.specs.declared.region.WhatAmI.{WhatAmI}
 use Rattle.zt_region.specs.declared.region.Zid.{Zid}
 use Rattle.zt_ordered.specs.Test.{and_both, by_test}
-use Rattle.zt_model.specs.Acts.{Act, AddLive, DropLive, Fit, Fits, OpenFace, Store, Tell, Untell, acted, fits, is_drawn, is_face_where}
+use Rattle.zt_model.specs.Acts.{Act, AddLive, DropLive, Fit, OpenFace, Store, Tell, Untell, acted, fits, is_drawn, is_face_where}
 use Rattle.zt_model.specs.Lists.{at_id, has_id, is_some_and, same}
 use Rattle.zt_model.specs.Parts.{find_face, told_id}
 use Rattle.zt_model.specs.Rows.{ById, Face}

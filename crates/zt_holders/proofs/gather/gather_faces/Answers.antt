@@ -1,4 +1,4 @@
-use Rattle.std.proofs.Common.{ap, if◌then◌else◌, sym, ◌∙◌}
+use Rattle.std.proofs.Common.{ap, if◌then◌else◌, ◌∙◌}
 use Rattle.std.specs.FinMap.Entries.{put}
 use Rattle.std.specs.Ordering.{nat_cmp}
 use Rattle.zt_model.specs.Wants.{is_about}

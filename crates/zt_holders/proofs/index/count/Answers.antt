@@ -1,5 +1,4 @@
-use Rattle.std.proofs.Common.{ap, arith, unwrap_or, ◌+◌, ◌∙◌, ◌≡◌, ℕ}
-use Rattle.std.specs.Cmp.{IsTotalOrder}
+use Rattle.std.proofs.Common.{ap, unwrap_or, ◌∙◌}
 use Rattle.zt_holders.specs.Held.{raises-put}
 use Rattle.zt_holders.specs.Order.{bucket-total}
 use Rattle.zt_holders.proofs.index.count.Goals as goal

@@ -1,7 +1,7 @@
 use Rattle.std.proofs.Common.{arith, subst, ◌<◌}
 use Rattle.std.specs.Option.{IfSome}
 use Rattle.zt_grouped.specs.GroupRoom.{room_of}
-use Rattle.zt_holders.specs.Index.{KeepsHeldRooms, room-read, rooms-kept, rooms_in}
+use Rattle.zt_holders.specs.Index.{room-read, rooms-kept, rooms_in}
 use Rattle.zt_holders.specs.Order.{bucket_cmp}
 use Rattle.zt_holders.proofs.index.keep_holder.Goals as goal
 

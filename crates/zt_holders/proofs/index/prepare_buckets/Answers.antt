@@ -1,4 +1,4 @@
-use Rattle.std.proofs.Common.{Bor, arith, ℕ, map, refl, subst, ◌∙◌, ◌≤◌}
+use Rattle.std.proofs.Common.{Bor, arith, ℕ, map}
 use Rattle.std.specs.Map.Iter.{deref_pair}
 use Rattle.zt_rows.specs.Passing.{passed-end, passed-next, passed-none}
 use Rattle.zt_grouped.specs.Prepared.{HasRoom, has-same, rooms-passed}
