@@ -23,13 +23,13 @@ use Rattle.std.proofs.lemmas.List.Folds.{list_any-append, list_any_more}
 use Rattle.zt_ordered.specs.Rows.{without}
 use Rattle.zt_ordered.specs.Sorting.{find-without}
 use Rattle.zt_ordered.specs.Test.{by_test}
-use Rattle.zt_model.specs.Acts.{Act, AddHeld, AddPending, CloseFace, DropHeld, OpenFace, Store, acted, acted_all, held_added}
+use Rattle.zt_model.specs.Acts.{Act, AddHeld, CloseFace, DropHeld, Store, acted, acted_all, held_added}
 use Rattle.zt_model.specs.Lists.{is_some_and}
 use Rattle.zt_model.specs.Parts.{find_face}
 use Rattle.zt_model.specs.Routing.{unheld}
 use Rattle.zt_model.specs.Rows.{Face}
 use Rattle.zt_model.specs.Wants.{asks_token, wants}
-use Rattle.zt_changes.specs.Touches.{Changes, face-acted, touch, touched}
+use Rattle.zt_changes.specs.Touches.{face-acted, touch, touched}
 use Rattle.zt_rows.specs.ById.{is_eq-nat}
 use Rattle.zt_rows.specs.Face.{FaceTable}
 use Rattle.zt_faces.specs.Numbered.{faces_in}

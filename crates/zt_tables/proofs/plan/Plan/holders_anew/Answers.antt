@@ -1,4 +1,4 @@
-use Rattle.std.proofs.Common.{◌≡◌, ap, if◌then◌else◌, map, subst, take, ◌∙◌, ℕ, Bool}
+use Rattle.std.proofs.Common.{◌≡◌, ap, if◌then◌else◌, map, subst, ◌∙◌, ℕ, Bool}
 use Rattle.std.specs.List.{list_any}
 use Rattle.std.specs.Map.{keys_of}
 use Rattle.std.proofs.lemmas.List.{take_all}

@@ -1,1 +1,0 @@
-use Rattle.zt_tables.proofs.tables.Tables.bucket_held.Goals as goal

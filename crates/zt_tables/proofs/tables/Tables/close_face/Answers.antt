@@ -1,5 +1,4 @@
 use Rattle.std.proofs.Common.{◌∙◌}
-use Rattle.zt_tables.proofs.LiveEdits.{both-kept, others-both}
 use Rattle.zt_tables.proofs.tables.Tables.close_face.Goals as goal
 
 pub returns-clause-store : goal.returns-clause-store
