@@ -19,8 +19,9 @@ pub fn new_plan<K: Key>(alloc: Global, tables: &Tables<K>) -> Plan<K>
     Plan::new(alloc)
 }
 
-/// Adds the change to the plan, if it fits what the changes before it leave; answers whether it did. The only error is
-/// want of memory, and then the plan stays.
+/// Adds the change to the plan, if the queries tell that it fits what the changes before it leave; answers whether it
+/// did. A change that doesn't fit is never added; `OpenFace`, `Tell`, `AddLocal`, `AddPending` and `SetMoment` are also
+/// left out where no query tells enough. The only error is want of memory, and then the plan stays.
 pub fn add_fitting<K: Key>(
     tables: &Tables<K>,
     plan: &mut Plan<K>,
@@ -39,7 +40,7 @@ pub fn add_fitting<K: Key>(
     Ok(true)
 }
 
-/// The plan of those of the changes that fit what the ones before them leave, and how many these are. The only error is
+/// The plan of those of the changes that `add_fitting` adds, in their order, and how many these are. The only error is
 /// want of memory.
 pub fn plan_fitting<K: Key>(
     alloc: Global,

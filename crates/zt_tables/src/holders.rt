@@ -161,8 +161,9 @@ impl<K: Key> Plan<K> {
         found.ids(alloc)
     }
 
-    /// The numbers of the faces that hold an interest in the expression's tokens, in order. The only error is want of
-    /// memory. As many steps as `Tables::holders` makes; each face whose interests the plan changes is looked at anew.
+    /// The numbers of the faces that hold an interest in the expression's tokens, in order, where the plan's changes
+    /// fit. The only error is want of memory. As many steps as `Tables::holders` makes; then, for each change of an
+    /// interest, a walk over the plan and over what its face holds.
     pub fn holders(&self, alloc: Global, tables: &Tables<K>, expr: &K) -> Result<Vec<u32>, Memory>
         ensures { Fit K.cmp K.matching self.now tables.now.store
             → IfOk result (λ v. v.items ≡ holders K.matching expr.now (acted_all K.cmp K.matching self.now tables.now.store).rows.faces) }

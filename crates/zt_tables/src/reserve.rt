@@ -181,7 +181,7 @@ impl<K: Key> Tables<K> {
     }
 
     /// Makes room for all that the plan's changes add, so that `apply` takes no memory. The only error is want of
-    /// memory; whatever the result no row changes, and the plan stays.
+    /// memory, or of numbers for new faces and asks; whatever the result no row changes, and the plan stays.
     pub fn reserve(&mut self, plan: &mut Plan<K>) -> Result<(), Memory>
         ensures store { self.new.store ≡ self.old.store }
         ensures plan { plan.new ≡ plan.old }
