@@ -3,7 +3,6 @@
 mod answers;
 mod dictionary;
 mod gateway;
-mod holders;
 mod ids;
 mod many;
 mod outboxes;
