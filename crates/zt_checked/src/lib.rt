@@ -9,7 +9,5 @@ mod checked;
 mod draws;
 mod fitting;
 mod found;
-#[cfg(test)]
-mod tests;
 
 pub use checked::{add_fitting, apply_fitting, new_plan, plan_fitting};
