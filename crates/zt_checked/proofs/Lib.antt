@@ -1,3 +1,2 @@
-mod Freed
 mod Next
 mod WhatFits

@@ -1,5 +1,5 @@
 // Plans whose changes are looked at before they are added.
-ghost use Rattle.std.specs.Prelude.{◌≡◌, ◌∷◌, ◌++◌, [], false, if◌then◌else◌, true, IfOk, OnErr, OnOk};
+ghost use Rattle.std.specs.Prelude.{◌≡◌, ◌∷◌, ◌++◌, [], false, if◌then◌else◌, true, length, IfOk, OnErr, OnOk};
 ghost use Rattle.zt_model.specs.Acts.{Fit, acted_all, fits};
 ghost use Rattle.zt_rows.specs.Change.{plain_change};
 ghost use Rattle.zt_checked.specs.Checked.{IsChecked, is_told_exactly};
@@ -47,7 +47,8 @@ pub fn plan_fitting<K: Key>(
     tables: &Tables<K>,
     changes: Vec<Change<K>>,
 ) -> Result<(Plan<K>, usize), Memory>
-    ensures { IfOk result (λ made. IsChecked K.cmp K.matching made.0 tables.now.store) }
+    ensures checked { IfOk result (λ made. IsChecked K.cmp K.matching made.0 tables.now.store) }
+    ensures added { IfOk result (λ made. made.1 ≡ length made.0) }
 {
     let mut plan = new_plan(alloc, tables);
     for change in changes {

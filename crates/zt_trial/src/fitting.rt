@@ -1,7 +1,6 @@
 // Plans whose changes fit, found out by what the tables answer.
-ghost use Rattle.std.specs.Prelude.{◌≡◌, OnErr, OnOk, is_some};
+ghost use Rattle.std.specs.Prelude.{◌≡◌, is_some};
 ghost use Rattle.zt_changes.specs.Queries.{from_face, next_number_after};
-ghost use Rattle.zt_model.specs.Acts.{Fit, acted_all};
 ghost use Rattle.zt_model.specs.Lists.{at_id};
 ghost use Rattle.zt_model.specs.Parts.{find_face, told_id};
 
@@ -12,18 +11,6 @@ use zt_protocol::{InterestMode, InterestOptions};
 use zt_region::{Bound, Region, WhatAmI};
 use zt_rows::{Change, FaceRow, HeldRow, RemoteInterest};
 use zt_tables::{Plan, Tables};
-
-// Makes room for the plan and makes its changes. The only error is want of memory, and then no row changes.
-pub(crate) fn carry_out<K: Key>(tables: &mut Tables<K>, plan: Plan<K>) -> Result<(), Memory>
-    requires { Fit K.cmp K.matching plan tables.old.store }
-    ensures ok { OnOk result (tables.new.store ≡ acted_all K.cmp K.matching plan tables.old.store) }
-    ensures err { OnErr result (tables.new.store ≡ tables.old.store) }
-{
-    let mut plan = plan;
-    tables.reserve(&mut plan)?;
-    tables.apply(plan);
-    Ok(())
-}
 
 // Whether a face declared a token under the id.
 fn is_live<K: Key>(tables: &Tables<K>, f: u32, id: u32) -> bool
@@ -64,7 +51,7 @@ pub(crate) fn open<K: Key>(
     };
     let mut plan = Plan::new(alloc);
     plan.add(Change::OpenFace { row })?;
-    carry_out(tables, plan)?;
+    apply_fitting(tables, plan)?;
     Ok(true)
 }
 
@@ -91,7 +78,7 @@ pub(crate) fn declare<K: Key>(
         id: u32::MAX - left,
         expr: expr.copy(alloc)?,
     })?;
-    carry_out(tables, plan)?;
+    apply_fitting(tables, plan)?;
     Ok(true)
 }
 
@@ -112,7 +99,7 @@ pub(crate) fn withdraw<K: Key>(
         face: f,
         expr: expr.copy(alloc)?,
     })?;
-    carry_out(tables, plan)?;
+    apply_fitting(tables, plan)?;
     Ok(true)
 }
 

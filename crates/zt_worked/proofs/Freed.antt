@@ -6,7 +6,8 @@ use Rattle.std.specs.declared.cmp.Ordering.{Ordering}
 use Rattle.std.proofs.Common.{ap, arith, subst, sym, ◌∙◌}
 use Rattle.std.proofs.lemmas.Bool.Decides.{nat_tests}
 use Rattle.zt_protocol.specs.declared.messages.Message.{Message}
-use Rattle.zt_model.specs.Acts.{Act, AddLive, Send, Fits, Store, acted, acted_all, fits, is_open}
+use Rattle.zt_ordered.specs.Test.{by_test}
+use Rattle.zt_model.specs.Acts.{Act, AddLive, Send, Fit, Fits, Store, acted, acted_all, fits, is_open}
 use Rattle.zt_model.specs.Lists.{at_id, has_id, is_some_and}
 use Rattle.zt_model.specs.Parts.{find_face}
 use Rattle.zt_model.specs.Rows.{ById, Face}
@@ -15,10 +16,8 @@ use Rattle.zt_rows.specs.ById.{next_id}
 use Rattle.zt_changes.specs.After.{at_id-put}
 use Rattle.zt_changes.specs.Queries.{from_face}
 use Rattle.zt_changes.specs.Touches.{face-acted}
-use Rattle.zt_checked.specs.Checked.{IsChecked}
-use Rattle.zt_checked.specs.Free.{IsFreeFrom}
-use Rattle.zt_checked.proofs.Next.{acted-last, checked-added}
-use Rattle.zt_checked.proofs.WhatFits.{has-at}
+use Rattle.zt_tables.specs.HatPlans.{acted_all-append, fit-append}
+use Rattle.zt_worked.specs.Free.{IsFreeFrom}
 
 no-row : {A : Type 0} (rows : ById A) → None ≡ next_id None rows → rows ≡ []
 no-row [] h = refl
@@ -35,6 +34,10 @@ same-number f = grind (arith, nat_tests)
 not-same : (id j : ℕ) → id + 1 ≤ j → (j == id) ≡ false
 not-same id j above = grind (arith, nat_tests)
 
+has-at : {A : Type 0} (id : ℕ) (rows : ById A) → is_some (at_id id rows) ≡ has_id id rows
+has-at id [] = refl
+has-at id (row ∷ rows) = by_test (id == row.0) (λ t. rw t refl) (λ t. rw t (has-at id rows))
+
 module _ {K : Type 0} where
   lacks : (id : ℕ) (face : Option (Face K)) → IsFreeFrom id face → is_some_and face (λ x. not (has_id id x.live)) ≡ true
   lacks id None free = let never = free.there in cc
@@ -48,21 +51,34 @@ module _ {K : Type 0} where
   }
 
 module _ {K : Type 0} (cmp : K → K → Ordering) (matching : K → K → Bool) where
+  acted-last : (acts : List (Act K)) (act : Act K) (s : Store K) → acted_all cmp matching (acts ++ act ∷ []) s ≡ acted cmp matching act (acted_all cmp matching acts s)
+  unfolding acted_all
+  acted-last acts act s = acted_all-append cmp matching acts (act ∷ []) s
+
+  -- an empty plan
+  pub fit-none : (s : Store K) → Fit cmp matching [] s
+  unfolding Fit
+  fit-none s = tt
+
+  fit-last : (acts : List (Act K)) (act : Act K) (s : Store K) → Fit cmp matching acts s → Fits cmp matching act (acted_all cmp matching acts s) → Fit cmp matching (acts ++ act ∷ []) s
+  unfolding Fit
+  fit-last acts act s fit last = fit-append cmp matching acts (act ∷ []) s fit (last, tt)
+
   live-frees : (f id : ℕ) (e : K) (s : Store K) → IsFreeFrom id (find_face f s.rows) → IsFreeFrom (id + 1) (find_face f (acted cmp matching (AddLive f id e) s).rows)
   live-frees f id e s free = rw (face-acted cmp matching f (AddLive f id e) s, same-number f) (registered-free id e (find_face f s.rows) free)
 
-  module _ (acts : List (Act K)) (s : Store K) (checked : IsChecked cmp matching acts s) (f id : ℕ) (free : IsFreeFrom id (find_face f (acted_all cmp matching acts s).rows)) where
-    pub live-added : (e : K) → IsChecked cmp matching (acts ++ AddLive f id e ∷ []) s
+  module _ (acts : List (Act K)) (s : Store K) (fit : Fit cmp matching acts s) (f id : ℕ) (free : IsFreeFrom id (find_face f (acted_all cmp matching acts s).rows)) where
+    pub live-added : (e : K) → Fit cmp matching (acts ++ AddLive f id e ∷ []) s
     unfolding fits
-    live-added e = checked-added cmp matching acts (AddLive f id e) s checked (lacks id (find_face f (acted_all cmp matching acts s).rows) free) refl
+    live-added e = fit-last acts (AddLive f id e) s fit (lacks id (find_face f (acted_all cmp matching acts s).rows) free)
 
     pub live-free : (e : K) → IsFreeFrom (id + 1) (find_face f (acted_all cmp matching (acts ++ AddLive f id e ∷ []) s).rows)
-    live-free e = rw (acted-last cmp matching acts (AddLive f id e) s) (live-frees f id e (acted_all cmp matching acts s) free)
+    live-free e = rw (acted-last acts (AddLive f id e) s) (live-frees f id e (acted_all cmp matching acts s) free)
 
-    pub sent-added : (m : Message K) → IsChecked cmp matching (acts ++ Send f m ∷ []) s
+    pub sent-added : (m : Message K) → Fit cmp matching (acts ++ Send f m ∷ []) s
     unfolding fits
-    sent-added m = checked-added cmp matching acts (Send f m) s checked free.there refl
+    sent-added m = fit-last acts (Send f m) s fit free.there
 
     pub sent-free : (m : Message K) → IsFreeFrom id (find_face f (acted_all cmp matching (acts ++ Send f m ∷ []) s).rows)
     unfolding acted
-    sent-free m = rw (acted-last cmp matching acts (Send f m) s) free
+    sent-free m = rw (acted-last acts (Send f m) s) free
