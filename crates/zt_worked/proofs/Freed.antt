@@ -1,13 +1,11 @@
 -- A face that declares tokens under ids that rise, with a message for each.
 use Rattle.std.specs.Prelude.{◌≡◌, ℕ, Bool, true, false, ◌+◌, ◌≤◌, ◌==◌, not, List, [], ◌∷◌, ◌++◌, Option, Some, None, is_some, option_map, refl}
-use Rattle.std.specs.FinMap.Entries.{put}
-use Rattle.std.specs.Ordering.{nat_cmp}
 use Rattle.std.specs.declared.cmp.Ordering.{Ordering}
-use Rattle.std.proofs.Common.{ap, arith, subst, sym, ◌∙◌}
+use Rattle.std.proofs.Common.{arith, sym, ◌∙◌}
 use Rattle.std.proofs.lemmas.Bool.Decides.{nat_tests}
 use Rattle.zt_protocol.specs.declared.messages.Message.{Message}
 use Rattle.zt_ordered.specs.Test.{by_test}
-use Rattle.zt_model.specs.Acts.{Act, AddLive, Send, Fit, Fits, Store, acted, acted_all, fits, is_open}
+use Rattle.zt_model.specs.Acts.{Act, AddLive, Send, Fit, Fits, Store, acted, acted_all, fits}
 use Rattle.zt_model.specs.Lists.{at_id, has_id, is_some_and}
 use Rattle.zt_model.specs.Parts.{find_face}
 use Rattle.zt_model.specs.Rows.{ById, Face}

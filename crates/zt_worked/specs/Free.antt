@@ -1,6 +1,6 @@
 -- A face that declares no token from some id on.
 use Rattle.std.specs.Prelude.{◌≡◌, ℕ, ◌≤◌, true, false, Option, is_some}
-use Rattle.zt_model.specs.Lists.{at_id, is_some_and}
+use Rattle.zt_model.specs.Lists.{at_id}
 use Rattle.zt_model.specs.Rows.{Face}
 use Rattle.zt_changes.specs.Queries.{from_face}
 
