@@ -8,6 +8,7 @@ pub mod RoomAfter
 mod PlanTokens
 mod TokenRooms
 pub mod Reserving
+pub mod FewRoom
 pub mod KeptActs
 pub mod LiveEdits
 mod HeldEdits

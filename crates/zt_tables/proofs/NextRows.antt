@@ -24,7 +24,7 @@ use Rattle.zt_needs.specs.Need.{group_order}
 region-tie : (a b : Region) → is_eq (ghosts.cmp a b) ≡ region_eq a b
 region-tie a b = ap is_eq (region_cmp-order a b) ∙ region_order-eq a b
 
-group-tie : (a b : Region × Zid) → is_eq (group_order a b) ≡ (region_eq a.0 b.0 && zid_eq a.1 b.1)
+pub group-tie : (a b : Region × Zid) → is_eq (group_order a b) ≡ (region_eq a.0 b.0 && zid_eq a.1 b.1)
 group-tie a b = is_eq-then (ghosts.cmp a.0 b.0) (nat_cmp a.1.0 b.1.0) ∙ (λ i. region-tie a.0 b.0 i && is_eq-nat a.1.0 b.1.0 i)
 
 first-mapped : {A B C : Type 0} (turned : A → B) (p : B → Bool) (gives : B → C) (xs : List A)

@@ -14,6 +14,7 @@ pub mod PlannedNexts
 pub mod Room
 pub mod HasRoom
 pub mod Reserved
+pub mod Few
 pub mod Fitting
 pub mod Gathered
 pub mod HatAnswers

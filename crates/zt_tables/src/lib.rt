@@ -32,6 +32,7 @@ mod planned_rows;
 mod planned_tokens;
 mod queries;
 mod reserve;
+mod reserve_few;
 mod tables;
 mod tokens;
 mod tokens_of;

@@ -135,7 +135,7 @@ impl<K: Key> Tables<K> {
     }
 
     // Room for counts of so many more tokens in each region of the gateway.
-    fn reserve_tokens(&mut self, more: usize) -> Result<(), AllocError>
+    pub(crate) fn reserve_tokens(&mut self, more: usize) -> Result<(), AllocError>
         ensures store { self.new.store ≡ self.old.store }
         ensures rooms { KeepsTables (of_faces nothing) self.old.rooms self.new.rooms }
         ensures ok { OnOk result ((region : Region) → is_region_of self.old.store.rows.regions region ≡ true → more ≤ room_of region_cmp region self.new.rooms.tokens) }
@@ -187,6 +187,9 @@ impl<K: Key> Tables<K> {
         ensures plan { plan.new ≡ plan.old }
         ensures ok { OnOk result (HasRoom K.anchored plan.old self.old.store self.new.rooms) }
     {
+        if self.reserve_few(plan.changes())? {
+            return Ok(());
+        }
         let needs = PlanNeeds::of(self.alloc, plan.changes())?;
         let held = count_held(self.alloc, plan.changes())?;
         self.reserve_needs(&needs, plan.tokens_added(), &held)?;
