@@ -31,8 +31,8 @@ pub(crate) fn has_region<K: Key>(tables: &Tables<K>, region: Region) -> bool
     }
 }
 
-// Whether the face is open.
-pub(crate) fn has_face<K: Key>(tables: &Tables<K>, plan: &Plan<K>, f: u32) -> bool
+/// Whether the face is open after a plan, whose changes fit.
+pub fn has_face<K: Key>(tables: &Tables<K>, plan: &Plan<K>, f: u32) -> bool
     requires { Fit K.cmp K.matching plan.now tables.now.store }
     ensures { result ≡ is_open f (acted_all K.cmp K.matching plan.now tables.now.store) }
 {

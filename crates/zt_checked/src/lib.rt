@@ -1,4 +1,4 @@
-//! Plans that are checked as they are made, and what the tables answer to them.
+//! Plans that are checked as they are made.
 //!
 //! `add_fitting` adds a change to a plan if it fits what the changes before it leave, as the plan's own queries answer;
 //! `apply_fitting` makes room and makes the changes. What is kept of a plan between the two is `IsChecked`: the changes
@@ -11,3 +11,4 @@ mod fitting;
 mod found;
 
 pub use checked::{add_fitting, apply_fitting, new_plan, plan_fitting};
+pub use found::has_face;

@@ -180,7 +180,8 @@ impl<K: Key> Tables<K> {
         }
     }
 
-    /// The ids of the tokens that the face declared, in order: for a call that goes through them all. The only error is want of memory.
+    /// The ids of the tokens that the face declared, in order: for a call that goes through them all. The only error is
+    /// want of memory.
     pub fn live_ids(&self, alloc: Global, f: u32) -> Result<Vec<u32>, Memory>
         ensures { IfOk result (λ v. v.items ≡ list_of_face (λ face. keys_of face.live) (find_face f self.now.store.rows)) }
     {
@@ -190,7 +191,8 @@ impl<K: Key> Tables<K> {
         }
     }
 
-    /// The ids of the interests that the face holds, in order: for a call that goes through them all. The only error is want of memory.
+    /// The ids of the interests that the face holds, in order: for a call that goes through them all. The only error is
+    /// want of memory.
     pub fn held_ids(&self, alloc: Global, f: u32) -> Result<Vec<u32>, Memory>
         ensures { IfOk result (λ v. v.items ≡ list_of_face (λ face. keys_of face.held) (find_face f self.now.store.rows)) }
     {
@@ -200,7 +202,8 @@ impl<K: Key> Tables<K> {
         }
     }
 
-    /// The ids of the pendings of the face, in order: for a call that goes through them all. The only error is want of memory.
+    /// The ids of the pendings of the face, in order: for a call that goes through them all. The only error is
+    /// want of memory.
     pub fn pending_ids(&self, alloc: Global, f: u32) -> Result<Vec<u32>, Memory>
         ensures { IfOk result (λ v. v.items ≡ list_of_face (λ face. keys_of face.pendings) (find_face f self.now.store.rows)) }
     {

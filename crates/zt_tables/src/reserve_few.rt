@@ -1,11 +1,14 @@
 // Room for a plan of few changes, which aren't counted: where one takes room, room for as many is made.
 ghost use Rattle.std.specs.Prelude.{◌≡◌, ◌∷◌, true, false, IfOk, OnOk, map};
 ghost use Rattle.std.specs.List.{AllByRecursion};
-ghost use Rattle.zt_faces.specs.Rooms.{LiveRows, LocalRows, ToldRows, nothing, one_row};
+ghost use Rattle.zt_faces.specs.Rooms.{HeldRows, LiveRows, LocalRows, ToldRows, nothing, one_row};
 ghost use Rattle.zt_faces.specs.Sent.{HasRowRoom};
+ghost use Rattle.zt_holders.specs.Buckets.{bucket_of};
+ghost use Rattle.zt_holders.specs.Held.{bucket_added};
 ghost use Rattle.zt_model.specs.Acts.{is_open};
 ghost use Rattle.zt_needs.specs.Need.{need_of, of_faces, one_message, one_number, one_routed, one_tree};
 ghost use Rattle.zt_rows.specs.Change.{plain_change};
+ghost use Rattle.zt_rows.specs.Plain.{plain_interest};
 ghost use Rattle.zt_rows.specs.Rooms.{room_needed};
 ghost use Rattle.zt_tables.specs.Few.{FindsEach, FindsRoom, is_light};
 ghost use Rattle.zt_tables.specs.HasRoom.{HasRoom};
@@ -15,9 +18,10 @@ ghost use Rattle.std.specs.Prelude.{[]};
 
 use crate::tables::Tables;
 use std::alloc::AllocError;
+use zt_holders::{Bucket, bucket_of};
 use zt_keys::Key;
 use zt_region::{Region, Zid};
-use zt_rows::{Change, FaceNeeds};
+use zt_rows::{Change, FaceNeeds, RemoteInterest};
 
 // How many changes are few. Each may have room for all of them.
 const FEW: usize = 16;
@@ -32,13 +36,12 @@ const NOTHING: FaceNeeds = FaceNeeds {
     asks: 0,
 };
 
-// Whether the change takes no other room than that of tokens, of what is told or sent, of trees and of the dictionary.
+// Whether the change opens no face and has nothing to do with asks.
 fn is_light<K: Key>(change: &Change<K>) -> bool
     ensures { result ≡ is_light (plain_change change.now) }
 {
     match change {
         Change::OpenFace { .. }
-        | Change::AddHeld { .. }
         | Change::AddPending { .. }
         | Change::AddAsk { .. }
         | Change::Answered { .. } => false,
@@ -68,7 +71,7 @@ impl<K: Key> Tables<K> {
     fn reserve_live(&mut self, f: u32, room: usize) -> Result<(), AllocError>
         ensures store { self.new.store ≡ self.old.store }
         ensures rooms { KeepsTables (of_faces nothing) self.old.rooms self.new.rooms }
-        ensures ok { OnOk result (FindsRoom room (of_faces (one_row f LiveRows)) 1 self.old.store self.new.rooms) }
+        ensures ok { OnOk result (FindsRoom room (of_faces (one_row f LiveRows)) 1 None self.old.store self.new.rooms) }
     {
         let needs = FaceNeeds {
             live: room,
@@ -82,7 +85,7 @@ impl<K: Key> Tables<K> {
     fn reserve_told(&mut self, f: u32, room: usize) -> Result<(), AllocError>
         ensures store { self.new.store ≡ self.old.store }
         ensures rooms { KeepsTables (of_faces nothing) self.old.rooms self.new.rooms }
-        ensures ok { OnOk result (FindsRoom room (of_faces (one_row f ToldRows)) 0 self.old.store self.new.rooms) }
+        ensures ok { OnOk result (FindsRoom room (of_faces (one_row f ToldRows)) 0 None self.old.store self.new.rooms) }
     {
         let needs = FaceNeeds {
             told: room,
@@ -91,11 +94,51 @@ impl<K: Key> Tables<K> {
         self.reserve_at(f, &needs)
     }
 
+    // Room for so many more interests in the bucket, if one is given.
+    fn reserve_bucket(&mut self, bucket: Option<Bucket>, room: usize) -> Result<(), AllocError>
+        ensures store { self.new.store ≡ self.old.store }
+        ensures rooms { KeepsTables (of_faces nothing) self.old.rooms self.new.rooms }
+        ensures ok { OnOk result (FindsRoom room (of_faces nothing) 0 bucket self.old.store self.new.rooms) }
+    {
+        match bucket {
+            Some(bucket) => self.prepare_bucket(bucket, room),
+            None => Ok(()),
+        }
+    }
+
+    fn prepare_bucket(&mut self, bucket: Bucket, room: usize) -> Result<(), AllocError>
+        ensures store { self.new.store ≡ self.old.store }
+        ensures rooms { KeepsTables (of_faces nothing) self.old.rooms self.new.rooms }
+        ensures ok { OnOk result (FindsRoom room (of_faces nothing) 0 (Some bucket) self.old.store self.new.rooms) }
+    {
+        self.holders.prepare(self.alloc, bucket, room)
+    }
+
+    // Room for so many more interests of the face, in the bucket of this one.
+    fn reserve_held(
+        &mut self,
+        f: u32,
+        interest: &RemoteInterest<K>,
+        room: usize,
+    ) -> Result<(), AllocError>
+        ensures store { self.new.store ≡ self.old.store }
+        ensures rooms { KeepsTables (of_faces nothing) self.old.rooms self.new.rooms }
+        ensures ok { OnOk result (FindsRoom room (of_faces (one_row f HeldRows)) 1 (bucket_of K.anchored (plain_interest interest.now)) self.old.store self.new.rooms) }
+    {
+        let needs = FaceNeeds {
+            held: room,
+            ..NOTHING
+        };
+        self.reserve_at(f, &needs)?;
+        self.reserve_bucket(bucket_of(interest), room)?;
+        self.reserve_tokens(room)
+    }
+
     // Room for so many more interests that are sent to the face.
     fn reserve_locals(&mut self, f: u32, room: usize) -> Result<(), AllocError>
         ensures store { self.new.store ≡ self.old.store }
         ensures rooms { KeepsTables (of_faces nothing) self.old.rooms self.new.rooms }
-        ensures ok { OnOk result (FindsRoom room (of_faces (one_row f LocalRows)) 0 self.old.store self.new.rooms) }
+        ensures ok { OnOk result (FindsRoom room (of_faces (one_row f LocalRows)) 0 None self.old.store self.new.rooms) }
     {
         let needs = FaceNeeds {
             locals: room,
@@ -113,7 +156,7 @@ impl<K: Key> Tables<K> {
     ) -> Result<(), AllocError>
         ensures store { self.new.store ≡ self.old.store }
         ensures rooms { KeepsTables (of_faces nothing) self.old.rooms self.new.rooms }
-        ensures ok { OnOk result (FindsRoom room (one_routed (region, source)) 1 self.old.store self.new.rooms) }
+        ensures ok { OnOk result (FindsRoom room (one_routed (region, source)) 1 None self.old.store self.new.rooms) }
     {
         self.prepare_routed(region, source, room)?;
         self.reserve_tokens(room)
@@ -127,7 +170,7 @@ impl<K: Key> Tables<K> {
     ) -> Result<(), AllocError>
         ensures store { self.new.store ≡ self.old.store }
         ensures rooms { KeepsTables (of_faces nothing) self.old.rooms self.new.rooms }
-        ensures ok { OnOk result (FindsRoom room (one_routed (region, source)) 0 self.old.store self.new.rooms) }
+        ensures ok { OnOk result (FindsRoom room (one_routed (region, source)) 0 None self.old.store self.new.rooms) }
     {
         self.routed.prepare(self.alloc, (region, source), room)
     }
@@ -136,7 +179,7 @@ impl<K: Key> Tables<K> {
     fn reserve_messages(&mut self, f: u32, room: usize) -> Result<(), AllocError>
         ensures store { self.new.store ≡ self.old.store }
         ensures rooms { KeepsTables (of_faces nothing) self.old.rooms self.new.rooms }
-        ensures ok { OnOk result (FindsRoom room (one_message f) 0 self.old.store self.new.rooms) }
+        ensures ok { OnOk result (FindsRoom room (one_message f) 0 None self.old.store self.new.rooms) }
     {
         self.outboxes.prepare(self.alloc, f, room)
     }
@@ -145,7 +188,7 @@ impl<K: Key> Tables<K> {
     fn reserve_trees(&mut self, room: usize) -> Result<(), AllocError>
         ensures store { self.new.store ≡ self.old.store }
         ensures rooms { KeepsTables (of_faces nothing) self.old.rooms self.new.rooms }
-        ensures ok { OnOk result (FindsRoom room one_tree 0 self.old.store self.new.rooms) }
+        ensures ok { OnOk result (FindsRoom room one_tree 0 None self.old.store self.new.rooms) }
     {
         self.trees.reserve(self.alloc, room)
     }
@@ -154,7 +197,7 @@ impl<K: Key> Tables<K> {
     fn reserve_numbers(&mut self, room: usize) -> Result<(), AllocError>
         ensures store { self.new.store ≡ self.old.store }
         ensures rooms { KeepsTables (of_faces nothing) self.old.rooms self.new.rooms }
-        ensures ok { OnOk result (FindsRoom room one_number 0 self.old.store self.new.rooms) }
+        ensures ok { OnOk result (FindsRoom room one_number 0 None self.old.store self.new.rooms) }
     {
         self.dictionary.reserve(self.alloc, room)
     }
@@ -164,12 +207,13 @@ impl<K: Key> Tables<K> {
         requires { is_light (plain_change change.now) ≡ true }
         ensures store { self.new.store ≡ self.old.store }
         ensures rooms { KeepsTables (of_faces nothing) self.old.rooms self.new.rooms }
-        ensures ok { OnOk result (FindsRoom room (need_of (plain_change change.now)) (tokens_in (token_of (plain_change change.now))) self.old.store self.new.rooms) }
+        ensures ok { OnOk result (FindsRoom room (need_of (plain_change change.now)) (tokens_in (token_of (plain_change change.now))) (bucket_added K.anchored (plain_change change.now)) self.old.store self.new.rooms) }
     {
         match change {
             Change::AddLive { face, .. } => self.reserve_live(*face, room),
             Change::AddRouted { region, source, .. } => self.reserve_routed(*region, *source, room),
             Change::Tell { face, .. } => self.reserve_told(*face, room),
+            Change::AddHeld { face, row } => self.reserve_held(*face, &row.interest, room),
             Change::AddLocal { face, .. } => self.reserve_locals(*face, room),
             Change::Send { face, .. } => self.reserve_messages(*face, room),
             Change::SetTree { .. } => self.reserve_trees(room),
@@ -186,7 +230,7 @@ impl<K: Key> Tables<K> {
     ) -> Result<bool, AllocError>
         ensures store { self.new.store ≡ self.old.store }
         ensures rooms { KeepsTables (of_faces nothing) self.old.rooms self.new.rooms }
-        ensures ok { IfOk result (λ all. all ≡ true → FindsEach room (map plain_change changes.now) self.old.store self.new.rooms) }
+        ensures ok { IfOk result (λ all. all ≡ true → FindsEach K.anchored room (map plain_change changes.now) self.old.store self.new.rooms) }
     {
         for change in changes {
             if !is_light(change) {

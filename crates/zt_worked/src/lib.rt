@@ -1,6 +1,6 @@
-//! Worked examples of the tables, which are tests alone: what no clause says. Changes are made where there is memory,
-//! what is asked is what the rules give for rows worked out by hand, and so it goes with many changes and with the last
-//! numbers too.
+//! Worked examples of the tables, which are tests alone: that changes are made where there is memory, which no clause can
+//! say; that what is asked is what the clauses' authors meant, for rows worked out by hand; and how it goes with many
+//! changes and with the last numbers.
 #![tactic(auto)]
 
 #[cfg(test)]

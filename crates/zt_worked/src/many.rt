@@ -1,14 +1,14 @@
 // A plan of 100,000 changes. Its queries go over them, so what fits is seen by what holds as they are added, and each
 // face is looked at once.
 ghost use Rattle.std.specs.Prelude.{◌≡◌, ◌+◌, ◌<◌, OnOk, true};
-ghost use Rattle.zt_model.specs.Acts.{Fit, acted_all, is_open};
+ghost use Rattle.zt_model.specs.Acts.{Fit, acted_all};
 ghost use Rattle.zt_model.specs.Parts.{find_face};
 ghost use Rattle.zt_worked.specs.Free.{IsFreeFrom};
 
 use crate::gateway::{Changes, change, gateway, key};
 use std::alloc::Global;
 use std::test::Fail;
-use zt_checked::apply_fitting;
+use zt_checked::{apply_fitting, has_face};
 use zt_keys::{Key, KeyError, KeyExpr, Memory};
 use zt_protocol::Message;
 use zt_region::Region;
@@ -18,14 +18,6 @@ use zt_tables::{Plan, Tables};
 const FACES: u32 = 10;
 
 const TOKENS: u32 = 5000;
-
-// Whether the face is open after the plan.
-fn has_face<K: Key>(tables: &Tables<K>, plan: &Plan<K>, f: u32) -> bool
-    requires { Fit K.cmp K.matching plan.now tables.now.store }
-    ensures { result ≡ is_open f (acted_all K.cmp K.matching plan.now tables.now.store) }
-{
-    plan.face(tables, f).is_some()
-}
 
 // Whether the face is open and declares no token after the plan.
 fn is_bare<K: Key>(tables: &Tables<K>, plan: &Plan<K>, f: u32) -> bool

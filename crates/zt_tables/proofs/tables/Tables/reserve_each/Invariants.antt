@@ -11,5 +11,5 @@ abbrev pub invariant-loop-change : goal.invariant-loop-change
 invariant-loop-change g l = record {
   store : l.self.store ≡ l.fn.self.store;
   rooms : KeepsTables (of_faces nothing) l.fn.self.rooms l.self.rooms;
-  found : FindsEach l.room (map plain_change (take l.change-index l.changes)) l.fn.self.store l.self.rooms;
+  found : FindsEach g.K.Key.anchored l.room (map plain_change (take l.change-index l.changes)) l.fn.self.store l.self.rooms;
 }
