@@ -4,15 +4,19 @@
 //!     rustc -O --edition 2021 -o tables bench/tables.rs
 //!     time ./tables one 100000 10             # on one face
 //!     time ./tables many 10000 100000 10      # spread over 10,000 faces
-//!     time ./tables held 10000 100000         # interests, and the holders of each key
+//!     time ./tables held 10000 100000 10      # interests, and the holders of each key
 //!
 //! The last word is how many rounds of declaring, asking and dropping there are; the keys are made once, before them.
 //! Both programs print the same, and `zt_trial` is to take at most 1.5 times the processor time. Measured on a shared
-//! machine, milliseconds of user time with the making of the keys, the best of three:
+//! machine with all else stopped, milliseconds of user time with the making of the keys, the best of five:
 //!
-//!                     one 100000    one 100000 10    many 10000 100000    many 10000 100000 10
-//!     HashMap                193             1651                  220                    2041
-//!     zt_trial               186             1763                  239                    2389
+//!                          HashMap    zt_trial
+//!     one 100000               189          96
+//!     one 100000 10           1007         785
+//!     many 10000 100000        130         120
+//!     many 10000 100000 10     848         823
+//!     held 10000 100000         88         124
+//!     held 10000 100000 10     930        1059
 
 use std::collections::HashMap;
 use std::env;
