@@ -3,33 +3,24 @@
 --     finds-group, finds-bucket      room for tokens of a router, and for an interest in its bucket
 --     each-more        the changes that were gone over
 --     few-room         for each of so many at most there is room for as many
-use Rattle.std.specs.Prelude.{◌≡◌, ℕ, zero, Bool, true, false, ◌+◌, ◌≤◌, ◌<◌, ◌==◌, ◌&&◌, nat_lt, nat_le, not, if◌then◌else◌, List, [], ◌∷◌, ◌++◌, length, map, take, Option, Some, None, unwrap_or, refl}
-use Rattle.std.specs.Cmp.{IsTotalOrder}
-use Rattle.std.specs.FinMap.Entries.{find, find_tied}
-use Rattle.std.specs.List.{AllByRecursion}
+use Rattle.std.specs.Prelude.{◌≡◌, ℕ, Bool, true, false, ◌+◌, ◌≤◌, ◌<◌, ◌==◌, ◌&&◌, nat_lt, if◌then◌else◌, List, [], ◌∷◌, ◌++◌, length, map, take, Option, Some, None, refl}
 use Rattle.std.specs.Ordering.{is_eq, nat_cmp}
-use Rattle.std.specs.declared.cmp.Ordering.{Ordering}
 use Rattle.std.proofs.Common.{ap, arith, get_or, subst, sym, ◌∙◌}
 use Rattle.std.proofs.lemmas.Bool.Decides.{nat_tests}
-use Rattle.std.proofs.lemmas.Bool.{eqb-true}
 use Rattle.std.proofs.lemmas.List.{map-append, take_more}
 use Rattle.zt_keys.specs.declared.anchor.Anchor.{Anchor}
-use Rattle.zt_region.specs.Region.{region_eq, region_eq-same, zid_eq, zid_eq-same}
+use Rattle.zt_region.specs.Region.{region_eq-same, zid_eq-same}
 use Rattle.zt_region.specs.declared.region.Region.{Region}
 use Rattle.zt_region.specs.declared.region.Zid.{Zid}
 use Rattle.zt_ordered.specs.Rows.{same}
 use Rattle.zt_ordered.specs.Test.{and_first, and_second, by_test, is_eq-Equal}
-use Rattle.zt_rows.specs.ById.{is_eq-nat}
-use Rattle.zt_rows.specs.Face.{FaceRoom}
 use Rattle.zt_grouped.specs.GroupRoom.{room_of}
-use Rattle.zt_model.specs.Acts.{Act, OpenFace, AddLive, AddRouted, Tell, AddHeld, AddLocal, AddPending, AddAsk, Answered, Send, SetTree, Number, Store, is_open}
-use Rattle.zt_model.specs.Strategy.{is_region_of}
-use Rattle.zt_faces.specs.Rooms.{AskedRows, HeldRows, Kind, LiveRows, LocalRows, PendingRows, ToldRows, face_room, is_kind, kind_room, nothing, one_row}
-use Rattle.zt_faces.specs.Sent.{HasRowRoom}
+use Rattle.zt_model.specs.Acts.{Act, OpenFace, AddLive, AddRouted, Tell, AddHeld, AddLocal, AddPending, AddAsk, Answered, Send, SetTree, Number, Store}
+use Rattle.zt_faces.specs.Rooms.{HeldRows, Kind, LiveRows, LocalRows, ToldRows, face_room, is_kind, nothing}
 use Rattle.zt_holders.specs.Held.{bucket_added, held_in, is_bucket, total_held}
 use Rattle.zt_holders.specs.Order.{bucket-one, bucket_cmp}
 use Rattle.zt_holders.specs.declared.bucket.Bucket.{Bucket}
-use Rattle.zt_needs.specs.Need.{Need, group_order, need_of, of_faces, one_message, one_number, one_routed, one_tree, total}
+use Rattle.zt_needs.specs.Need.{Need, group_order, need_of, of_faces, one_routed, total}
 use Rattle.zt_tables.specs.Few.{Finds, FindsEach, FindsRoom, is_light}
 use Rattle.zt_tables.specs.HasRoom.{HasRoom}
 use Rattle.zt_tables.specs.RegionOrder.{region_cmp}

@@ -148,12 +148,7 @@ impl<K: Key> Tables<K> {
     }
 
     // Room for so many more tokens of the router.
-    fn reserve_routed(
-        &mut self,
-        region: Region,
-        source: Zid,
-        room: usize,
-    ) -> Result<(), AllocError>
+    fn reserve_routed(&mut self, region: Region, source: Zid, room: usize) -> Result<(), AllocError>
         ensures store { self.new.store ≡ self.old.store }
         ensures rooms { KeepsTables (of_faces nothing) self.old.rooms self.new.rooms }
         ensures ok { OnOk result (FindsRoom room (one_routed (region, source)) 1 None self.old.store self.new.rooms) }
@@ -162,12 +157,7 @@ impl<K: Key> Tables<K> {
         self.reserve_tokens(room)
     }
 
-    fn prepare_routed(
-        &mut self,
-        region: Region,
-        source: Zid,
-        room: usize,
-    ) -> Result<(), AllocError>
+    fn prepare_routed(&mut self, region: Region, source: Zid, room: usize) -> Result<(), AllocError>
         ensures store { self.new.store ≡ self.old.store }
         ensures rooms { KeepsTables (of_faces nothing) self.old.rooms self.new.rooms }
         ensures ok { OnOk result (FindsRoom room (one_routed (region, source)) 0 None self.old.store self.new.rooms) }
@@ -223,11 +213,7 @@ impl<K: Key> Tables<K> {
     }
 
     // Where the changes take room, room for so many is made; the answer is no where one takes other room too.
-    fn reserve_each(
-        &mut self,
-        changes: &[Change<K>],
-        room: usize,
-    ) -> Result<bool, AllocError>
+    fn reserve_each(&mut self, changes: &[Change<K>], room: usize) -> Result<bool, AllocError>
         ensures store { self.new.store ≡ self.old.store }
         ensures rooms { KeepsTables (of_faces nothing) self.old.rooms self.new.rooms }
         ensures ok { IfOk result (λ all. all ≡ true → FindsEach K.anchored room (map plain_change changes.now) self.old.store self.new.rooms) }

@@ -1,4 +1,4 @@
-use Rattle.std.proofs.Common.{◌≤◌, ◌<◌, ◌≡◌, Result, Ok, Err, IfOk, arith, length, map, true, ◌∙◌}
+use Rattle.std.proofs.Common.{◌≤◌, ◌<◌, Result, Ok, Err, IfOk, arith, length, map, ◌∙◌}
 use Rattle.std.proofs.lemmas.List.{length-map}
 use Rattle.zt_rows.specs.Change.{plain_change}
 use Rattle.zt_tables.proofs.FewRoom.{few-room}
