@@ -9,6 +9,7 @@ mod PlanTokens
 mod TokenRooms
 pub mod Reserving
 pub mod FewRoom
+mod Released
 pub mod KeptActs
 pub mod LiveEdits
 mod HeldEdits

@@ -133,6 +133,7 @@ impl<K: Key> Tables<K> {
         let bucket = self.bucket_held(f, id);
         drop_holder(&mut self.holders, bucket, (f, id));
         self.faces.drop_held(f, id);
+        self.note_emptied(bucket);
     }
 
     // A future-mode interest was sent to the face.

@@ -31,6 +31,7 @@ mod planned_routed;
 mod planned_rows;
 mod planned_tokens;
 mod queries;
+mod release;
 mod reserve;
 mod reserve_few;
 mod tables;

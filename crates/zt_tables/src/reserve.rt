@@ -187,6 +187,8 @@ impl<K: Key> Tables<K> {
         ensures plan { plan.new ≡ plan.old }
         ensures ok { OnOk result (HasRoom K.anchored plan.old self.old.store self.new.rooms) }
     {
+        self.release_emptied();
+        self.reserve_notes(plan.changes())?;
         if self.reserve_few(plan.changes())? {
             return Ok(());
         }

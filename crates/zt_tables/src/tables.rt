@@ -47,6 +47,8 @@ pub struct Tables<K: Key> {
     pub(crate) tokens: GroupedCounts<Region, K>,
     // The interests in tokens that faces hold, by face and id, in the bucket in which a token looks for them.
     pub(crate) holders: KeyGroups<Bucket, (u32, u32), Option<K>>,
+    // Buckets that a change emptied, as far as there was room to note them.
+    pub(crate) emptied: Vec<Bucket>,
     pub(crate) alloc: Global,
     // Lists with room for the faces and the asks that a plan makes, the next one's first.
     pub(crate) spare_faces: VecDeque<SpareFace<K>>,
@@ -107,6 +109,7 @@ impl<K: Key> Tables<K> {
             outboxes: Outboxes::new(alloc),
             tokens: GroupedCounts::new(alloc),
             holders: KeyGroups::new(alloc),
+            emptied: Vec::new(alloc),
             alloc,
             spare_faces: VecDeque::new(alloc),
             spare_asks: VecDeque::new(alloc),

@@ -29,4 +29,4 @@ invariant_of-self g c =
 
 pub returns-clause-store : goal.returns-clause-store
 unfolding acted with_face
-returns-clause-store g c = rw (← c.self.view_is, c.drop_held.ensures.faces) refl
+returns-clause-store g c = rw (c.note_emptied.ensures, ← c.self.view_is, c.drop_held.ensures.faces) refl
