@@ -8,15 +8,15 @@
 //!
 //! The last word is how many rounds of declaring, asking and dropping there are; the keys are made once, before them.
 //! Both programs print the same, and `zt_trial` is to take at most 1.5 times the processor time. Measured on a shared
-//! machine with all else stopped, milliseconds of user time with the making of the keys, the best of five:
+//! machine with all else stopped, milliseconds of user time with the making of the keys, the best of seven:
 //!
 //!                          HashMap    zt_trial
-//!     one 100000               189          96
-//!     one 100000 10           1007         785
-//!     many 10000 100000        130         120
-//!     many 10000 100000 10     848         823
-//!     held 10000 100000         88         124
-//!     held 10000 100000 10     930        1059
+//!     one 100000                96          83
+//!     one 100000 10            923         766
+//!     many 10000 100000        109         114
+//!     many 10000 100000 10     996        1093
+//!     held 10000 100000        162         203
+//!     held 10000 100000 10    1164        1511
 
 use std::collections::HashMap;
 use std::env;
