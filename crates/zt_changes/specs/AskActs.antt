@@ -162,24 +162,24 @@ module _ {K : Type 0} (cmp : K → K → Ordering) (matching : K → K → Bool)
   at_step made n (DropAsk m) o = if n == m then None else o
   at_step made n _ o = o
 
-  pub at-acted : (n : ℕ) (act : Act K) (s : Store K) → AreAsksNumbered s → at_id n (acted cmp matching act s).numbers ≡ at_step s.asks_made n act (at_id n s.numbers)
+  pub at-acted : (n : ℕ) (act : Act K) (s : Store K) → AreAsksNumbered s → at_id n (acted cmp act s).numbers ≡ at_step s.asks_made n act (at_id n s.numbers)
   unfolding acted
   at-acted n (CloseFace f) s ok = at_id-filter n (λ p. not (f == p.0)) s.numbers ok.in_order
   at-acted n (AddAsk f id interest) s ok = at_id-put n (s.asks_made + 1) (f, id) s.numbers
   at-acted n (DropAsk m) s ok = at_id-without n m s.numbers
-  at-acted n (Answered m k) s ok = ap (at_id n) (numbers-at_ask m (answered_with cmp matching k) s)
+  at-acted n (Answered m k) s ok = ap (at_id n) (numbers-at_ask m (answered_with cmp k) s)
   at-acted n _ s ok = refl
 
-  sorted-acted : (act : Act K) (s : Store K) → AreAsksNumbered s → is_sorted nat_cmp (acted cmp matching act s).numbers ≡ true
+  sorted-acted : (act : Act K) (s : Store K) → AreAsksNumbered s → is_sorted nat_cmp (acted cmp act s).numbers ≡ true
   unfolding acted
   sorted-acted (CloseFace f) s ok = sorted-filter _ s.numbers ok.in_order
   sorted-acted (AddAsk f id interest) s ok = sorted-put (s.asks_made + 1) (f, id) s.numbers ok.in_order
   sorted-acted (DropAsk m) s ok = sorted-filter _ s.numbers ok.in_order
-  sorted-acted (Answered m k) s ok = ap (is_sorted nat_cmp) (numbers-at_ask m (answered_with cmp matching k) s) ∙ ok.in_order
+  sorted-acted (Answered m k) s ok = ap (is_sorted nat_cmp) (numbers-at_ask m (answered_with cmp k) s) ∙ ok.in_order
   sorted-acted _ s ok = ok.in_order
 
   -- no ask stands at the place of a new one
-  pub apart-added : (f id : ℕ) (interest : InterestRow K) (s : Store K) → AreAsksNumbered s → Fits cmp matching (AddAsk f id interest) s
+  pub apart-added : (f id : ℕ) (interest : InterestRow K) (s : Store K) → AreAsksNumbered s → Fits cmp (AddAsk f id interest) s
       → (n : ℕ) (p : ℕ × ℕ) → at_id n s.numbers ≡ Some p → ((f == p.0) && (p.1 == id)) ≡ false
   unfolding fits
   apart-added f id interest s ok fit n p at =
@@ -199,15 +199,15 @@ module _ {K : Type 0} (cmp : K → K → Ordering) (matching : K → K → Bool)
   ask_step n (AddPending f i target pending) r = (option_map (with_ask (relisted (f, i) (is_some_and target (λ m. n == m)))) r.0, r.1)
   ask_step n _ r = r
 
-  pub ask-acted : (n : ℕ) (act : Act K) (s : Store K) → AreAsksNumbered s → Fits cmp matching act s → ask_state n (acted cmp matching act s) ≡ ask_step n act (ask_state n s)
+  pub ask-acted : (n : ℕ) (act : Act K) (s : Store K) → AreAsksNumbered s → Fits cmp act s → ask_state n (acted cmp act s) ≡ ask_step n act (ask_state n s)
   ask-acted n (CloseFace f) s ok fit =
-      let after = acted cmp matching (CloseFace f) s in
+      let after = acted cmp (CloseFace f) s in
       let made : n - after.asks_made ≡ n - s.asks_made = let is = made-acted cmp matching (CloseFace f) s in omega (arith, is) in
       let ask = ap (λ o. placed_in o after.rows) (at-acted n (CloseFace f) s ok) ∙ placed-closed f (at_id n s.numbers) s.rows after.rows (λ p. place-acted cmp matching p (CloseFace f) s fit) in
       λ i. (ask i, made i)
   ask-acted n (AddAsk f id interest) s ok fit =
       let act : Act K = AddAsk f id interest in
-      let after = acted cmp matching act s in
+      let after = acted cmp act s in
       let made : n - after.asks_made ≡ n - s.asks_made - 1 = let is = made-acted cmp matching act s in omega (arith, is) in
       let rows = placed_in (at_id n s.numbers) s.rows in
       let ask : placed_in (if n == s.asks_made + 1 then Some (f, id) else at_id n s.numbers) after.rows ≡ (if n - s.asks_made == 1 then Some ((f, id), new_ask interest) else rows) =
@@ -223,7 +223,7 @@ module _ {K : Type 0} (cmp : K → K → Ordering) (matching : K → K → Bool)
       λ i. (all i, made i)
   ask-acted n (DropAsk m) s ok fit =
       let act : Act K = DropAsk m in
-      let after = acted cmp matching act s in
+      let after = acted cmp act s in
       let made : n - after.asks_made ≡ n - s.asks_made = let is = made-acted cmp matching act s in omega (arith, is) in
       let ask : placed_in (if n == m then None else at_id n s.numbers) after.rows ≡ (if n == m then None else placed_in (at_id n s.numbers) s.rows) =
       by_test (n == m)
@@ -233,7 +233,7 @@ module _ {K : Type 0} (cmp : K → K → Ordering) (matching : K → K → Bool)
       λ i. (all i, made i)
   ask-acted n (Answered m k) s ok fit =
       let act : Act K = Answered m k in
-      let after = acted cmp matching act s in
+      let after = acted cmp act s in
       let made : n - after.asks_made ≡ n - s.asks_made = let is = made-acted cmp matching act s in omega (arith, is) in
       let change = answered_once cmp k in
       let ask : placed_in (at_id n s.numbers) after.rows ≡ (if n == m then option_map (with_ask change) (placed_in (at_id n s.numbers) s.rows) else placed_in (at_id n s.numbers) s.rows) =
@@ -244,7 +244,7 @@ module _ {K : Type 0} (cmp : K → K → Ordering) (matching : K → K → Bool)
       λ i. (all i, made i)
   ask-acted n (AddPending f i target pending) s ok fit =
       let act : Act K = AddPending f i target pending in
-      let after = acted cmp matching act s in
+      let after = acted cmp act s in
       let made : n - after.asks_made ≡ n - s.asks_made = let is = made-acted cmp matching act s in omega (arith, is) in
       let change : Ask K → Ask K = relisted (f, i) (is_some_and target (λ m. n == m)) in
       let all =
@@ -253,7 +253,7 @@ module _ {K : Type 0} (cmp : K → K → Ordering) (matching : K → K → Bool)
       (λ p at. place-acted cmp matching p act s fit ∙ ap (λ b. option_map (relisted (f, i) b) (ask_in (Some p) s.rows)) (listed-place s ok n p at target)) in
       λ j. (all j, made j)
   ask-acted n act s ok fit =
-      let after = acted cmp matching act s in
+      let after = acted cmp act s in
       let made : n - after.asks_made ≡ n - s.asks_made = let is = made-acted cmp matching act s in omega (arith, is) in
       let all = ap (λ o. placed_in o after.rows) (at-acted n act s ok) ∙ placed-same (at_id n s.numbers) s.rows after.rows (λ p at. place-acted cmp matching p act s fit) in
       λ i. (all i, made i)
@@ -305,10 +305,10 @@ module _ {K : Type 0} (cmp : K → K → Ordering) (matching : K → K → Bool)
     from-step (AddPending f i target pending) some found = from-number (mapped-was (relisted (f, i) (is_at (place_of_ask s target) p.0 p.1)) (ask_in (Some p) s.rows) some) found
     from-step _ some found = from-number some found
 
-  every-acted : (act : Act K) (s : Store K) → AreAsksNumbered s → Fits cmp matching act s → (p : ℕ × ℕ)
-      → IsSome (ask_in (Some p) (acted cmp matching act s).rows) → IsSome (number_of_ask p (acted cmp matching act s).numbers)
+  every-acted : (act : Act K) (s : Store K) → AreAsksNumbered s → Fits cmp act s → (p : ℕ × ℕ)
+      → IsSome (ask_in (Some p) (acted cmp act s).rows) → IsSome (number_of_ask p (acted cmp act s).numbers)
   every-acted act s ok fit p some =
-      let after = acted cmp matching act s in
+      let after = acted cmp act s in
       from-step s ok p (IsSome (number_of_ask p after.numbers)) act (subst IsSome (place-acted cmp matching p act s fit) some)
       (λ n at. by_option (number_of_ask p after.numbers)
       (λ m is. subst IsSome (sym is) refl)
@@ -341,9 +341,9 @@ module _ {K : Type 0} (cmp : K → K → Ordering) (matching : K → K → Bool)
   stand-acted (AddPending f i target pending) s ok n p none h at = some-mapped _ (ask_in (Some p) s.rows) (ok.stand n p at)
   stand-acted _ s ok n p none h at = ok.stand n p at
 
-  numbered-no_ask : (act : Act K) (s : Store K) → AreAsksNumbered s → Fits cmp matching act s → asks_in act ≡ 0 → AreAsksNumbered (acted cmp matching act s)
+  numbered-no_ask : (act : Act K) (s : Store K) → AreAsksNumbered s → Fits cmp act s → asks_in act ≡ 0 → AreAsksNumbered (acted cmp act s)
   numbered-no_ask act s ok fit none =
-      let after = acted cmp matching act s in
+      let after = acted cmp act s in
       let was : (n : ℕ) (p : ℕ × ℕ) → at_id n after.numbers ≡ Some p → at_id n s.numbers ≡ Some p = λ n p at. was-at s.asks_made n p act (at_id n s.numbers) none (sym (at-acted n act s ok) ∙ at) in
       record {
         in_order = sorted-acted act s ok;
@@ -357,10 +357,10 @@ module _ {K : Type 0} (cmp : K → K → Ordering) (matching : K → K → Bool)
   some-added true new ask h = refl
   some-added false new ask h = h refl
 
-  numbered-added : (f id : ℕ) (interest : InterestRow K) (s : Store K) → AreAsksNumbered s → Fits cmp matching (AddAsk f id interest) s → AreAsksNumbered (acted cmp matching (AddAsk f id interest) s)
+  numbered-added : (f id : ℕ) (interest : InterestRow K) (s : Store K) → AreAsksNumbered s → Fits cmp (AddAsk f id interest) s → AreAsksNumbered (acted cmp (AddAsk f id interest) s)
   numbered-added f id interest s ok fit =
       let act : Act K = AddAsk f id interest in
-      let after = acted cmp matching act s in
+      let after = acted cmp act s in
       let is = made-acted cmp matching act s in
       let new : (n : ℕ) (p : ℕ × ℕ) → at_id n after.numbers ≡ Some p → (n == s.asks_made + 1) ≡ true → (f, id) ≡ p = λ n p at t. Some-same (f, id) p (sym (at-acted n act s ok ∙ ap (λ b. if b then Some (f, id) else at_id n s.numbers) t) ∙ at) in
       let was : (n : ℕ) (p : ℕ × ℕ) → at_id n after.numbers ≡ Some p → (n == s.asks_made + 1) ≡ false → at_id n s.numbers ≡ Some p = λ n p at t. sym (at-acted n act s ok ∙ ap (λ b. if b then Some (f, id) else at_id n s.numbers) t) ∙ at in
@@ -380,19 +380,19 @@ module _ {K : Type 0} (cmp : K → K → Ordering) (matching : K → K → Bool)
         every = every-acted act s ok fit;
       }
 
-  pub numbered-acted : (act : Act K) (s : Store K) → AreAsksNumbered s → Fits cmp matching act s → AreAsksNumbered (acted cmp matching act s)
+  pub numbered-acted : (act : Act K) (s : Store K) → AreAsksNumbered s → Fits cmp act s → AreAsksNumbered (acted cmp act s)
   numbered-acted (AddAsk f id interest) s ok fit = numbered-added f id interest s ok fit
   numbered-acted act s ok fit = numbered-no_ask act s ok fit refl
 
-  pub numbered-after : (acts : List (Act K)) (s : Store K) → AreAsksNumbered s → Fit cmp matching acts s → AreAsksNumbered (acted_all cmp matching acts s)
+  pub numbered-after : (acts : List (Act K)) (s : Store K) → AreAsksNumbered s → Fit cmp acts s → AreAsksNumbered (acted_all cmp acts s)
   unfolding acted_all Fit
   numbered-after [] s ok fit = ok
-  numbered-after (act ∷ acts) s ok fit = numbered-after acts (acted cmp matching act s) (numbered-acted act s ok fit.0) fit.1
+  numbered-after (act ∷ acts) s ok fit = numbered-after acts (acted cmp act s) (numbered-acted act s ok fit.0) fit.1
 
-  pub ask-after : (n : ℕ) (acts : List (Act K)) (s : Store K) → AreAsksNumbered s → Fit cmp matching acts s → ask_state n (acted_all cmp matching acts s) ≡ folded (ask_step n) acts (ask_state n s)
+  pub ask-after : (n : ℕ) (acts : List (Act K)) (s : Store K) → AreAsksNumbered s → Fit cmp acts s → ask_state n (acted_all cmp acts s) ≡ folded (ask_step n) acts (ask_state n s)
   unfolding acted_all Fit
   ask-after n [] s ok fit = refl
-  ask-after n (act ∷ acts) s ok fit = ask-after n acts (acted cmp matching act s) (numbered-acted act s ok fit.0) fit.1 ∙ ap (folded (ask_step n) acts) (ask-acted n act s ok fit.0)
+  ask-after n (act ∷ acts) s ok fit = ask-after n acts (acted cmp act s) (numbered-acted act s ok fit.0) fit.1 ∙ ap (folded (ask_step n) acts) (ask-acted n act s ok fit.0)
 
 -- a place has a number exactly where an ask stands there
 pub numbered-there : {K : Type 0} (p : ℕ × ℕ) (s : Store K) → AreAsksNumbered s → is_some (number_of_ask p s.numbers) ≡ is_some (ask_in (Some p) s.rows)

@@ -57,7 +57,7 @@ module _ {K : Type 0} (cmp : K → K → Ordering) (matching : K → K → Bool)
   gone-folded [] = refl
   gone-folded (act ∷ acts) = ap (folded (ask_step cmp matching n) acts) (gone-step act) ∙ gone-folded acts
 
-  gone : (acts : List (Act K)) (s : Store K) → AreAsksNumbered s → Fit cmp matching acts s → ask_state n s ≡ (None, 0) → Stands n (acted_all cmp matching acts s) → ⊥
+  gone : (acts : List (Act K)) (s : Store K) → AreAsksNumbered s → Fit cmp acts s → ask_state n s ≡ (None, 0) → Stands n (acted_all cmp acts s) → ⊥
   gone acts s ok fit none stands =
       let after = ask-after cmp matching n acts s ok fit ∙ ap (folded (ask_step cmp matching n) acts) none ∙ gone-folded acts in
       let never = subst (λ (r : Option (Placed K) × ℕ). IsSome r.0) after stands in
@@ -70,8 +70,8 @@ module _ {K : Type 0} (cmp : K → K → Ordering) (matching : K → K → Bool)
   ask_changed _ o = o
 
   module _ {V : Type 0} (view : Option (Placed K) → V) (fresh : (p : ℕ × ℕ) (interest : InterestRow K) → view (Some (p, new_ask interest)) ≡ view None) where
-    pub alive : (act : Act K) (acts : List (Act K)) (s : Store K) → AreAsksNumbered s → Fits cmp matching act s → Fit cmp matching acts (acted cmp matching act s) → Stands n (acted_all cmp matching acts (acted cmp matching act s))
-        → view (ask_state n (acted cmp matching act s)).0 ≡ view (ask_changed act (ask_state n s).0)
+    pub alive : (act : Act K) (acts : List (Act K)) (s : Store K) → AreAsksNumbered s → Fits cmp act s → Fit cmp acts (acted cmp act s) → Stands n (acted_all cmp acts (acted cmp act s))
+        → view (ask_state n (acted cmp act s)).0 ≡ view (ask_changed act (ask_state n s).0)
     unfolding fits
     alive (CloseFace f) acts s ok fit rest stands =
         let is = ask-acted cmp matching n (CloseFace f) s ok fit in
@@ -83,8 +83,8 @@ module _ {K : Type 0} (cmp : K → K → Ordering) (matching : K → K → Bool)
         ∙ by_test (f == x.0.0)
         (λ t.
         let closed : kept_where (is_elsewhere f) (Some x) ≡ None = rw t refl in
-        let none : ask_state n (acted cmp matching (CloseFace f) s) ≡ (None, 0) = is ∙ (λ i. (kept_where (is_elsewhere f) (at i), made-of n s ok x at i)) ∙ (λ i. (closed i, 0)) in
-        absurd (gone acts (acted cmp matching (CloseFace f) s) kept rest none stands))
+        let none : ask_state n (acted cmp (CloseFace f) s) ≡ (None, 0) = is ∙ (λ i. (kept_where (is_elsewhere f) (at i), made-of n s ok x at i)) ∙ (λ i. (closed i, 0)) in
+        absurd (gone acts (acted cmp (CloseFace f) s) kept rest none stands))
         (λ t. let open_still : kept_where (is_elsewhere f) (Some x) ≡ Some x = rw t refl in ap view (open_still ∙ sym at)))
         (λ none. ap (λ o. view (kept_where (is_elsewhere f) o)) none ∙ ap view (sym none))
     alive (AddAsk f id interest) acts s ok fit rest stands =
@@ -106,8 +106,8 @@ module _ {K : Type 0} (cmp : K → K → Ordering) (matching : K → K → Bool)
         by_option (ask_state n s).0
         (λ x at.
         let dropped : (if n == m then None else (ask_state n s).0) ≡ None = rw t refl in
-        let none : ask_state n (acted cmp matching (DropAsk m) s) ≡ (None, 0) = is ∙ (λ i. (dropped i, made-of n s ok x at i)) in
-        absurd (gone acts (acted cmp matching (DropAsk m) s) kept rest none stands))
+        let none : ask_state n (acted cmp (DropAsk m) s) ≡ (None, 0) = is ∙ (λ i. (dropped i, made-of n s ok x at i)) in
+        absurd (gone acts (acted cmp (DropAsk m) s) kept rest none stands))
         (λ none. absurd (asked-there _ (at_id n s.numbers) s.rows (subst (λ (k : ℕ). is_some_and (at_id k s.numbers) (λ p. is_some_and (find_face p.0 s.rows) (λ f. is_some_and (at_id p.1 f.asks) (λ ask. true))) ≡ true) (sym (eqb-true n m t)) fit) none)))
         (λ t. let same_one : (if n == m then None else (ask_state n s).0) ≡ (ask_state n s).0 = rw t refl in ap view same_one)
     alive act acts s ok fit rest stands = ap (λ (r : Option (Placed K) × ℕ). view r.0) (ask-acted cmp matching n act s ok fit)
@@ -135,7 +135,7 @@ module _ {K : Type 0} (cmp : K → K → Ordering) (matching : K → K → Bool)
         (λ u. rw (t, u) (by_test (is_among cmp e a.answered) (λ v. rw v refl) (λ v. rw v refl))))
         (λ t. rw t (list_any-append (same cmp e) a.answered (k ∷ []) ∙ by_test (same cmp e k) (λ u. rw u refl) (λ u. rw u refl)))
 
-    answer-step : (e : K) (act : Act K) (s : Store K) → Fits cmp matching act s → has_answer e (ask_changed act (ask_state n s).0) ≡ (has_answer e (ask_state n s).0 || answers e act)
+    answer-step : (e : K) (act : Act K) (s : Store K) → Fits cmp act s → has_answer e (ask_changed act (ask_state n s).0) ≡ (has_answer e (ask_state n s).0 || answers e act)
     unfolding fits
     answer-step e (Answered m k) s fit =
         by_test (n == m)
@@ -151,12 +151,12 @@ module _ {K : Type 0} (cmp : K → K → Ordering) (matching : K → K → Bool)
     or-assoc true b c = refl
     or-assoc false b c = refl
 
-    answers-after : (e : K) (acts : List (Act K)) (s : Store K) → AreAsksNumbered s → Fit cmp matching acts s → Stands n (acted_all cmp matching acts s)
-        → has_answer e (ask_state n (acted_all cmp matching acts s)).0 ≡ (has_answer e (ask_state n s).0 || list_any (answers e) acts)
+    answers-after : (e : K) (acts : List (Act K)) (s : Store K) → AreAsksNumbered s → Fit cmp acts s → Stands n (acted_all cmp acts s)
+        → has_answer e (ask_state n (acted_all cmp acts s)).0 ≡ (has_answer e (ask_state n s).0 || list_any (answers e) acts)
     unfolding acted_all Fit
     answers-after e [] s ok fit stands = by_test (has_answer e (ask_state n s).0) (λ u. rw u refl) (λ u. rw u refl)
     answers-after e (act ∷ acts) s ok fit stands =
-        answers-after e acts (acted cmp matching act s) (numbered-acted cmp matching act s ok fit.0) fit.1 stands
+        answers-after e acts (acted cmp act s) (numbered-acted cmp matching act s ok fit.0) fit.1 stands
         ∙ ap (λ b. b || list_any (answers e) acts) (alive (has_answer e) (λ p interest. refl) act acts s ok fit.0 fit.1 stands ∙ answer-step e act s fit.0)
         ∙ or-assoc (has_answer e (ask_state n s).0) (answers e act) (list_any (answers e) acts)
 
@@ -187,8 +187,8 @@ answer-at {K = K} cmp matching n e s = inner (at_id n s.numbers)
     inner None = refl
     inner (Some p) = row p (ask_in (Some p) s.rows)
 
-pub answered-after : {K : Type 0} (cmp : K → K → Ordering) (matching : K → K → Bool) (o : IsTotalOrder cmp) (n : ℕ) (e : K) (acts : List (Act K)) (s : Store K) → AreAsksNumbered s → Fit cmp matching acts s → Stands n (acted_all cmp matching acts s)
-    → is_some_and (ask_at n (acted_all cmp matching acts s)) (λ ask. is_among cmp e ask.answered) ≡ (is_some_and (ask_at n s) (λ ask. is_among cmp e ask.answered) || list_any (answers cmp matching n e) acts)
+pub answered-after : {K : Type 0} (cmp : K → K → Ordering) (matching : K → K → Bool) (o : IsTotalOrder cmp) (n : ℕ) (e : K) (acts : List (Act K)) (s : Store K) → AreAsksNumbered s → Fit cmp acts s → Stands n (acted_all cmp acts s)
+    → is_some_and (ask_at n (acted_all cmp acts s)) (λ ask. is_among cmp e ask.answered) ≡ (is_some_and (ask_at n s) (λ ask. is_among cmp e ask.answered) || list_any (answers cmp matching n e) acts)
 answered-after cmp matching o n e acts s ok fit stands =
-    sym (answer-at cmp matching n e (acted_all cmp matching acts s)) ∙ answers-after cmp matching n o e acts s ok fit stands
+    sym (answer-at cmp matching n e (acted_all cmp acts s)) ∙ answers-after cmp matching n o e acts s ok fit stands
     ∙ ap (λ b. b || list_any (answers cmp matching n e) acts) (answer-at cmp matching n e s)

@@ -51,7 +51,7 @@ module _ {K : Type 0} (cmp : K → K → Ordering) (matching : K → K → Bool)
   abbrev Leads : ℕ × ℕ → Act K → Store K → Type 0
   Leads p act s = (n : ℕ) → number_changed p act s.asks_made (number_of_ask p s.numbers) ≡ Some n → at_step cmp matching s.asks_made n act (at_id n s.numbers) ≡ Some p
 
-  follows : (p : ℕ × ℕ) (act : Act K) (s : Store K) → AreAsksNumbered s → Fits cmp matching act s → s.asks_made + 1 ≤ 18446744073709551615 → Follows p act s
+  follows : (p : ℕ × ℕ) (act : Act K) (s : Store K) → AreAsksNumbered s → Fits cmp act s → s.asks_made + 1 ≤ 18446744073709551615 → Follows p act s
   follows p (CloseFace f) s ok fit most n h =
       let kept = kept-was (λ (q : ℕ × ℕ). not (f == q.0)) (at_id n s.numbers) p h in
       let stays : (f == p.0) ≡ false = not-true _ kept.1 in
@@ -76,7 +76,7 @@ module _ {K : Type 0} (cmp : K → K → Ordering) (matching : K → K → Bool)
       ap (kept_where (λ k. not (k == m))) found ∙ ap (λ b. if not b then Some n else None) t)
   follows p _ s ok fit most n h = number-there s ok p n h
 
-  leads : (p : ℕ × ℕ) (act : Act K) (s : Store K) → AreAsksNumbered s → Fits cmp matching act s → s.asks_made + 1 ≤ 18446744073709551615 → Leads p act s
+  leads : (p : ℕ × ℕ) (act : Act K) (s : Store K) → AreAsksNumbered s → Fits cmp act s → s.asks_made + 1 ≤ 18446744073709551615 → Leads p act s
   leads p (CloseFace f) s ok fit most n h =
       by_test (f == p.0)
       (λ t. let never : None ≡ Some n = rw t at h in absurd (not_Some n (sym never)))
@@ -100,29 +100,29 @@ module _ {K : Type 0} (cmp : K → K → Ordering) (matching : K → K → Bool)
       rw stays (number-at p n s.numbers ok.in_order kept.0)
   leads p _ s ok fit most n h = number-at p n s.numbers ok.in_order h
 
-  number-acted : (p : ℕ × ℕ) (act : Act K) (s : Store K) → AreAsksNumbered s → Fits cmp matching act s → s.asks_made + 1 ≤ 18446744073709551615
-      → number_of_ask p (acted cmp matching act s).numbers ≡ number_changed p act s.asks_made (number_of_ask p s.numbers)
+  number-acted : (p : ℕ × ℕ) (act : Act K) (s : Store K) → AreAsksNumbered s → Fits cmp act s → s.asks_made + 1 ≤ 18446744073709551615
+      → number_of_ask p (acted cmp act s).numbers ≡ number_changed p act s.asks_made (number_of_ask p s.numbers)
   number-acted p act s ok fit most =
-      let after = acted cmp matching act s in
+      let after = acted cmp act s in
       let kept = numbered-acted cmp matching act s ok fit in
       option-same _ _
       (λ n h. follows p act s ok fit most n (sym (at-acted cmp matching n act s ok) ∙ number-at p n after.numbers kept.in_order h))
       (λ n h. number-there after kept p n (at-acted cmp matching n act s ok ∙ leads p act s ok fit most n h))
 
-  made-stepped : (act : Act K) (s : Store K) → s.asks_made + 1 ≤ 18446744073709551615 → (acted cmp matching act s).asks_made ≡ made_step act s.asks_made
+  made-stepped : (act : Act K) (s : Store K) → s.asks_made + 1 ≤ 18446744073709551615 → (acted cmp act s).asks_made ≡ made_step act s.asks_made
   made-stepped (AddAsk f id interest) s most = let is = made-acted cmp matching (AddAsk f id interest) s in omega (arith, is)
   made-stepped act s most = let is = made-acted cmp matching act s in omega (arith, is)
 
-  numbers-after : (p : ℕ × ℕ) (acts : List (Act K)) (s : Store K) → AreAsksNumbered s → Fit cmp matching acts s → s.asks_made + count_asks acts < 18446744073709551615
-      → (number_of_ask p (acted_all cmp matching acts s).numbers, (acted_all cmp matching acts s).asks_made) ≡ folded (ask_number_step p) acts (number_of_ask p s.numbers, s.asks_made)
+  numbers-after : (p : ℕ × ℕ) (acts : List (Act K)) (s : Store K) → AreAsksNumbered s → Fit cmp acts s → s.asks_made + count_asks acts < 18446744073709551615
+      → (number_of_ask p (acted_all cmp acts s).numbers, (acted_all cmp acts s).asks_made) ≡ folded (ask_number_step p) acts (number_of_ask p s.numbers, s.asks_made)
   unfolding acted_all Fit
   numbers-after p [] s ok fit most = refl
   numbers-after p (act ∷ acts) s ok fit most =
       let here : s.asks_made + 1 ≤ 18446744073709551615 = omega arith in
       let made = made-acted cmp matching act s in
-      numbers-after p acts (acted cmp matching act s) (numbered-acted cmp matching act s ok fit.0) fit.1 (omega (arith, made))
+      numbers-after p acts (acted cmp act s) (numbered-acted cmp matching act s ok fit.0) fit.1 (omega (arith, made))
       ∙ ap (folded (ask_number_step p) acts) (λ i. (number-acted p act s ok fit.0 here i, made-stepped act s here i))
 
-  pub ask_number-after : (p : ℕ × ℕ) (acts : List (Act K)) (s : Store K) → AreAsksNumbered s → Fit cmp matching acts s → s.asks_made + count_asks acts < 18446744073709551615
-      → number_of_ask p (acted_all cmp matching acts s).numbers ≡ (folded (ask_number_step p) acts (number_of_ask p s.numbers, s.asks_made)).0
+  pub ask_number-after : (p : ℕ × ℕ) (acts : List (Act K)) (s : Store K) → AreAsksNumbered s → Fit cmp acts s → s.asks_made + count_asks acts < 18446744073709551615
+      → number_of_ask p (acted_all cmp acts s).numbers ≡ (folded (ask_number_step p) acts (number_of_ask p s.numbers, s.asks_made)).0
   ask_number-after p acts s ok fit most = ap (λ (r : Option ℕ × ℕ). r.0) (numbers-after p acts s ok fit most)

@@ -81,7 +81,7 @@ module _ {K : Type 0} (cmp : K → K → Ordering) (matching : K → K → Bool)
   listed-answered m k None = by_test (n == m) (λ t. rw t refl) (λ t. rw t refl)
   listed-answered m k (Some x) = by_test (n == m) (λ t. rw t (listed-once k x)) (λ t. rw t refl)
 
-  listed-step : (act : Act K) (acts : List (Act K)) (s : Store K) → Fits cmp matching act s
+  listed-step : (act : Act K) (acts : List (Act K)) (s : Store K) → Fits cmp act s
       → length (filter (stays_listed test acts) (listed_by (ask_changed cmp matching n act (ask_state n s).0))) ≡ length (filter (stays_listed test (act ∷ acts)) (listed_by (ask_state n s).0)) + added_one n test act acts
   unfolding fits listed_anew
   listed-step (AddPending f i None pending) acts s fit =
@@ -98,12 +98,12 @@ module _ {K : Type 0} (cmp : K → K → Ordering) (matching : K → K → Bool)
   listed-step (Answered m k) acts s fit = let is = ap (λ l. length (filter (stays_listed test acts) l)) (listed-answered m k (ask_state n s).0) in omega (arith, is)
   listed-step act acts s fit = omega arith
 
-  counted-after : (acts : List (Act K)) (s : Store K) → AreAsksNumbered s → Fit cmp matching acts s → Stands n (acted_all cmp matching acts s)
-      → length (filter test (listed_by (ask_state n (acted_all cmp matching acts s)).0)) ≡ length (filter (stays_listed test acts) (listed_by (ask_state n s).0)) + count_added n test acts
+  counted-after : (acts : List (Act K)) (s : Store K) → AreAsksNumbered s → Fit cmp acts s → Stands n (acted_all cmp acts s)
+      → length (filter test (listed_by (ask_state n (acted_all cmp acts s)).0)) ≡ length (filter (stays_listed test acts) (listed_by (ask_state n s).0)) + count_added n test acts
   unfolding acted_all Fit
   counted-after [] s ok fit stands = omega arith
   counted-after (act ∷ acts) s ok fit stands =
-      let rest = counted-after acts (acted cmp matching act s) (numbered-acted cmp matching act s ok fit.0) fit.1 stands in
+      let rest = counted-after acts (acted cmp act s) (numbered-acted cmp matching act s ok fit.0) fit.1 stands in
       let first = ap (λ l. length (filter (stays_listed test acts) l)) (alive cmp matching n listed_by (λ p interest. refl) act acts s ok fit.0 fit.1 stands) ∙ listed-step act acts s fit.0 in
       omega (arith, rest, first)
 
@@ -118,9 +118,9 @@ module _ {K : Type 0} (cmp : K → K → Ordering) (matching : K → K → Bool)
       inner None = refl
       inner (Some p) = row p (ask_in (Some p) s.rows)
 
-  pub pendings-counted : (acts : List (Act K)) (s : Store K) → AreAsksNumbered s → Fit cmp matching acts s → Stands n (acted_all cmp matching acts s)
-      → length (filter test (pendings_at n (acted_all cmp matching acts s))) ≡ length (filter (stays_listed test acts) (pendings_at n s)) + count_added n test acts
+  pub pendings-counted : (acts : List (Act K)) (s : Store K) → AreAsksNumbered s → Fit cmp acts s → Stands n (acted_all cmp acts s)
+      → length (filter test (pendings_at n (acted_all cmp acts s))) ≡ length (filter (stays_listed test acts) (pendings_at n s)) + count_added n test acts
   pendings-counted acts s ok fit stands =
-      ap (λ l. length (filter test l)) (sym (listed-at (acted_all cmp matching acts s)))
+      ap (λ l. length (filter test l)) (sym (listed-at (acted_all cmp acts s)))
       ∙ counted-after acts s ok fit stands
       ∙ ap (λ l. length (filter (stays_listed test acts) l) + count_added n test acts) (listed-at s)

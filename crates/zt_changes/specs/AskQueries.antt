@@ -76,8 +76,8 @@ module _ {K : Type 0} where
   asked-through cmp matching n (AddPending f i target pending) r = λ j. (asked-same (relisted (f, i) (is_some_and target (λ m. n == m))) (λ a. refl) r.0 j, r.1)
   asked-through cmp matching n _ r = refl
 
-  pub asked-after : (cmp : K → K → Ordering) (matching : K → K → Bool) (n : ℕ) (acts : List (Act K)) (s : Store K) → AreAsksNumbered s → Fit cmp matching acts s
-      → option_map asked_of (ask_state n (acted_all cmp matching acts s)).0 ≡ (folded (asked_step n) acts (asked_state (ask_state n s))).0
+  pub asked-after : (cmp : K → K → Ordering) (matching : K → K → Bool) (n : ℕ) (acts : List (Act K)) (s : Store K) → AreAsksNumbered s → Fit cmp acts s
+      → option_map asked_of (ask_state n (acted_all cmp acts s)).0 ≡ (folded (asked_step n) acts (asked_state (ask_state n s))).0
   asked-after cmp matching n acts s ok fit =
       ap (λ (r : Option (Placed K) × ℕ). (asked_state r).0) (ask-after cmp matching n acts s ok fit)
       ∙ ap (λ (r : Option (Asked K) × ℕ). r.0) (folded-through asked_state (ask_step cmp matching n) (asked_step n) (asked-through cmp matching n) acts (ask_state n s))

@@ -73,7 +73,7 @@ module _ {K : Type 0} (cmp : K → K → Ordering) where
       (λ t. rw t refl)
 
   from-answered : (f id : ℕ) (q : ℕ × ℕ) (e : K) (matching : K → K → Bool) (o : Option (Face K))
-      → from_face (λ x. at_id id x.asks) (if q.0 == f then option_map (answered_with cmp matching e q.1) o else o)
+      → from_face (λ x. at_id id x.asks) (if q.0 == f then option_map (answered_with cmp e q.1) o else o)
       ≡ (if (q.0 == f) && (q.1 == id) then option_map (answered_once e) (from_face (λ x. at_id id x.asks) o) else from_face (λ x. at_id id x.asks) o)
   from-answered f id q e matching None = by_test (q.0 == f) (λ t. rw t (by_test (q.1 == id) (λ u. rw u refl) (λ u. rw u refl))) (λ t. rw t refl)
   from-answered f id q e matching (Some x) = by_test (q.0 == f) (λ t. rw t (at_id-answered q.1 e id x.asks)) (λ t. rw t refl)
@@ -97,7 +97,7 @@ module _ {K : Type 0} (cmp : K → K → Ordering) where
   place_step s p _ ask = ask
 
   module _ (matching : K → K → Bool) where
-    pub place-acted : (p : ℕ × ℕ) (act : Act K) (s : Store K) → Fits cmp matching act s → ask_in (Some p) (acted cmp matching act s).rows ≡ place_step s p act (ask_in (Some p) s.rows)
+    pub place-acted : (p : ℕ × ℕ) (act : Act K) (s : Store K) → Fits cmp act s → ask_in (Some p) (acted cmp act s).rows ≡ place_step s p act (ask_in (Some p) s.rows)
     unfolding acted fits with_face with_routed without_routed
     place-acted p (OpenFace zid whatami region bound first) s fit = from-opened p.0 (λ x. at_id p.1 x.asks) (face_opened zid whatami region bound first s.rows) refl s.rows.faces
     place-acted p (CloseFace n) s fit = from-closed p.0 (λ x. at_id p.1 x.asks) n s.rows.faces
@@ -106,7 +106,7 @@ module _ {K : Type 0} (cmp : K → K → Ordering) where
     place-acted p (AddRouted region source e) s fit = refl
     place-acted p (DropRouted region source e) s fit = refl
     place-acted p (Tell n i e) s fit = kept-face p.0 p.1 n (told_under i e) (λ x. refl) (λ x. refl) s.rows
-    place-acted p (Untell n e) s fit = kept-face p.0 p.1 n (told_ended cmp matching e) (λ x. refl) (λ x. refl) s.rows
+    place-acted p (Untell n e) s fit = kept-face p.0 p.1 n (told_ended cmp e) (λ x. refl) (λ x. refl) s.rows
     place-acted p (AddHeld n i interest) s fit = kept-face p.0 p.1 n (held_added i interest) (λ x. refl) (λ x. refl) s.rows
     place-acted p (DropHeld n i) s fit = kept-face p.0 p.1 n (unheld i) (λ x. refl) (λ x. refl) s.rows
     place-acted p (AddLocal n i interest) s fit = kept-face p.0 p.1 n (local_added i interest) (λ x. refl) (λ x. refl) s.rows
@@ -124,7 +124,7 @@ module _ {K : Type 0} (cmp : K → K → Ordering) where
         ∙ from-added p.0 (λ x. x.asks) p.1 n i (new_ask interest) (ask_added i interest) (face_in p.0 s.rows.faces) (λ x. refl) (there-where n p.0 _ s.rows.faces fit)
     place-acted p (Answered m e) s fit =
         by_option (at_id m s.numbers)
-        (λ q is. rw (is, at_ask) (ap (from_face (λ x. at_id p.1 x.asks)) (face-changed p.0 q.0 (answered_with cmp matching e q.1) (λ x. refl) s.rows.faces) ∙ from-answered p.0 p.1 q e matching (face_in p.0 s.rows.faces)))
+        (λ q is. rw (is, at_ask) (ap (from_face (λ x. at_id p.1 x.asks)) (face-changed p.0 q.0 (answered_with cmp e q.1) (λ x. refl) s.rows.faces) ∙ from-answered p.0 p.1 q e matching (face_in p.0 s.rows.faces)))
         (λ none. rw (none, at_ask) refl)
     place-acted p (DropAsk m) s fit =
         by_option (at_id m s.numbers)

@@ -127,24 +127,24 @@ more-given made more None less h = tt
 more-given made more (Some n) less h = omega (arith, less, h)
 
 module _ {K : Type 0} (cmp : K → K → Ordering) (matching : K → K → Bool) (p : ℕ × ℕ) where
-  less-made : (act : Act K) (s : Store K) → s.asks_made ≤ (acted cmp matching act s).asks_made
+  less-made : (act : Act K) (s : Store K) → s.asks_made ≤ (acted cmp act s).asks_made
   less-made act s = let made = made-acted cmp matching act s in omega (arith, made)
 
-  module _ (act : Act K) (s : Store K) (ok : AreAsksNumbered s) (fit : Fits cmp matching act s) where
-    serving-kept : (named : Option ℕ) → Serves p s named → ((n : ℕ) → IsRight p n named (ask_step cmp matching n act (ask_state n s)).0) → Serves p (acted cmp matching act s) named
+  module _ (act : Act K) (s : Store K) (ok : AreAsksNumbered s) (fit : Fits cmp act s) where
+    serving-kept : (named : Option ℕ) → Serves p s named → ((n : ℕ) → IsRight p n named (ask_step cmp matching n act (ask_state n s)).0) → Serves p (acted cmp act s) named
     serving-kept named is right = record {
-      given = more-given s.asks_made (acted cmp matching act s).asks_made named (less-made act s) is.given;
+      given = more-given s.asks_made (acted cmp act s).asks_made named (less-made act s) is.given;
       lists = λ n. subst (λ (r : Option (Placed K) × ℕ). IsRight p n named r.0) (sym (ask-acted cmp matching n act s ok fit)) (right n);
     }
 
     serving-unless : (b : Bool) (o : Option (Option ℕ)) → ((named : Option ℕ) → Serves p s named → (n : ℕ) → IsRight p n named (ask_step cmp matching n act (ask_state n s)).0)
-        → IfSome o (Serves p s) → IfSome (if b then None else o) (Serves p (acted cmp matching act s))
+        → IfSome o (Serves p s) → IfSome (if b then None else o) (Serves p (acted cmp act s))
     serving-unless true o right h = tt
     serving-unless false None right h = tt
     serving-unless false (Some named) right h = serving-kept named h (right named h)
 
   -- what a pending is to serve when it is added
-  module _ (f i : ℕ) (target : Option ℕ) (pending : Pending) (s : Store K) (ok : AreAsksNumbered s) (fit : Fits cmp matching (AddPending f i target pending) s) where
+  module _ (f i : ℕ) (target : Option ℕ) (pending : Pending) (s : Store K) (ok : AreAsksNumbered s) (fit : Fits cmp (AddPending f i target pending) s) where
     named-given : (m : ℕ) → is_ask m s ≡ true → m ≤ s.asks_made
     named-given m asks = by_option (at_id m s.numbers) (λ q at. ok.below m q at) (λ none. let never : false ≡ true = rw none at asks in absurd (false≢true never))
 
@@ -152,7 +152,7 @@ module _ {K : Type 0} (cmp : K → K → Ordering) (matching : K → K → Bool)
     target-given None h = tt
     target-given (Some m) h = named-given m h
 
-  pub serving-acted : (act : Act K) (s : Store K) → AreAsksNumbered s → Fits cmp matching act s → (o : Option (Option ℕ)) → IfSome o (Serves p s) → IfSome (served_step p.0 p.1 act o) (Serves p (acted cmp matching act s))
+  pub serving-acted : (act : Act K) (s : Store K) → AreAsksNumbered s → Fits cmp act s → (o : Option (Option ℕ)) → IfSome o (Serves p s) → IfSome (served_step p.0 p.1 act o) (Serves p (acted cmp act s))
   unfolding fits
   serving-acted (CloseFace f) s ok fit o h = serving-unless (CloseFace f) s ok fit (f == p.0) o (λ named is n. right-kept p n named (is_elsewhere f) (ask_state n s).0 (is.lists n)) h
   serving-acted (DropPending f i) s ok fit o h = serving-unless (DropPending f i) s ok fit ((f == p.0) && (p.1 == i)) o (λ named is n. is.lists n) h
@@ -168,9 +168,9 @@ module _ {K : Type 0} (cmp : K → K → Ordering) (matching : K → K → Bool)
       let both = and_parts (f == p.0) (p.1 == i) t in
       let is : p ≡ (f, i) = λ j. (sym (eqb-true f p.0 both.0) j, eqb-true p.1 i both.1 j) in
       let given : IfSome target (λ n. n ≤ s.asks_made) = target-given f i target pending s ok fit target (and_parts _ _ fit).1 in
-      let less : s.asks_made ≤ (acted cmp matching act s).asks_made = less-made act s in
-      let now : Serves p (acted cmp matching act s) target = record {
-        given = more-given s.asks_made (acted cmp matching act s).asks_made target less given;
+      let less : s.asks_made ≤ (acted cmp act s).asks_made = less-made act s in
+      let now : Serves p (acted cmp act s) target = record {
+        given = more-given s.asks_made (acted cmp act s).asks_made target less given;
         lists = λ n. subst (λ (r : Option (Placed K) × ℕ). IsRight p n target r.0) (sym (ask-acted cmp matching n act s ok fit))
             (subst (λ q. IsRight p n target (option_map (with_ask (relisted q (is_for n target))) (ask_state n s).0)) is (right-own p n target (ask_state n s).0));
       } in
@@ -180,12 +180,12 @@ module _ {K : Type 0} (cmp : K → K → Ordering) (matching : K → K → Bool)
       rw t (serving-unless act s ok fit false o (λ named is n. right-other p n named (f, i) (is_for n target) (ask_state n s).0 apart (is.lists n)) h))
   serving-acted act s ok fit o h = serving-unless act s ok fit false o (λ named is n. is.lists n) h
 
-  pub serving-after : (acts : List (Act K)) (s : Store K) → AreAsksNumbered s → Fit cmp matching acts s → (o : Option (Option ℕ)) → IfSome o (Serves p s)
-      → IfSome (folded (served_step p.0 p.1) acts o) (Serves p (acted_all cmp matching acts s))
+  pub serving-after : (acts : List (Act K)) (s : Store K) → AreAsksNumbered s → Fit cmp acts s → (o : Option (Option ℕ)) → IfSome o (Serves p s)
+      → IfSome (folded (served_step p.0 p.1) acts o) (Serves p (acted_all cmp acts s))
   unfolding acted_all Fit
   serving-after [] s ok fit o h = h
   serving-after (act ∷ acts) s ok fit o h =
-      serving-after acts (acted cmp matching act s) (numbered-acted cmp matching act s ok fit.0) fit.1 (served_step p.0 p.1 act o) (serving-acted act s ok fit.0 o h)
+      serving-after acts (acted cmp act s) (numbered-acted cmp matching act s ok fit.0) fit.1 (served_step p.0 p.1 act o) (serving-acted act s ok fit.0 o h)
 
 -- ---- the ask that is named, where it stands, is the one that lists the pending
 module _ {K : Type 0} (s : Store K) where

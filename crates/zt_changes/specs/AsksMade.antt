@@ -37,14 +37,14 @@ pub made-at_ask : {K : Type 0} (n : ℕ) (change : ℕ → Face K → Face K) (s
 made-at_ask n change s = by_option (at_id n s.numbers) (λ p is. rw (is, at_ask) refl) (λ none. rw (none, at_ask) refl)
 
 module _ {K : Type 0} (cmp : K → K → Ordering) (matching : K → K → Bool) where
-  pub made-acted : (act : Act K) (s : Store K) → (acted cmp matching act s).asks_made ≡ s.asks_made + asks_in act
+  pub made-acted : (act : Act K) (s : Store K) → (acted cmp act s).asks_made ≡ s.asks_made + asks_in act
   unfolding acted
-  made-acted (Answered n k) s = let same_made = made-at_ask n (answered_with cmp matching k) s in omega (arith, same_made)
+  made-acted (Answered n k) s = let same_made = made-at_ask n (answered_with cmp k) s in omega (arith, same_made)
   made-acted (DropAsk n) s = let same_made = made-at_ask n ask_dropped s in omega (arith, same_made)
   made-acted (AddAsk n id interest) s = refl
   made-acted _ s = omega arith
 
-  pub made-after : (acts : List (Act K)) (s : Store K) → (acted_all cmp matching acts s).asks_made ≡ s.asks_made + count_asks acts
+  pub made-after : (acts : List (Act K)) (s : Store K) → (acted_all cmp acts s).asks_made ≡ s.asks_made + count_asks acts
   unfolding acted_all
   made-after [] s = omega arith
-  made-after (act ∷ acts) s = let first = made-acted act s in let rest = made-after acts (acted cmp matching act s) in omega (arith, first, rest)
+  made-after (act ∷ acts) s = let first = made-acted act s in let rest = made-after acts (acted cmp act s) in omega (arith, first, rest)

@@ -52,8 +52,8 @@ kept-at_ask gives f n change kept number s =
 module _ {K : Type 0} (cmp : K → K → Ordering) (matching : K → K → Bool) where
   -- ---- live
 
-  live-acted : (f id : ℕ) (act : Act K) (s : Store K) → Fits cmp matching act s
-      → from_face (λ x. at_id id x.live) (find_face f (acted cmp matching act s).rows) ≡ live_step f id act (from_face (λ x. at_id id x.live) (find_face f s.rows))
+  live-acted : (f id : ℕ) (act : Act K) (s : Store K) → Fits cmp act s
+      → from_face (λ x. at_id id x.live) (find_face f (acted cmp act s).rows) ≡ live_step f id act (from_face (λ x. at_id id x.live) (find_face f s.rows))
   unfolding acted fits with_face with_routed without_routed
   live-acted f id (OpenFace zid whatami region bound first) s fit = from-opened f (λ x. at_id id x.live) (face_opened zid whatami region bound first s.rows) refl s.rows.faces
   live-acted f id (CloseFace n) s fit = from-closed f (λ x. at_id id x.live) n s.rows.faces
@@ -62,7 +62,7 @@ module _ {K : Type 0} (cmp : K → K → Ordering) (matching : K → K → Bool)
   live-acted f id (AddRouted region source e) s fit = refl
   live-acted f id (DropRouted region source e) s fit = refl
   live-acted f id (Tell n i e) s fit = ap (from_face (λ x. at_id id x.live)) (face-changed f n (told_under i e) (λ x. refl) s.rows.faces) ∙ from-kept f (λ x. at_id id x.live) n (told_under i e) (face_in f s.rows.faces) (λ x. refl)
-  live-acted f id (Untell n e) s fit = ap (from_face (λ x. at_id id x.live)) (face-changed f n (told_ended cmp matching e) (λ x. refl) s.rows.faces) ∙ from-kept f (λ x. at_id id x.live) n (told_ended cmp matching e) (face_in f s.rows.faces) (λ x. refl)
+  live-acted f id (Untell n e) s fit = ap (from_face (λ x. at_id id x.live)) (face-changed f n (told_ended cmp e) (λ x. refl) s.rows.faces) ∙ from-kept f (λ x. at_id id x.live) n (told_ended cmp e) (face_in f s.rows.faces) (λ x. refl)
   live-acted f id (AddHeld n i interest) s fit = ap (from_face (λ x. at_id id x.live)) (face-changed f n (held_added i interest) (λ x. refl) s.rows.faces) ∙ from-kept f (λ x. at_id id x.live) n (held_added i interest) (face_in f s.rows.faces) (λ x. refl)
   live-acted f id (DropHeld n i) s fit = ap (from_face (λ x. at_id id x.live)) (face-changed f n (unheld i) (λ x. refl) s.rows.faces) ∙ from-kept f (λ x. at_id id x.live) n (unheld i) (face_in f s.rows.faces) (λ x. refl)
   live-acted f id (AddLocal n i interest) s fit = ap (from_face (λ x. at_id id x.live)) (face-changed f n (local_added i interest) (λ x. refl) s.rows.faces) ∙ from-kept f (λ x. at_id id x.live) n (local_added i interest) (face_in f s.rows.faces) (λ x. refl)
@@ -76,7 +76,7 @@ module _ {K : Type 0} (cmp : K → K → Ordering) (matching : K → K → Bool)
       ∙ ap (from_face (λ x. at_id id x.live)) changed ∙ from-kept f (λ x. at_id id x.live) n (pending_added i pending) (face_in f s.rows.faces) (λ x. refl)
   live-acted f id (DropPending n i) s fit = ap (from_face (λ x. at_id id x.live)) (face-changed f n (ended i) (λ x. refl) s.rows.faces) ∙ from-kept f (λ x. at_id id x.live) n (ended i) (face_in f s.rows.faces) (λ x. refl)
   live-acted f id (AddAsk n i interest) s fit = ap (from_face (λ x. at_id id x.live)) (face-changed f n (ask_added i interest) (λ x. refl) s.rows.faces) ∙ from-kept f (λ x. at_id id x.live) n (ask_added i interest) (face_in f s.rows.faces) (λ x. refl)
-  live-acted f id (Answered n e) s fit = kept-at_ask (λ x. at_id id x.live) f n (answered_with cmp matching e) (λ i x. refl) (λ i x. refl) s
+  live-acted f id (Answered n e) s fit = kept-at_ask (λ x. at_id id x.live) f n (answered_with cmp e) (λ i x. refl) (λ i x. refl) s
   live-acted f id (DropAsk n) s fit = kept-at_ask (λ x. at_id id x.live) f n ask_dropped (λ i x. refl) (λ i x. refl) s
   live-acted f id (Send n m) s fit = refl
   live-acted f id (SetMoment now) s fit = refl
@@ -84,16 +84,16 @@ module _ {K : Type 0} (cmp : K → K → Ordering) (matching : K → K → Bool)
   live-acted f id (SetEntities n subscribers queryables) s fit = ap (from_face (λ x. at_id id x.live)) (face-changed f n (entities_set subscribers queryables) (λ x. refl) s.rows.faces) ∙ from-kept f (λ x. at_id id x.live) n (entities_set subscribers queryables) (face_in f s.rows.faces) (λ x. refl)
   live-acted f id (Number e) s fit = refl
 
-  pub live-after : (f id : ℕ) (acts : List (Act K)) (s : Store K) → Fit cmp matching acts s
-      → from_face (λ x. at_id id x.live) (find_face f (acted_all cmp matching acts s).rows) ≡ folded (live_step f id) acts (from_face (λ x. at_id id x.live) (find_face f s.rows))
+  pub live-after : (f id : ℕ) (acts : List (Act K)) (s : Store K) → Fit cmp acts s
+      → from_face (λ x. at_id id x.live) (find_face f (acted_all cmp acts s).rows) ≡ folded (live_step f id) acts (from_face (λ x. at_id id x.live) (find_face f s.rows))
   unfolding acted_all Fit
   live-after f id [] s fit = refl
-  live-after f id (act ∷ acts) s fit = live-after f id acts (acted cmp matching act s) fit.1 ∙ ap (folded (live_step f id) acts) (live-acted f id act s fit.0)
+  live-after f id (act ∷ acts) s fit = live-after f id acts (acted cmp act s) fit.1 ∙ ap (folded (live_step f id) acts) (live-acted f id act s fit.0)
 
   -- ---- held
 
-  held-acted : (f id : ℕ) (act : Act K) (s : Store K) → Fits cmp matching act s
-      → from_face (λ x. at_id id x.held) (find_face f (acted cmp matching act s).rows) ≡ held_step f id act (from_face (λ x. at_id id x.held) (find_face f s.rows))
+  held-acted : (f id : ℕ) (act : Act K) (s : Store K) → Fits cmp act s
+      → from_face (λ x. at_id id x.held) (find_face f (acted cmp act s).rows) ≡ held_step f id act (from_face (λ x. at_id id x.held) (find_face f s.rows))
   unfolding acted fits with_face with_routed without_routed
   held-acted f id (OpenFace zid whatami region bound first) s fit = from-opened f (λ x. at_id id x.held) (face_opened zid whatami region bound first s.rows) refl s.rows.faces
   held-acted f id (CloseFace n) s fit = from-closed f (λ x. at_id id x.held) n s.rows.faces
@@ -102,7 +102,7 @@ module _ {K : Type 0} (cmp : K → K → Ordering) (matching : K → K → Bool)
   held-acted f id (AddRouted region source e) s fit = refl
   held-acted f id (DropRouted region source e) s fit = refl
   held-acted f id (Tell n i e) s fit = ap (from_face (λ x. at_id id x.held)) (face-changed f n (told_under i e) (λ x. refl) s.rows.faces) ∙ from-kept f (λ x. at_id id x.held) n (told_under i e) (face_in f s.rows.faces) (λ x. refl)
-  held-acted f id (Untell n e) s fit = ap (from_face (λ x. at_id id x.held)) (face-changed f n (told_ended cmp matching e) (λ x. refl) s.rows.faces) ∙ from-kept f (λ x. at_id id x.held) n (told_ended cmp matching e) (face_in f s.rows.faces) (λ x. refl)
+  held-acted f id (Untell n e) s fit = ap (from_face (λ x. at_id id x.held)) (face-changed f n (told_ended cmp e) (λ x. refl) s.rows.faces) ∙ from-kept f (λ x. at_id id x.held) n (told_ended cmp e) (face_in f s.rows.faces) (λ x. refl)
   held-acted f id (AddHeld n i interest) s fit = ap (from_face (λ x. at_id id x.held)) (face-changed f n (held_added i interest) (λ x. refl) s.rows.faces) ∙ from-added f (λ x. x.held) id n i interest (held_added i interest) (face_in f s.rows.faces) (λ x. refl) (there-where n f _ s.rows.faces fit)
   held-acted f id (DropHeld n i) s fit = ap (from_face (λ x. at_id id x.held)) (face-changed f n (unheld i) (λ x. refl) s.rows.faces) ∙ from-dropped f (λ x. x.held) id n i (unheld i) (face_in f s.rows.faces) (λ x. refl)
   held-acted f id (AddLocal n i interest) s fit = ap (from_face (λ x. at_id id x.held)) (face-changed f n (local_added i interest) (λ x. refl) s.rows.faces) ∙ from-kept f (λ x. at_id id x.held) n (local_added i interest) (face_in f s.rows.faces) (λ x. refl)
@@ -116,7 +116,7 @@ module _ {K : Type 0} (cmp : K → K → Ordering) (matching : K → K → Bool)
       ∙ ap (from_face (λ x. at_id id x.held)) changed ∙ from-kept f (λ x. at_id id x.held) n (pending_added i pending) (face_in f s.rows.faces) (λ x. refl)
   held-acted f id (DropPending n i) s fit = ap (from_face (λ x. at_id id x.held)) (face-changed f n (ended i) (λ x. refl) s.rows.faces) ∙ from-kept f (λ x. at_id id x.held) n (ended i) (face_in f s.rows.faces) (λ x. refl)
   held-acted f id (AddAsk n i interest) s fit = ap (from_face (λ x. at_id id x.held)) (face-changed f n (ask_added i interest) (λ x. refl) s.rows.faces) ∙ from-kept f (λ x. at_id id x.held) n (ask_added i interest) (face_in f s.rows.faces) (λ x. refl)
-  held-acted f id (Answered n e) s fit = kept-at_ask (λ x. at_id id x.held) f n (answered_with cmp matching e) (λ i x. refl) (λ i x. refl) s
+  held-acted f id (Answered n e) s fit = kept-at_ask (λ x. at_id id x.held) f n (answered_with cmp e) (λ i x. refl) (λ i x. refl) s
   held-acted f id (DropAsk n) s fit = kept-at_ask (λ x. at_id id x.held) f n ask_dropped (λ i x. refl) (λ i x. refl) s
   held-acted f id (Send n m) s fit = refl
   held-acted f id (SetMoment now) s fit = refl
@@ -124,16 +124,16 @@ module _ {K : Type 0} (cmp : K → K → Ordering) (matching : K → K → Bool)
   held-acted f id (SetEntities n subscribers queryables) s fit = ap (from_face (λ x. at_id id x.held)) (face-changed f n (entities_set subscribers queryables) (λ x. refl) s.rows.faces) ∙ from-kept f (λ x. at_id id x.held) n (entities_set subscribers queryables) (face_in f s.rows.faces) (λ x. refl)
   held-acted f id (Number e) s fit = refl
 
-  pub held-after : (f id : ℕ) (acts : List (Act K)) (s : Store K) → Fit cmp matching acts s
-      → from_face (λ x. at_id id x.held) (find_face f (acted_all cmp matching acts s).rows) ≡ folded (held_step f id) acts (from_face (λ x. at_id id x.held) (find_face f s.rows))
+  pub held-after : (f id : ℕ) (acts : List (Act K)) (s : Store K) → Fit cmp acts s
+      → from_face (λ x. at_id id x.held) (find_face f (acted_all cmp acts s).rows) ≡ folded (held_step f id) acts (from_face (λ x. at_id id x.held) (find_face f s.rows))
   unfolding acted_all Fit
   held-after f id [] s fit = refl
-  held-after f id (act ∷ acts) s fit = held-after f id acts (acted cmp matching act s) fit.1 ∙ ap (folded (held_step f id) acts) (held-acted f id act s fit.0)
+  held-after f id (act ∷ acts) s fit = held-after f id acts (acted cmp act s) fit.1 ∙ ap (folded (held_step f id) acts) (held-acted f id act s fit.0)
 
   -- ---- locals
 
-  locals-acted : (f id : ℕ) (act : Act K) (s : Store K) → Fits cmp matching act s
-      → from_face (λ x. at_id id x.locals) (find_face f (acted cmp matching act s).rows) ≡ locals_step f id act (from_face (λ x. at_id id x.locals) (find_face f s.rows))
+  locals-acted : (f id : ℕ) (act : Act K) (s : Store K) → Fits cmp act s
+      → from_face (λ x. at_id id x.locals) (find_face f (acted cmp act s).rows) ≡ locals_step f id act (from_face (λ x. at_id id x.locals) (find_face f s.rows))
   unfolding acted fits with_face with_routed without_routed
   locals-acted f id (OpenFace zid whatami region bound first) s fit = from-opened f (λ x. at_id id x.locals) (face_opened zid whatami region bound first s.rows) refl s.rows.faces
   locals-acted f id (CloseFace n) s fit = from-closed f (λ x. at_id id x.locals) n s.rows.faces
@@ -142,7 +142,7 @@ module _ {K : Type 0} (cmp : K → K → Ordering) (matching : K → K → Bool)
   locals-acted f id (AddRouted region source e) s fit = refl
   locals-acted f id (DropRouted region source e) s fit = refl
   locals-acted f id (Tell n i e) s fit = ap (from_face (λ x. at_id id x.locals)) (face-changed f n (told_under i e) (λ x. refl) s.rows.faces) ∙ from-kept f (λ x. at_id id x.locals) n (told_under i e) (face_in f s.rows.faces) (λ x. refl)
-  locals-acted f id (Untell n e) s fit = ap (from_face (λ x. at_id id x.locals)) (face-changed f n (told_ended cmp matching e) (λ x. refl) s.rows.faces) ∙ from-kept f (λ x. at_id id x.locals) n (told_ended cmp matching e) (face_in f s.rows.faces) (λ x. refl)
+  locals-acted f id (Untell n e) s fit = ap (from_face (λ x. at_id id x.locals)) (face-changed f n (told_ended cmp e) (λ x. refl) s.rows.faces) ∙ from-kept f (λ x. at_id id x.locals) n (told_ended cmp e) (face_in f s.rows.faces) (λ x. refl)
   locals-acted f id (AddHeld n i interest) s fit = ap (from_face (λ x. at_id id x.locals)) (face-changed f n (held_added i interest) (λ x. refl) s.rows.faces) ∙ from-kept f (λ x. at_id id x.locals) n (held_added i interest) (face_in f s.rows.faces) (λ x. refl)
   locals-acted f id (DropHeld n i) s fit = ap (from_face (λ x. at_id id x.locals)) (face-changed f n (unheld i) (λ x. refl) s.rows.faces) ∙ from-kept f (λ x. at_id id x.locals) n (unheld i) (face_in f s.rows.faces) (λ x. refl)
   locals-acted f id (AddLocal n i interest) s fit = ap (from_face (λ x. at_id id x.locals)) (face-changed f n (local_added i interest) (λ x. refl) s.rows.faces) ∙ from-added f (λ x. x.locals) id n i interest (local_added i interest) (face_in f s.rows.faces) (λ x. refl) (there-where n f _ s.rows.faces fit)
@@ -156,7 +156,7 @@ module _ {K : Type 0} (cmp : K → K → Ordering) (matching : K → K → Bool)
       ∙ ap (from_face (λ x. at_id id x.locals)) changed ∙ from-kept f (λ x. at_id id x.locals) n (pending_added i pending) (face_in f s.rows.faces) (λ x. refl)
   locals-acted f id (DropPending n i) s fit = ap (from_face (λ x. at_id id x.locals)) (face-changed f n (ended i) (λ x. refl) s.rows.faces) ∙ from-kept f (λ x. at_id id x.locals) n (ended i) (face_in f s.rows.faces) (λ x. refl)
   locals-acted f id (AddAsk n i interest) s fit = ap (from_face (λ x. at_id id x.locals)) (face-changed f n (ask_added i interest) (λ x. refl) s.rows.faces) ∙ from-kept f (λ x. at_id id x.locals) n (ask_added i interest) (face_in f s.rows.faces) (λ x. refl)
-  locals-acted f id (Answered n e) s fit = kept-at_ask (λ x. at_id id x.locals) f n (answered_with cmp matching e) (λ i x. refl) (λ i x. refl) s
+  locals-acted f id (Answered n e) s fit = kept-at_ask (λ x. at_id id x.locals) f n (answered_with cmp e) (λ i x. refl) (λ i x. refl) s
   locals-acted f id (DropAsk n) s fit = kept-at_ask (λ x. at_id id x.locals) f n ask_dropped (λ i x. refl) (λ i x. refl) s
   locals-acted f id (Send n m) s fit = refl
   locals-acted f id (SetMoment now) s fit = refl
@@ -164,16 +164,16 @@ module _ {K : Type 0} (cmp : K → K → Ordering) (matching : K → K → Bool)
   locals-acted f id (SetEntities n subscribers queryables) s fit = ap (from_face (λ x. at_id id x.locals)) (face-changed f n (entities_set subscribers queryables) (λ x. refl) s.rows.faces) ∙ from-kept f (λ x. at_id id x.locals) n (entities_set subscribers queryables) (face_in f s.rows.faces) (λ x. refl)
   locals-acted f id (Number e) s fit = refl
 
-  pub locals-after : (f id : ℕ) (acts : List (Act K)) (s : Store K) → Fit cmp matching acts s
-      → from_face (λ x. at_id id x.locals) (find_face f (acted_all cmp matching acts s).rows) ≡ folded (locals_step f id) acts (from_face (λ x. at_id id x.locals) (find_face f s.rows))
+  pub locals-after : (f id : ℕ) (acts : List (Act K)) (s : Store K) → Fit cmp acts s
+      → from_face (λ x. at_id id x.locals) (find_face f (acted_all cmp acts s).rows) ≡ folded (locals_step f id) acts (from_face (λ x. at_id id x.locals) (find_face f s.rows))
   unfolding acted_all Fit
   locals-after f id [] s fit = refl
-  locals-after f id (act ∷ acts) s fit = locals-after f id acts (acted cmp matching act s) fit.1 ∙ ap (folded (locals_step f id) acts) (locals-acted f id act s fit.0)
+  locals-after f id (act ∷ acts) s fit = locals-after f id acts (acted cmp act s) fit.1 ∙ ap (folded (locals_step f id) acts) (locals-acted f id act s fit.0)
 
   -- ---- pendings
 
-  pendings-acted : (f id : ℕ) (act : Act K) (s : Store K) → Fits cmp matching act s
-      → from_face (λ x. at_id id x.pendings) (find_face f (acted cmp matching act s).rows) ≡ pendings_step f id act (from_face (λ x. at_id id x.pendings) (find_face f s.rows))
+  pendings-acted : (f id : ℕ) (act : Act K) (s : Store K) → Fits cmp act s
+      → from_face (λ x. at_id id x.pendings) (find_face f (acted cmp act s).rows) ≡ pendings_step f id act (from_face (λ x. at_id id x.pendings) (find_face f s.rows))
   unfolding acted fits with_face with_routed without_routed
   pendings-acted f id (OpenFace zid whatami region bound first) s fit = from-opened f (λ x. at_id id x.pendings) (face_opened zid whatami region bound first s.rows) refl s.rows.faces
   pendings-acted f id (CloseFace n) s fit = from-closed f (λ x. at_id id x.pendings) n s.rows.faces
@@ -182,7 +182,7 @@ module _ {K : Type 0} (cmp : K → K → Ordering) (matching : K → K → Bool)
   pendings-acted f id (AddRouted region source e) s fit = refl
   pendings-acted f id (DropRouted region source e) s fit = refl
   pendings-acted f id (Tell n i e) s fit = ap (from_face (λ x. at_id id x.pendings)) (face-changed f n (told_under i e) (λ x. refl) s.rows.faces) ∙ from-kept f (λ x. at_id id x.pendings) n (told_under i e) (face_in f s.rows.faces) (λ x. refl)
-  pendings-acted f id (Untell n e) s fit = ap (from_face (λ x. at_id id x.pendings)) (face-changed f n (told_ended cmp matching e) (λ x. refl) s.rows.faces) ∙ from-kept f (λ x. at_id id x.pendings) n (told_ended cmp matching e) (face_in f s.rows.faces) (λ x. refl)
+  pendings-acted f id (Untell n e) s fit = ap (from_face (λ x. at_id id x.pendings)) (face-changed f n (told_ended cmp e) (λ x. refl) s.rows.faces) ∙ from-kept f (λ x. at_id id x.pendings) n (told_ended cmp e) (face_in f s.rows.faces) (λ x. refl)
   pendings-acted f id (AddHeld n i interest) s fit = ap (from_face (λ x. at_id id x.pendings)) (face-changed f n (held_added i interest) (λ x. refl) s.rows.faces) ∙ from-kept f (λ x. at_id id x.pendings) n (held_added i interest) (face_in f s.rows.faces) (λ x. refl)
   pendings-acted f id (DropHeld n i) s fit = ap (from_face (λ x. at_id id x.pendings)) (face-changed f n (unheld i) (λ x. refl) s.rows.faces) ∙ from-kept f (λ x. at_id id x.pendings) n (unheld i) (face_in f s.rows.faces) (λ x. refl)
   pendings-acted f id (AddLocal n i interest) s fit = ap (from_face (λ x. at_id id x.pendings)) (face-changed f n (local_added i interest) (λ x. refl) s.rows.faces) ∙ from-kept f (λ x. at_id id x.pendings) n (local_added i interest) (face_in f s.rows.faces) (λ x. refl)
@@ -196,7 +196,7 @@ module _ {K : Type 0} (cmp : K → K → Ordering) (matching : K → K → Bool)
       ∙ ap (from_face (λ x. at_id id x.pendings)) changed ∙ from-added f (λ x. x.pendings) id n i pending (pending_added i pending) (face_in f s.rows.faces) (λ x. refl) (there-where n f _ s.rows.faces (and_first _ _ fit))
   pendings-acted f id (DropPending n i) s fit = ap (from_face (λ x. at_id id x.pendings)) (face-changed f n (ended i) (λ x. refl) s.rows.faces) ∙ from-dropped f (λ x. x.pendings) id n i (ended i) (face_in f s.rows.faces) (λ x. refl)
   pendings-acted f id (AddAsk n i interest) s fit = ap (from_face (λ x. at_id id x.pendings)) (face-changed f n (ask_added i interest) (λ x. refl) s.rows.faces) ∙ from-kept f (λ x. at_id id x.pendings) n (ask_added i interest) (face_in f s.rows.faces) (λ x. refl)
-  pendings-acted f id (Answered n e) s fit = kept-at_ask (λ x. at_id id x.pendings) f n (answered_with cmp matching e) (λ i x. refl) (λ i x. refl) s
+  pendings-acted f id (Answered n e) s fit = kept-at_ask (λ x. at_id id x.pendings) f n (answered_with cmp e) (λ i x. refl) (λ i x. refl) s
   pendings-acted f id (DropAsk n) s fit = kept-at_ask (λ x. at_id id x.pendings) f n ask_dropped (λ i x. refl) (λ i x. refl) s
   pendings-acted f id (Send n m) s fit = refl
   pendings-acted f id (SetMoment now) s fit = refl
@@ -204,8 +204,8 @@ module _ {K : Type 0} (cmp : K → K → Ordering) (matching : K → K → Bool)
   pendings-acted f id (SetEntities n subscribers queryables) s fit = ap (from_face (λ x. at_id id x.pendings)) (face-changed f n (entities_set subscribers queryables) (λ x. refl) s.rows.faces) ∙ from-kept f (λ x. at_id id x.pendings) n (entities_set subscribers queryables) (face_in f s.rows.faces) (λ x. refl)
   pendings-acted f id (Number e) s fit = refl
 
-  pub pendings-after : (f id : ℕ) (acts : List (Act K)) (s : Store K) → Fit cmp matching acts s
-      → from_face (λ x. at_id id x.pendings) (find_face f (acted_all cmp matching acts s).rows) ≡ folded (pendings_step f id) acts (from_face (λ x. at_id id x.pendings) (find_face f s.rows))
+  pub pendings-after : (f id : ℕ) (acts : List (Act K)) (s : Store K) → Fit cmp acts s
+      → from_face (λ x. at_id id x.pendings) (find_face f (acted_all cmp acts s).rows) ≡ folded (pendings_step f id) acts (from_face (λ x. at_id id x.pendings) (find_face f s.rows))
   unfolding acted_all Fit
   pendings-after f id [] s fit = refl
-  pendings-after f id (act ∷ acts) s fit = pendings-after f id acts (acted cmp matching act s) fit.1 ∙ ap (folded (pendings_step f id) acts) (pendings-acted f id act s fit.0)
+  pendings-after f id (act ∷ acts) s fit = pendings-after f id acts (acted cmp act s) fit.1 ∙ ap (folded (pendings_step f id) acts) (pendings-acted f id act s fit.0)

@@ -101,9 +101,9 @@ module _ {K : Type 0} (cmp : K → K → Ordering) (matching : K → K → Bool)
   act-keeps (SetEntities n subscribers queryables) s = λ x h. record { told = h.told; locals = h.locals; pendings = h.pendings }
   act-keeps _ s = λ x h. h
 
-  pub ids-after : (f : ℕ) (acts : List (Act K)) (s : Store K) → IfSome (find_face f s.rows) AreIdsBelow → IfSome (find_face f (acted_all cmp matching acts s).rows) AreIdsBelow
+  pub ids-after : (f : ℕ) (acts : List (Act K)) (s : Store K) → IfSome (find_face f s.rows) AreIdsBelow → IfSome (find_face f (acted_all cmp acts s).rows) AreIdsBelow
   unfolding acted_all
   ids-after f [] s h = h
   ids-after f (act ∷ acts) s h =
-      ids-after f acts (acted cmp matching act s)
+      ids-after f acts (acted cmp act s)
       (subst (λ face. IfSome face AreIdsBelow) (sym (face-acted cmp matching f act s)) (touched-ids f (touch cmp matching act s) (act-keeps act s) (find_face f s.rows) h))

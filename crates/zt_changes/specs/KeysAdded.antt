@@ -49,9 +49,9 @@ module _ {K : Type 0} (cmp : K → K → Ordering) where
     told-added (CloseFace n ∷ acts) found keys h there = told-added acts (if n == f then None else found) keys (λ t. h (ended-step (n == f) found t)) there
     told-added (_ ∷ acts) found keys h there = told-added acts found keys h there
 
-    pub told-given : IsTotalOrder cmp → (acts : List (Act K)) (s : Store K) → Fit cmp matching acts s
-        → is_among cmp e (keys_by_id (list_of_face (λ x. x.told) (find_face f (acted_all cmp matching acts s).rows))) ≡ true
+    pub told-given : IsTotalOrder cmp → (acts : List (Act K)) (s : Store K) → Fit cmp acts s
+        → is_among cmp e (keys_by_id (list_of_face (λ x. x.told) (find_face f (acted_all cmp acts s).rows))) ≡ true
         → is_among cmp e (given_on (map (told_key f) acts) (keys_by_id (list_of_face (λ x. x.told) (find_face f s.rows)))) ≡ true
     told-given o acts s fit there =
         told-added acts (from_face (λ x. told_id cmp e x.told) (find_face f s.rows)) _ (λ t. sym (told-among e (find_face f s.rows)) ∙ t)
-        (ap is_some (sym (told-after cmp matching o f e acts s fit)) ∙ told-among e (find_face f (acted_all cmp matching acts s).rows) ∙ there)
+        (ap is_some (sym (told-after cmp matching o f e acts s fit)) ∙ told-among e (find_face f (acted_all cmp acts s).rows) ∙ there)

@@ -97,25 +97,25 @@ kind-comes Local f after acts s c = gives-comes (λ x. x.locals) (locals_edit f)
 kind-comes Pending f after acts s c = gives-comes (λ x. x.pendings) (pendings_edit f) after acts (find_face f s.rows) c
 
 module _ {K : Type 0} (cmp : K → K → Ordering) (matching : K → K → Bool) where
-  pub kind-none : (kind : RowKind) (f : ℕ) (after : Option ℕ) (acts : List (Act K)) (s : Store K) → IsInOrder (find_face f s.rows) → Fit cmp matching acts s
-      → candidate_of kind f after acts s ≡ None → from_face (next_of kind after) (find_face f (acted_all cmp matching acts s).rows) ≡ None
-  kind-none Live f after acts s h fit = gives-none (λ x. x.live) (live_edit f) after acts (find_face f s.rows) (find_face f (acted_all cmp matching acts s).rows) (live-edited cmp matching f acts s fit) h.live
-  kind-none Held f after acts s h fit = gives-none (λ x. x.held) (held_edit f) after acts (find_face f s.rows) (find_face f (acted_all cmp matching acts s).rows) (held-edited cmp matching f acts s fit) h.held
-  kind-none Local f after acts s h fit = gives-none (λ x. x.locals) (locals_edit f) after acts (find_face f s.rows) (find_face f (acted_all cmp matching acts s).rows) (locals-edited cmp matching f acts s fit) h.locals
-  kind-none Pending f after acts s h fit = gives-none (λ x. x.pendings) (pendings_edit f) after acts (find_face f s.rows) (find_face f (acted_all cmp matching acts s).rows) (pendings-edited cmp matching f acts s fit) h.pendings
+  pub kind-none : (kind : RowKind) (f : ℕ) (after : Option ℕ) (acts : List (Act K)) (s : Store K) → IsInOrder (find_face f s.rows) → Fit cmp acts s
+      → candidate_of kind f after acts s ≡ None → from_face (next_of kind after) (find_face f (acted_all cmp acts s).rows) ≡ None
+  kind-none Live f after acts s h fit = gives-none (λ x. x.live) (live_edit f) after acts (find_face f s.rows) (find_face f (acted_all cmp acts s).rows) (live-edited cmp matching f acts s fit) h.live
+  kind-none Held f after acts s h fit = gives-none (λ x. x.held) (held_edit f) after acts (find_face f s.rows) (find_face f (acted_all cmp acts s).rows) (held-edited cmp matching f acts s fit) h.held
+  kind-none Local f after acts s h fit = gives-none (λ x. x.locals) (locals_edit f) after acts (find_face f s.rows) (find_face f (acted_all cmp acts s).rows) (locals-edited cmp matching f acts s fit) h.locals
+  kind-none Pending f after acts s h fit = gives-none (λ x. x.pendings) (pendings_edit f) after acts (find_face f s.rows) (find_face f (acted_all cmp acts s).rows) (pendings-edited cmp matching f acts s fit) h.pendings
 
-  pub kind-stands : (kind : RowKind) (f : ℕ) (after : Option ℕ) (acts : List (Act K)) (s : Store K) → IsInOrder (find_face f s.rows) → Fit cmp matching acts s
-      → (c : ℕ) → candidate_of kind f after acts s ≡ Some c → is_some_and (find_face f (acted_all cmp matching acts s).rows) (stands_under kind c) ≡ true
-      → from_face (next_of kind after) (find_face f (acted_all cmp matching acts s).rows) ≡ Some c
-  kind-stands Live f after acts s h fit = gives-stands (λ x. x.live) (live_edit f) after acts (find_face f s.rows) (find_face f (acted_all cmp matching acts s).rows) (live-edited cmp matching f acts s fit) h.live
-  kind-stands Held f after acts s h fit = gives-stands (λ x. x.held) (held_edit f) after acts (find_face f s.rows) (find_face f (acted_all cmp matching acts s).rows) (held-edited cmp matching f acts s fit) h.held
-  kind-stands Local f after acts s h fit = gives-stands (λ x. x.locals) (locals_edit f) after acts (find_face f s.rows) (find_face f (acted_all cmp matching acts s).rows) (locals-edited cmp matching f acts s fit) h.locals
-  kind-stands Pending f after acts s h fit = gives-stands (λ x. x.pendings) (pendings_edit f) after acts (find_face f s.rows) (find_face f (acted_all cmp matching acts s).rows) (pendings-edited cmp matching f acts s fit) h.pendings
+  pub kind-stands : (kind : RowKind) (f : ℕ) (after : Option ℕ) (acts : List (Act K)) (s : Store K) → IsInOrder (find_face f s.rows) → Fit cmp acts s
+      → (c : ℕ) → candidate_of kind f after acts s ≡ Some c → is_some_and (find_face f (acted_all cmp acts s).rows) (stands_under kind c) ≡ true
+      → from_face (next_of kind after) (find_face f (acted_all cmp acts s).rows) ≡ Some c
+  kind-stands Live f after acts s h fit = gives-stands (λ x. x.live) (live_edit f) after acts (find_face f s.rows) (find_face f (acted_all cmp acts s).rows) (live-edited cmp matching f acts s fit) h.live
+  kind-stands Held f after acts s h fit = gives-stands (λ x. x.held) (held_edit f) after acts (find_face f s.rows) (find_face f (acted_all cmp acts s).rows) (held-edited cmp matching f acts s fit) h.held
+  kind-stands Local f after acts s h fit = gives-stands (λ x. x.locals) (locals_edit f) after acts (find_face f s.rows) (find_face f (acted_all cmp acts s).rows) (locals-edited cmp matching f acts s fit) h.locals
+  kind-stands Pending f after acts s h fit = gives-stands (λ x. x.pendings) (pendings_edit f) after acts (find_face f s.rows) (find_face f (acted_all cmp acts s).rows) (pendings-edited cmp matching f acts s fit) h.pendings
 
-  pub kind-gone : (kind : RowKind) (f : ℕ) (after : Option ℕ) (acts : List (Act K)) (s : Store K) → IsInOrder (find_face f s.rows) → Fit cmp matching acts s
-      → (c : ℕ) → candidate_of kind f after acts s ≡ Some c → is_some_and (find_face f (acted_all cmp matching acts s).rows) (stands_under kind c) ≡ false
-      → from_face (next_of kind after) (find_face f (acted_all cmp matching acts s).rows) ≡ from_face (next_of kind (Some c)) (find_face f (acted_all cmp matching acts s).rows)
-  kind-gone Live f after acts s h fit = gives-gone (λ x. x.live) (live_edit f) after acts (find_face f s.rows) (find_face f (acted_all cmp matching acts s).rows) (live-edited cmp matching f acts s fit) h.live
-  kind-gone Held f after acts s h fit = gives-gone (λ x. x.held) (held_edit f) after acts (find_face f s.rows) (find_face f (acted_all cmp matching acts s).rows) (held-edited cmp matching f acts s fit) h.held
-  kind-gone Local f after acts s h fit = gives-gone (λ x. x.locals) (locals_edit f) after acts (find_face f s.rows) (find_face f (acted_all cmp matching acts s).rows) (locals-edited cmp matching f acts s fit) h.locals
-  kind-gone Pending f after acts s h fit = gives-gone (λ x. x.pendings) (pendings_edit f) after acts (find_face f s.rows) (find_face f (acted_all cmp matching acts s).rows) (pendings-edited cmp matching f acts s fit) h.pendings
+  pub kind-gone : (kind : RowKind) (f : ℕ) (after : Option ℕ) (acts : List (Act K)) (s : Store K) → IsInOrder (find_face f s.rows) → Fit cmp acts s
+      → (c : ℕ) → candidate_of kind f after acts s ≡ Some c → is_some_and (find_face f (acted_all cmp acts s).rows) (stands_under kind c) ≡ false
+      → from_face (next_of kind after) (find_face f (acted_all cmp acts s).rows) ≡ from_face (next_of kind (Some c)) (find_face f (acted_all cmp acts s).rows)
+  kind-gone Live f after acts s h fit = gives-gone (λ x. x.live) (live_edit f) after acts (find_face f s.rows) (find_face f (acted_all cmp acts s).rows) (live-edited cmp matching f acts s fit) h.live
+  kind-gone Held f after acts s h fit = gives-gone (λ x. x.held) (held_edit f) after acts (find_face f s.rows) (find_face f (acted_all cmp acts s).rows) (held-edited cmp matching f acts s fit) h.held
+  kind-gone Local f after acts s h fit = gives-gone (λ x. x.locals) (locals_edit f) after acts (find_face f s.rows) (find_face f (acted_all cmp acts s).rows) (locals-edited cmp matching f acts s fit) h.locals
+  kind-gone Pending f after acts s h fit = gives-gone (λ x. x.pendings) (pendings_edit f) after acts (find_face f s.rows) (find_face f (acted_all cmp acts s).rows) (pendings-edited cmp matching f acts s fit) h.pendings

@@ -28,7 +28,7 @@ use Rattle.zt_changes.specs.Weights.{declared, given_at, is_tested, is_token, su
 -- the rows stand in order among which one is dropped: the tokens of its face, or the rows of router regions
 abbrev pub IsInOrderAt : {K : Type 0} → (K → K → Ordering) → (K → K → Bool) → Act K → Store K → Type 0
 IsInOrderAt cmp matching (DropLive n id) s = is_sorted nat_cmp (list_of_face (λ x. x.live) (find_face n s.rows)) ≡ true
-IsInOrderAt cmp matching (DropRouted region source e) s = AreRising (routed_order cmp matching) s.rows.routed
+IsInOrderAt cmp matching (DropRouted region source e) s = AreRising (routed_order cmp) s.rows.routed
 IsInOrderAt cmp matching _ s = ⊤
 
 module _ {K : Type 0} (cmp : K → K → Ordering) (e : K) (test : Region → Bool) where
@@ -87,7 +87,7 @@ module _ {K : Type 0} (cmp : K → K → Ordering) (e : K) (test : Region → Bo
   face-closed (Some x) = refl
 
   module _ (matching : K → K → Bool) where
-    declared-touched : (act : Act K) (s : Store K) → Fits cmp matching act s → IsOrderly s → IsInOrderAt cmp matching act s
+    declared-touched : (act : Act K) (s : Store K) → Fits cmp act s → IsOrderly s → IsInOrderAt cmp matching act s
         → declared cmp e test (touched_all (touch cmp matching act s) s.rows.faces) + live_taken act s ≡ declared cmp e test s.rows.faces + live_added act s
     unfolding fits
     declared-touched (OpenFace zid whatami region bound first) s fit h ordered =
@@ -111,8 +111,8 @@ module _ {K : Type 0} (cmp : K → K → Ordering) (e : K) (test : Region → Bo
         ap (λ m. m + 0) (tokens-kept (touch cmp matching (AddPending n id ask pending) s) (λ i x. (refl, refl)) s.rows.faces)
     declared-touched act s fit h ordered = ap (λ m. m + 0) (tokens-kept (touch cmp matching act s) (λ i x. refl) s.rows.faces)
 
-    pub declared-acted : (act : Act K) (s : Store K) → Fits cmp matching act s → IsOrderly s → IsInOrderAt cmp matching act s
-        → declared cmp e test (acted cmp matching act s).rows.faces + live_taken act s ≡ declared cmp e test s.rows.faces + live_added act s
+    pub declared-acted : (act : Act K) (s : Store K) → Fits cmp act s → IsOrderly s → IsInOrderAt cmp matching act s
+        → declared cmp e test (acted cmp act s).rows.faces + live_taken act s ≡ declared cmp e test s.rows.faces + live_added act s
     declared-acted act s fit h ordered = ap (λ faces. declared cmp e test faces + live_taken act s) (faces-acted cmp matching act s) ∙ declared-touched act s fit h ordered
 
     -- an act that neither adds nor takes live rows, of faces or of other routers
@@ -138,26 +138,26 @@ module _ {K : Type 0} (cmp : K → K → Ordering) (e : K) (test : Region → Bo
     silent-touched (AddPending n id ask pending) s silent = tokens-kept (touch cmp matching (AddPending n id ask pending) s) (λ i x. (refl, refl)) s.rows.faces
     silent-touched act s silent = tokens-kept (touch cmp matching act s) (λ i x. refl) s.rows.faces
 
-    pub declared-silent : (act : Act K) (s : Store K) → is_silent act ≡ true → declared cmp e test (acted cmp matching act s).rows.faces ≡ declared cmp e test s.rows.faces
+    pub declared-silent : (act : Act K) (s : Store K) → is_silent act ≡ true → declared cmp e test (acted cmp act s).rows.faces ≡ declared cmp e test s.rows.faces
     declared-silent act s silent = ap (declared cmp e test) (faces-acted cmp matching act s) ∙ silent-touched act s silent
 
 -- ---- one act more of a list
 pub record IsNext {K : Type 0} (cmp : K → K → Ordering) (matching : K → K → Bool) (before : List (Act K)) (act : Act K) (more : List (Act K)) (s : Store K) : Type 0 where
-  pub fit : Fit cmp matching before s
-  pub fits : Fits cmp matching act (acted_all cmp matching before s)
-  pub next : acted_all cmp matching more s ≡ acted cmp matching act (acted_all cmp matching before s)
+  pub fit : Fit cmp before s
+  pub fits : Fits cmp act (acted_all cmp before s)
+  pub next : acted_all cmp more s ≡ acted cmp act (acted_all cmp before s)
 
 module _ {X K : Type 0} (cmp : K → K → Ordering) (matching : K → K → Bool) (h : X → Act K) where
-  next-from : (xs : List X) (i : ℕ) (d : X) (s : Store K) → i < length xs → Fit cmp matching (map h xs) s
+  next-from : (xs : List X) (i : ℕ) (d : X) (s : Store K) → i < length xs → Fit cmp (map h xs) s
       → IsNext cmp matching (map h (take i xs)) (h (get_or xs i d)) (map h (take (suc i) xs)) s
   unfolding acted_all Fit
   next-from [] i d s less fit = absurd (omega arith)
   next-from (x ∷ xs) zero d s less fit = record { fit = tt; fits = fit.0; next = refl }
   next-from (x ∷ xs) (suc i) d s less fit =
-      let rest = next-from xs i d (acted cmp matching (h x) s) (omega arith) fit.1 in
+      let rest = next-from xs i d (acted cmp (h x) s) (omega arith) fit.1 in
       record { fit = (fit.0, rest.fit); fits = rest.fits; next = rest.next }
 
-  pub next-act : (xs : List X) (i : ℕ) (d : X) (s : Store K) → i < length xs → Fit cmp matching (map h xs) s
+  pub next-act : (xs : List X) (i : ℕ) (d : X) (s : Store K) → i < length xs → Fit cmp (map h xs) s
       → IsNext cmp matching (map h (take i xs)) (h (get_or xs i d)) (map h (take (i + 1) xs)) s
   next-act xs i d s less fit = rw add-one (next-from xs i d s less fit)
 

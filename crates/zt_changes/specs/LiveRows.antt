@@ -151,15 +151,15 @@ module _ {K : Type 0} (cmp : K → K → Ordering) (e : K) (test : Region → Bo
   module _ (matching : K → K → Bool) where
     -- ---- rows of other routers: how many an act adds, and how many it takes
     abbrev pub routed_added : Act K → Store K → ℕ
-    routed_added (AddRouted r z k) s = one_where (is_live_row s.rows.zid (row_at cmp matching r z k))
+    routed_added (AddRouted r z k) s = one_where (is_live_row s.rows.zid (row_at cmp r z k))
     routed_added _ s = 0
 
     abbrev pub routed_taken : Act K → Store K → ℕ
-    routed_taken (DropRouted r z k) s = one_where (is_live_row s.rows.zid (row_at cmp matching r z k))
+    routed_taken (DropRouted r z k) s = one_where (is_live_row s.rows.zid (row_at cmp r z k))
     routed_taken _ s = 0
 
     -- rows of one name are live alike
-    tied-alike : IsTotalOrder cmp → (own : Zid) (r : Region) (z : Zid) (k : K) (row : RoutedRow K) → is_routed_row cmp matching (row_at cmp matching r z k) row ≡ true → is_live_row own row ≡ is_live_row own (row_at cmp matching r z k)
+    tied-alike : IsTotalOrder cmp → (own : Zid) (r : Region) (z : Zid) (k : K) (row : RoutedRow K) → is_routed_row cmp (row_at cmp r z k) row ≡ true → is_live_row own row ≡ is_live_row own (row_at cmp r z k)
     tied-alike o own r z k row t =
         let equal = eq_by_cmp_equiv o in
         let named = sym (named-row cmp matching r z k row.region row.source row.expr) ∙ t in
@@ -172,41 +172,41 @@ module _ {K : Type 0} (cmp : K → K → Ordering) (e : K) (test : Region → Bo
     at_ask-counted : (n : ℕ) (change : ℕ → Face K → Face K) (s : Store K) → routed_count (at_ask n change s).rows.zid (at_ask n change s).rows.routed ≡ routed_count s.rows.zid s.rows.routed
     at_ask-counted n change s = λ i. routed_count (zid-at_ask n change s i) (routed-at_ask n change s i)
 
-    routed-acted : IsTotalOrder cmp → (act : Act K) (s : Store K) → Fits cmp matching act s → IsInOrderAt cmp matching act s
-        → routed_count (acted cmp matching act s).rows.zid (acted cmp matching act s).rows.routed + routed_taken act s ≡ routed_count s.rows.zid s.rows.routed + routed_added act s
+    routed-acted : IsTotalOrder cmp → (act : Act K) (s : Store K) → Fits cmp act s → IsInOrderAt cmp matching act s
+        → routed_count (acted cmp act s).rows.zid (acted cmp act s).rows.routed + routed_taken act s ≡ routed_count s.rows.zid s.rows.routed + routed_added act s
     unfolding acted fits with_face with_routed without_routed
     routed-acted o (AddRouted r z k) s fit ordered =
-        let more = count-put (is_live_row s.rows.zid) (routed_order cmp matching) (row_at cmp matching r z k) s.rows.routed (not-true _ (and_second _ _ fit)) in
+        let more = count-put (is_live_row s.rows.zid) (routed_order cmp) (row_at cmp r z k) s.rows.routed (not-true _ (and_second _ _ fit)) in
         omega (arith, more)
     routed-acted o (DropRouted r z k) s fit ordered =
-        let less = count-without (is_live_row s.rows.zid) (routed_order cmp matching) (row_at cmp matching r z k) (routed_total cmp matching o) (tied-alike o s.rows.zid r z k) s.rows.routed ordered (and_second _ _ fit) in
+        let less = count-without (is_live_row s.rows.zid) (routed_order cmp) (row_at cmp r z k) (routed_total cmp matching o) (tied-alike o s.rows.zid r z k) s.rows.routed ordered (and_second _ _ fit) in
         omega (arith, less)
-    routed-acted o (Answered n k) s fit ordered = ap (λ m. m + 0) (at_ask-counted n (answered_with cmp matching k) s)
+    routed-acted o (Answered n k) s fit ordered = ap (λ m. m + 0) (at_ask-counted n (answered_with cmp k) s)
     routed-acted o (DropAsk n) s fit ordered = ap (λ m. m + 0) (at_ask-counted n ask_dropped s)
     routed-acted o _ s fit ordered = refl
 
     routed-silent : (act : Act K) (s : Store K) → is_silent cmp e test matching act ≡ true
-        → routed_count (acted cmp matching act s).rows.zid (acted cmp matching act s).rows.routed ≡ routed_count s.rows.zid s.rows.routed
+        → routed_count (acted cmp act s).rows.zid (acted cmp act s).rows.routed ≡ routed_count s.rows.zid s.rows.routed
     unfolding acted with_face with_routed without_routed
     routed-silent (AddRouted r z k) s silent = cc
     routed-silent (DropRouted r z k) s silent = cc
-    routed-silent (Answered n k) s silent = at_ask-counted n (answered_with cmp matching k) s
+    routed-silent (Answered n k) s silent = at_ask-counted n (answered_with cmp k) s
     routed-silent (DropAsk n) s silent = at_ask-counted n ask_dropped s
     routed-silent _ s silent = refl
 
     -- ---- all live rows
-    pub live-acted : IsTotalOrder cmp → (act : Act K) (s : Store K) → Fits cmp matching act s → IsOrderly s → IsInOrderAt cmp matching act s
-        → live_count (acted cmp matching act s).rows + (live_taken cmp e test act s + routed_taken act s) ≡ live_count s.rows + (live_added cmp e test act s + routed_added act s)
+    pub live-acted : IsTotalOrder cmp → (act : Act K) (s : Store K) → Fits cmp act s → IsOrderly s → IsInOrderAt cmp matching act s
+        → live_count (acted cmp act s).rows + (live_taken cmp e test act s + routed_taken act s) ≡ live_count s.rows + (live_added cmp e test act s + routed_added act s)
     live-acted o act s fit h ordered =
-        let after = live-parts (acted cmp matching act s).rows in
+        let after = live-parts (acted cmp act s).rows in
         let before = live-parts s.rows in
         let of_faces = declared-acted cmp e test matching act s fit h ordered in
         let of_routers = routed-acted o act s fit ordered in
         omega (arith, after, before, of_faces, of_routers)
 
-    pub live-silent : (act : Act K) (s : Store K) → is_silent cmp e test matching act ≡ true → live_count (acted cmp matching act s).rows ≡ live_count s.rows
+    pub live-silent : (act : Act K) (s : Store K) → is_silent cmp e test matching act ≡ true → live_count (acted cmp act s).rows ≡ live_count s.rows
     live-silent act s silent =
-        let after = live-parts (acted cmp matching act s).rows in
+        let after = live-parts (acted cmp act s).rows in
         let before = live-parts s.rows in
         let of_faces = declared-silent cmp e test matching act s silent in
         let of_routers = routed-silent act s silent in
@@ -217,8 +217,8 @@ module _ {K : Type 0} (cmp : K → K → Ordering) (e : K) (test : Region → Bo
     count_step (AddLive n id k) s count = if same cmp e k && is_tested test (find_face n s.rows) then count + 1 else count
     count_step (DropLive n id) s count = if is_token cmp e (from_face (λ x. at_id id x.live) (find_face n s.rows)) && is_tested test (find_face n s.rows) then count - 1 else count
     count_step (CloseFace n) s count = if is_tested test (find_face n s.rows) then count - tokens_of cmp e (list_of_face (λ x. x.live) (find_face n s.rows)) else count
-    count_step (AddRouted r z k) s count = if is_live_row s.rows.zid (row_at cmp matching r z k) then count + 1 else count
-    count_step (DropRouted r z k) s count = if is_live_row s.rows.zid (row_at cmp matching r z k) then count - 1 else count
+    count_step (AddRouted r z k) s count = if is_live_row s.rows.zid (row_at cmp r z k) then count + 1 else count
+    count_step (DropRouted r z k) s count = if is_live_row s.rows.zid (row_at cmp r z k) then count - 1 else count
     count_step _ s count = count
 
     more-where : (b : Bool) (n m added : ℕ) → n + 0 ≡ m + added → added ≡ one_where b → n ≡ (if b then m + 1 else m)
@@ -236,14 +236,14 @@ module _ {K : Type 0} (cmp : K → K → Ordering) (e : K) (test : Region → Bo
     same-count : (n m : ℕ) → n + 0 ≡ m + 0 → n ≡ m
     same-count n m h = omega (arith, h)
 
-    pub count-next : IsTotalOrder cmp → (act : Act K) (s : Store K) → Fits cmp matching act s → IsOrderly s → IsInOrderAt cmp matching act s
-        → live_count (acted cmp matching act s).rows ≡ count_step act s (live_count s.rows)
+    pub count-next : IsTotalOrder cmp → (act : Act K) (s : Store K) → Fits cmp act s → IsOrderly s → IsInOrderAt cmp matching act s
+        → live_count (acted cmp act s).rows ≡ count_step act s (live_count s.rows)
     count-next o (AddLive n id k) s fit h ordered =
         more-where (same cmp e k && is_tested test (find_face n s.rows)) _ _ _ (live-acted o (AddLive n id k) s fit h ordered) (omega arith)
     count-next o (DropLive n id) s fit h ordered =
         less-where (is_token cmp e (from_face (λ x. at_id id x.live) (find_face n s.rows)) && is_tested test (find_face n s.rows)) _ _ _ (live-acted o (DropLive n id) s fit h ordered) (omega arith)
     count-next o (CloseFace n) s fit h ordered =
         all-where (is_tested test (find_face n s.rows)) _ _ (tokens_of cmp e (list_of_face (λ x. x.live) (find_face n s.rows))) _ (live-acted o (CloseFace n) s fit h ordered) (omega arith)
-    count-next o (AddRouted r z k) s fit h ordered = more-where (is_live_row s.rows.zid (row_at cmp matching r z k)) _ _ _ (live-acted o (AddRouted r z k) s fit h ordered) (omega arith)
-    count-next o (DropRouted r z k) s fit h ordered = less-where (is_live_row s.rows.zid (row_at cmp matching r z k)) _ _ _ (live-acted o (DropRouted r z k) s fit h ordered) (omega arith)
+    count-next o (AddRouted r z k) s fit h ordered = more-where (is_live_row s.rows.zid (row_at cmp r z k)) _ _ _ (live-acted o (AddRouted r z k) s fit h ordered) (omega arith)
+    count-next o (DropRouted r z k) s fit h ordered = less-where (is_live_row s.rows.zid (row_at cmp r z k)) _ _ _ (live-acted o (DropRouted r z k) s fit h ordered) (omega arith)
     count-next o act s fit h ordered = same-count _ _ (live-acted o act s fit h ordered)

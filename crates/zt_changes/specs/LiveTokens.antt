@@ -30,8 +30,8 @@ pub token-at : {K : Type 0} (id : ℕ) (o : Option (Face K)) → from_face (λ x
 token-at id None = refl
 token-at id (Some x) = refl
 
-pub tokens-in-order : {K : Type 0} (cmp : K → K → Ordering) (matching : K → K → Bool) (f : ℕ) (acts : List (Act K)) (s : Store K) → Fit cmp matching acts s → is_sorted nat_cmp (tokens_in f s) ≡ true
-    → is_sorted nat_cmp (tokens_in f (acted_all cmp matching acts s)) ≡ true
+pub tokens-in-order : {K : Type 0} (cmp : K → K → Ordering) (matching : K → K → Bool) (f : ℕ) (acts : List (Act K)) (s : Store K) → Fit cmp acts s → is_sorted nat_cmp (tokens_in f s) ≡ true
+    → is_sorted nat_cmp (tokens_in f (acted_all cmp acts s)) ≡ true
 tokens-in-order cmp matching f acts s fit h = ap (is_sorted nat_cmp) (live-edited cmp matching f acts s fit) ∙ in_order-edited_all (map (live_edit f) acts) (tokens_in f s) h
 
 module _ {K : Type 0} (cmp : K → K → Ordering) (e : K) where
@@ -72,7 +72,7 @@ module _ {K : Type 0} (cmp : K → K → Ordering) (e : K) where
   tokens_step f _ s count = count
 
   module _ (matching : K → K → Bool) where
-    edited-one : (f : ℕ) (act : Act K) (s : Store K) → Fits cmp matching act s → tokens_in f (acted cmp matching act s) ≡ edited (live_edit f act) (tokens_in f s)
+    edited-one : (f : ℕ) (act : Act K) (s : Store K) → Fits cmp act s → tokens_in f (acted cmp act s) ≡ edited (live_edit f act) (tokens_in f s)
     unfolding acted_all Fit
     edited-one f act s fit = live-edited cmp matching f (act ∷ []) s (fit, tt)
 
@@ -91,7 +91,7 @@ module _ {K : Type 0} (cmp : K → K → Ordering) (e : K) where
     one_less true n m h = omega (arith, h)
     one_less false n m h = omega (arith, h)
 
-    tokens-edited : (f : ℕ) (act : Act K) (s : Store K) → Fits cmp matching act s → is_sorted nat_cmp (tokens_in f s) ≡ true
+    tokens-edited : (f : ℕ) (act : Act K) (s : Store K) → Fits cmp act s → is_sorted nat_cmp (tokens_in f s) ≡ true
         → tokens_of cmp e (edited (live_edit f act) (tokens_in f s)) ≡ tokens_step f act s (tokens_of cmp e (tokens_in f s))
     unfolding fits
     tokens-edited f (AddLive n id k) s fit h =
@@ -107,6 +107,6 @@ module _ {K : Type 0} (cmp : K → K → Ordering) (e : K) where
     tokens-edited f (CloseFace n) s fit h = by_test (n == f) (λ t. rw t refl) (λ t. rw t refl)
     tokens-edited f _ s fit h = refl
 
-    pub tokens-acted : (f : ℕ) (act : Act K) (s : Store K) → Fits cmp matching act s → is_sorted nat_cmp (tokens_in f s) ≡ true
-        → tokens_of cmp e (tokens_in f (acted cmp matching act s)) ≡ tokens_step f act s (tokens_of cmp e (tokens_in f s))
+    pub tokens-acted : (f : ℕ) (act : Act K) (s : Store K) → Fits cmp act s → is_sorted nat_cmp (tokens_in f s) ≡ true
+        → tokens_of cmp e (tokens_in f (acted cmp act s)) ≡ tokens_step f act s (tokens_of cmp e (tokens_in f s))
     tokens-acted f act s fit h = ap (tokens_of cmp e) (edited-one f act s fit) ∙ tokens-edited f act s fit h

@@ -53,7 +53,7 @@ module _ {K : Type 0} (cmp : K → K → Ordering) (matching : K → K → Bool)
   numbers-touched (Changes (Some n) change) kept faces = numbers-where n change (kept 0) faces
   numbers-touched (ChangesAll n change all) kept faces = numbers-kept all kept.1 (changed_where n change faces) ∙ numbers-where n change kept.0 faces
 
-  pub numbers-acted : (act : Act K) (s : Store K) → numbers_of (acted cmp matching act s).rows.faces ≡ numbers_touched (touch cmp matching act s) (numbers_of s.rows.faces)
+  pub numbers-acted : (act : Act K) (s : Store K) → numbers_of (acted cmp act s).rows.faces ≡ numbers_touched (touch cmp matching act s) (numbers_of s.rows.faces)
   numbers-acted act s = ap numbers_of (faces-acted cmp matching act s) ∙ numbers-touched (touch cmp matching act s) (keeps-number cmp matching act s) s.rows.faces
 
   -- ---- the numbers that stay, and those that come
@@ -78,7 +78,7 @@ module _ {K : Type 0} (cmp : K → K → Ordering) (matching : K → K → Bool)
       (λ t. rw t (by_test (is_lt (nat_cmp after m)) (λ u. rw u refl) (λ u. rw u (stay-opened after n p ms b))))
       (λ t. rw t (stay-opened after n p ms b))
 
-  made-fits : (zid : Zid) (whatami : WhatAmI) (region : Region) (bound : Bound) (first : ℕ) (s : Store K) → Fits cmp matching (OpenFace zid whatami region bound first) s → s.rows.made + 1 ≤ 4294967295
+  made-fits : (zid : Zid) (whatami : WhatAmI) (region : Region) (bound : Bound) (first : ℕ) (s : Store K) → Fits cmp (OpenFace zid whatami region bound first) s → s.rows.made + 1 ≤ 4294967295
   unfolding fits
   made-fits zid whatami region bound first s fit = let most = and_second _ _ fit in le-true (s.rows.made + 1) 4294967295 most
     where
@@ -91,17 +91,17 @@ module _ {K : Type 0} (cmp : K → K → Ordering) (matching : K → K → Bool)
       lt-test : (made : ℕ) → made + 1 ≤ 4294967295 → nat_lt made 4294967295 ≡ true
       lt-test made h = grind (arith, nat_tests)
 
-  pub numbers-after : (after : ℕ) (acts : List (Act K)) (s : Store K) → Fit cmp matching acts s
-      → number_above after (numbers_of (acted_all cmp matching acts s).rows.faces) ≡ first_some (number_above after (filter (stays_open acts) (numbers_of s.rows.faces))) (opened_above after s.rows.made acts)
+  pub numbers-after : (after : ℕ) (acts : List (Act K)) (s : Store K) → Fit cmp acts s
+      → number_above after (numbers_of (acted_all cmp acts s).rows.faces) ≡ first_some (number_above after (filter (stays_open acts) (numbers_of s.rows.faces))) (opened_above after s.rows.made acts)
   unfolding acted_all Fit
   numbers-after after [] s fit = all_stay after (numbers_of s.rows.faces)
   numbers-after after (act ∷ acts) s fit =
-      let later = acted cmp matching act s in
+      let later = acted cmp act s in
       numbers-after after acts later fit.1
       ∙ (λ i. first_some (number_above after (filter (stays_open acts) (numbers-acted act s i))) (opened_above after (made-acted cmp matching act s i) acts))
       ∙ one act s fit.0
     where
-      one : (act : Act K) (s : Store K) → Fits cmp matching act s
+      one : (act : Act K) (s : Store K) → Fits cmp act s
           → first_some (number_above after (filter (stays_open acts) (numbers_touched (touch cmp matching act s) (numbers_of s.rows.faces)))) (opened_above after (made_by cmp matching act s.rows.made) acts)
           ≡ first_some (number_above after (filter (stays_open (act ∷ acts)) (numbers_of s.rows.faces))) (opened_above after s.rows.made (act ∷ acts))
       one (OpenFace zid whatami region bound first) s fit =
@@ -113,6 +113,6 @@ module _ {K : Type 0} (cmp : K → K → Ordering) (matching : K → K → Bool)
       one (CloseFace m) s fit = ap (λ o. first_some o (opened_above after s.rows.made acts)) (stay-closed after m (stays_open acts) (numbers_of s.rows.faces))
       one _ s fit = refl
 
-  pub next_face-after : (after : ℕ) (acts : List (Act K)) (s : Store K) → Fit cmp matching acts s
-      → next_face_after after (acted_all cmp matching acts s).rows.faces ≡ first_some (number_above after (filter (stays_open acts) (numbers_of s.rows.faces))) (opened_above after s.rows.made acts)
-  next_face-after after acts s fit = above-numbers after (acted_all cmp matching acts s).rows.faces ∙ numbers-after after acts s fit
+  pub next_face-after : (after : ℕ) (acts : List (Act K)) (s : Store K) → Fit cmp acts s
+      → next_face_after after (acted_all cmp acts s).rows.faces ≡ first_some (number_above after (filter (stays_open acts) (numbers_of s.rows.faces))) (opened_above after s.rows.made acts)
+  next_face-after after acts s fit = above-numbers after (acted_all cmp acts s).rows.faces ∙ numbers-after after acts s fit

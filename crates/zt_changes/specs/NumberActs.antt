@@ -39,7 +39,7 @@ module _ {K : Type 0} (cmp : K → K → Ordering) (matching : K → K → Bool)
   number_step e _ found = found
 
   number_from : ℕ → K → List K → Option ℕ
-  number_from i e known = if is_among cmp e known then Some (number_in cmp matching i e known) else None
+  number_from i e known = if is_among cmp e known then Some (number_in cmp i e known) else None
 
   number-more : (i : ℕ) (e k : K) (known : List K) → number_from i e (known ++ k ∷ []) ≡ number_or (number_from i e known) (same cmp e k) (i + length known)
   unfolding number_from
@@ -60,44 +60,44 @@ module _ {K : Type 0} (cmp : K → K → Ordering) (matching : K → K → Bool)
   len-added : (k : K) (known : List K) → length known + 1 ≤ 65535 → length (known ++ k ∷ []) ≡ one_more (length known)
   len-added k known most = let sum = length-append known (k ∷ []) in omega (arith, sum)
 
-  numbered-new : (k : K) (known : List K) → is_among cmp k known ≡ false → numbered_with cmp matching (k ∷ []) known ≡ known ++ k ∷ []
+  numbered-new : (k : K) (known : List K) → is_among cmp k known ≡ false → numbered_with cmp (k ∷ []) known ≡ known ++ k ∷ []
   unfolding numbered_with
   numbered-new k known new = rw new refl
 
-  number-acted : (e : K) (act : Act K) (s : Store K) → Fits cmp matching act s
-      → (numbered cmp matching e (acted cmp matching act s).rows.dictionary, length (acted cmp matching act s).rows.dictionary) ≡ number_step e act (numbered cmp matching e s.rows.dictionary, length s.rows.dictionary)
+  number-acted : (e : K) (act : Act K) (s : Store K) → Fits cmp act s
+      → (numbered cmp matching e (acted cmp act s).rows.dictionary, length (acted cmp act s).rows.dictionary) ≡ number_step e act (numbered cmp matching e s.rows.dictionary, length s.rows.dictionary)
   unfolding acted fits with_face with_routed without_routed
   number-acted e (Number k) s fit =
       let known = s.rows.dictionary in
       let most = leb-true (length known + 1) 65535 (and_second _ _ fit) in
       (λ i. let dictionary = numbered-new k known (not-true _ (and_first _ _ fit)) i in (numbered cmp matching e dictionary, length dictionary))
       ∙ (λ i. (number-added e k known most i, len-added k known most i))
-  number-acted e (Answered n k) s fit = ap (λ known. (numbered cmp matching e known, length known)) (dictionary-at_ask n (answered_with cmp matching k) s)
+  number-acted e (Answered n k) s fit = ap (λ known. (numbered cmp matching e known, length known)) (dictionary-at_ask n (answered_with cmp k) s)
   number-acted e (DropAsk n) s fit = ap (λ known. (numbered cmp matching e known, length known)) (dictionary-at_ask n ask_dropped s)
   number-acted e _ s fit = refl
 
-  numbers-after : (e : K) (acts : List (Act K)) (s : Store K) → Fit cmp matching acts s
-      → (numbered cmp matching e (acted_all cmp matching acts s).rows.dictionary, length (acted_all cmp matching acts s).rows.dictionary)
+  numbers-after : (e : K) (acts : List (Act K)) (s : Store K) → Fit cmp acts s
+      → (numbered cmp matching e (acted_all cmp acts s).rows.dictionary, length (acted_all cmp acts s).rows.dictionary)
       ≡ folded (number_step e) acts (numbered cmp matching e s.rows.dictionary, length s.rows.dictionary)
   unfolding acted_all Fit
   numbers-after e [] s fit = refl
-  numbers-after e (act ∷ acts) s fit = numbers-after e acts (acted cmp matching act s) fit.1 ∙ ap (folded (number_step e) acts) (number-acted e act s fit.0)
+  numbers-after e (act ∷ acts) s fit = numbers-after e acts (acted cmp act s) fit.1 ∙ ap (folded (number_step e) acts) (number-acted e act s fit.0)
 
-  pub number-after : (e : K) (acts : List (Act K)) (s : Store K) → Fit cmp matching acts s
-      → numbered cmp matching e (acted_all cmp matching acts s).rows.dictionary ≡ (folded (number_step e) acts (numbered cmp matching e s.rows.dictionary, length s.rows.dictionary)).0
+  pub number-after : (e : K) (acts : List (Act K)) (s : Store K) → Fit cmp acts s
+      → numbered cmp matching e (acted_all cmp acts s).rows.dictionary ≡ (folded (number_step e) acts (numbered cmp matching e s.rows.dictionary, length s.rows.dictionary)).0
   number-after e acts s fit = ap (λ (found : Option ℕ × ℕ). found.0) (numbers-after e acts s fit)
 
-  len-acted : (act : Act K) (s : Store K) → Fits cmp matching act s → length (acted cmp matching act s).rows.dictionary ≡ len_step act (length s.rows.dictionary)
+  len-acted : (act : Act K) (s : Store K) → Fits cmp act s → length (acted cmp act s).rows.dictionary ≡ len_step act (length s.rows.dictionary)
   unfolding acted fits with_face with_routed without_routed
   len-acted (Number k) s fit =
       let known = s.rows.dictionary in
       ap length (numbered-new k known (not-true _ (and_first _ _ fit))) ∙ len-added k known (leb-true (length known + 1) 65535 (and_second _ _ fit))
-  len-acted (Answered n k) s fit = ap length (dictionary-at_ask n (answered_with cmp matching k) s)
+  len-acted (Answered n k) s fit = ap length (dictionary-at_ask n (answered_with cmp k) s)
   len-acted (DropAsk n) s fit = ap length (dictionary-at_ask n ask_dropped s)
   len-acted _ s fit = refl
 
-  pub len-after : (acts : List (Act K)) (s : Store K) → Fit cmp matching acts s
-      → length (acted_all cmp matching acts s).rows.dictionary ≡ folded len_step acts (length s.rows.dictionary)
+  pub len-after : (acts : List (Act K)) (s : Store K) → Fit cmp acts s
+      → length (acted_all cmp acts s).rows.dictionary ≡ folded len_step acts (length s.rows.dictionary)
   unfolding acted_all Fit
   len-after [] s fit = refl
-  len-after (act ∷ acts) s fit = len-after acts (acted cmp matching act s) fit.1 ∙ ap (folded len_step acts) (len-acted act s fit.0)
+  len-after (act ∷ acts) s fit = len-after acts (acted cmp act s) fit.1 ∙ ap (folded len_step acts) (len-acted act s fit.0)

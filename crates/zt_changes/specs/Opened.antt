@@ -94,13 +94,13 @@ module _ {K : Type 0} (cmp : K → K → Ordering) (matching : K → K → Bool)
   facts-acted f (AddPending n id ask pending) s o = facts-kept f (touch cmp matching (AddPending n id ask pending) s) (λ i x. (refl, refl)) o
   facts-acted f act s o = facts-kept f (touch cmp matching act s) (λ i x. refl) o
 
-  pub facts-after : (f : ℕ) (acts : List (Act K)) (s : Store K) → option_map facts_of (find_face f (acted_all cmp matching acts s).rows) ≡ facts_after f acts (f - s.rows.made) (option_map facts_of (find_face f s.rows))
+  pub facts-after : (f : ℕ) (acts : List (Act K)) (s : Store K) → option_map facts_of (find_face f (acted_all cmp acts s).rows) ≡ facts_after f acts (f - s.rows.made) (option_map facts_of (find_face f s.rows))
   unfolding acted_all
   facts-after f [] s = refl
   facts-after f (act ∷ acts) s =
       let left = ap (λ n. f - n) (made-acted cmp matching act s) ∙ left-acted f act s.rows.made in
       let found = ap (option_map facts_of) (face-acted cmp matching f act s) ∙ facts-acted f act s (find_face f s.rows) in
-      facts-after f acts (acted cmp matching act s) ∙ (λ i. facts_after f acts (left i) (found i))
+      facts-after f acts (acted cmp act s) ∙ (λ i. facts_after f acts (left i) (found i))
 
 -- ---- the numbers of open faces
 abbrev pub numbers_of : {K : Type 0} → List (Face K) → List ℕ

@@ -62,17 +62,17 @@ module _ {K : Type 0} (cmp : K → K → Ordering) (matching : K → K → Bool)
   given-touched (CloseFace n) s h = given-left (λ m. not (n == m)) s.rows.made (numbers_of s.rows.faces) h.given
   given-touched _ s h = h.given
 
-  orderly-acted : (act : Act K) (s : Store K) → IsOrderly s → IsOrderly (acted cmp matching act s)
+  orderly-acted : (act : Act K) (s : Store K) → IsOrderly s → IsOrderly (acted cmp act s)
   orderly-acted act s h =
       let numbers = numbers-acted cmp matching act s in
       let made = made-acted cmp matching act s in
       record {
         rising = ap is_rising numbers ∙ rising-touched act s h;
-        given = subst (λ (ns : List ℕ). AllByRecursion (λ n. n ≤ (acted cmp matching act s).rows.made) ns) (sym numbers)
+        given = subst (λ (ns : List ℕ). AllByRecursion (λ n. n ≤ (acted cmp act s).rows.made) ns) (sym numbers)
             (subst (λ (m : ℕ). AllByRecursion (λ n. n ≤ m) (numbers_touched cmp matching (touch cmp matching act s) (numbers_of s.rows.faces))) (sym made) (given-touched act s h));
       }
 
-  pub orderly-after : (acts : List (Act K)) (s : Store K) → IsOrderly s → IsOrderly (acted_all cmp matching acts s)
+  pub orderly-after : (acts : List (Act K)) (s : Store K) → IsOrderly s → IsOrderly (acted_all cmp acts s)
   unfolding acted_all
   orderly-after [] s h = h
-  orderly-after (act ∷ acts) s h = orderly-after acts (acted cmp matching act s) (orderly-acted act s h)
+  orderly-after (act ∷ acts) s h = orderly-after acts (acted cmp act s) (orderly-acted act s h)

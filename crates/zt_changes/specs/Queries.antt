@@ -34,7 +34,7 @@ next_number_after made = if nat_lt made 4294967295 then Some (made + 1) else Non
 
 -- the number of an expression in a dictionary, counted from 1
 abbrev pub numbered : {K : Type 0} → (K → K → Ordering) → (K → K → Bool) → K → List K → Option ℕ
-numbered cmp matching e known = if is_among cmp e known then Some (number_in cmp matching 1 e known) else None
+numbered cmp matching e known = if is_among cmp e known then Some (number_in cmp 1 e known) else None
 
 -- the table last set for a region
 abbrev pub table_set : Region → List (Region × Trees) → Option Trees

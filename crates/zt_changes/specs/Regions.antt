@@ -77,7 +77,7 @@ and_assoc true b c = refl
 and_assoc false b c = refl
 
 module _ {K : Type 0} (cmp : K → K → Ordering) (matching : K → K → Bool) where
-  pub routed_total : IsTotalOrder cmp → IsTotalOrder (routed_order cmp matching)
+  pub routed_total : IsTotalOrder cmp → IsTotalOrder (routed_order cmp)
   routed_total total =
       then_total (on_total (λ (row : RoutedRow K). row.region) region_total)
       (then_total (on_total (λ (row : RoutedRow K). row.source.0) nat_cmp_total) (on_total (λ (row : RoutedRow K). row.expr) total))
@@ -87,7 +87,7 @@ module _ {K : Type 0} (cmp : K → K → Ordering) (matching : K → K → Bool)
   is_same_name region source e r z k = region_eq region r && zid_eq source z && same cmp e k
 
   pub named-row : (region : Region) (source : Zid) (e : K) (r : Region) (z : Zid) (k : K)
-      → is_routed_row cmp matching (row_at cmp matching region source e) (row_at cmp matching r z k) ≡ is_same_name region source e r z k
+      → is_routed_row cmp (row_at cmp region source e) (row_at cmp r z k) ≡ is_same_name region source e r z k
   named-row region source e r z k =
       sym (tied_then (region_order region r) (ordering_then (nat_cmp source.0 z.0) (cmp e k)))
       ∙ (λ i. region_order-eq region r i && sym (tied_then (nat_cmp source.0 z.0) (cmp e k)) i)
@@ -96,17 +96,17 @@ module _ {K : Type 0} (cmp : K → K → Ordering) (matching : K → K → Bool)
 
   -- whether a row is there, after another that wasn't there was added
   pub row-added : (region : Region) (source : Zid) (e : K) (r : Region) (z : Zid) (k : K) (rows : List (RoutedRow K))
-      → list_any (is_routed_row cmp matching (row_at cmp matching r z k)) rows ≡ false
-      → list_any (is_routed_row cmp matching (row_at cmp matching region source e)) (with_key (routed_order cmp matching) (row_at cmp matching r z k) rows)
-      ≡ (is_same_name region source e r z k || list_any (is_routed_row cmp matching (row_at cmp matching region source e)) rows)
+      → list_any (is_routed_row cmp (row_at cmp r z k)) rows ≡ false
+      → list_any (is_routed_row cmp (row_at cmp region source e)) (with_key (routed_order cmp) (row_at cmp r z k) rows)
+      ≡ (is_same_name region source e r z k || list_any (is_routed_row cmp (row_at cmp region source e)) rows)
   row-added region source e r z k rows none =
-      any-put (routed_order cmp matching) (is_routed_row cmp matching (row_at cmp matching region source e)) (row_at cmp matching r z k) rows none
-      ∙ ap (λ b. b || list_any (is_routed_row cmp matching (row_at cmp matching region source e)) rows) (named-row region source e r z k)
+      any-put (routed_order cmp) (is_routed_row cmp (row_at cmp region source e)) (row_at cmp r z k) rows none
+      ∙ ap (λ b. b || list_any (is_routed_row cmp (row_at cmp region source e)) rows) (named-row region source e r z k)
 
   -- and after one was taken away
   pub row-taken : IsTotalOrder cmp → (region : Region) (source : Zid) (e : K) (r : Region) (z : Zid) (k : K) (rows : List (RoutedRow K))
-      → list_any (is_routed_row cmp matching (row_at cmp matching region source e)) (filter (λ row. not (is_routed_row cmp matching (row_at cmp matching r z k) row)) rows)
-      ≡ (if is_same_name r z k region source e then false else list_any (is_routed_row cmp matching (row_at cmp matching region source e)) rows)
+      → list_any (is_routed_row cmp (row_at cmp region source e)) (filter (λ row. not (is_routed_row cmp (row_at cmp r z k) row)) rows)
+      ≡ (if is_same_name r z k region source e then false else list_any (is_routed_row cmp (row_at cmp region source e)) rows)
   row-taken total region source e r z k rows =
-      any-taken (routed_order cmp matching) (routed_total total) (row_at cmp matching region source e) (row_at cmp matching r z k) rows
-      ∙ ap (λ b. if b then false else list_any (is_routed_row cmp matching (row_at cmp matching region source e)) rows) (named-row r z k region source e)
+      any-taken (routed_order cmp) (routed_total total) (row_at cmp region source e) (row_at cmp r z k) rows
+      ∙ ap (λ b. if b then false else list_any (is_routed_row cmp (row_at cmp region source e)) rows) (named-row r z k region source e)

@@ -33,33 +33,33 @@ module _ {K : Type 0} (cmp : K → K → Ordering) (matching : K → K → Bool)
   routed_step region source e _ found = found
 
   abbrev has_row : Region → Zid → K → List (RoutedRow K) → Bool
-  has_row region source e rows = list_any (is_routed_row cmp matching (row_at cmp matching region source e)) rows
+  has_row region source e rows = list_any (is_routed_row cmp (row_at cmp region source e)) rows
 
   module _ (o : IsTotalOrder cmp) where
-    routed-acted : (region : Region) (source : Zid) (e : K) (act : Act K) (s : Store K) → Fits cmp matching act s
-        → has_row region source e (acted cmp matching act s).rows.routed ≡ routed_step region source e act (has_row region source e s.rows.routed)
+    routed-acted : (region : Region) (source : Zid) (e : K) (act : Act K) (s : Store K) → Fits cmp act s
+        → has_row region source e (acted cmp act s).rows.routed ≡ routed_step region source e act (has_row region source e s.rows.routed)
     unfolding acted fits with_face with_routed without_routed
     routed-acted region source e (AddRouted r z k) s fit = row-added cmp matching region source e r z k s.rows.routed (not-true _ (and_second _ _ fit))
     routed-acted region source e (DropRouted r z k) s fit = row-taken cmp matching o region source e r z k s.rows.routed
-    routed-acted region source e (Answered n k) s fit = ap (has_row region source e) (routed-at_ask n (answered_with cmp matching k) s)
+    routed-acted region source e (Answered n k) s fit = ap (has_row region source e) (routed-at_ask n (answered_with cmp k) s)
     routed-acted region source e (DropAsk n) s fit = ap (has_row region source e) (routed-at_ask n ask_dropped s)
     routed-acted region source e _ s fit = refl
 
-    pub routed-after : (region : Region) (source : Zid) (e : K) (acts : List (Act K)) (s : Store K) → Fit cmp matching acts s
-        → list_any (is_routed_row cmp matching (row_at cmp matching region source e)) (acted_all cmp matching acts s).rows.routed
-        ≡ folded (routed_step region source e) acts (list_any (is_routed_row cmp matching (row_at cmp matching region source e)) s.rows.routed)
+    pub routed-after : (region : Region) (source : Zid) (e : K) (acts : List (Act K)) (s : Store K) → Fit cmp acts s
+        → list_any (is_routed_row cmp (row_at cmp region source e)) (acted_all cmp acts s).rows.routed
+        ≡ folded (routed_step region source e) acts (list_any (is_routed_row cmp (row_at cmp region source e)) s.rows.routed)
     unfolding acted_all Fit
     routed-after region source e [] s fit = refl
-    routed-after region source e (act ∷ acts) s fit = routed-after region source e acts (acted cmp matching act s) fit.1 ∙ ap (folded (routed_step region source e) acts) (routed-acted region source e act s fit.0)
+    routed-after region source e (act ∷ acts) s fit = routed-after region source e acts (acted cmp act s) fit.1 ∙ ap (folded (routed_step region source e) acts) (routed-acted region source e act s fit.0)
 
   -- the gateway's zid stays
-  zid-acted : (act : Act K) (s : Store K) → (acted cmp matching act s).rows.zid ≡ s.rows.zid
+  zid-acted : (act : Act K) (s : Store K) → (acted cmp act s).rows.zid ≡ s.rows.zid
   unfolding acted with_face with_routed without_routed
-  zid-acted (Answered n k) s = zid-at_ask n (answered_with cmp matching k) s
+  zid-acted (Answered n k) s = zid-at_ask n (answered_with cmp k) s
   zid-acted (DropAsk n) s = zid-at_ask n ask_dropped s
   zid-acted _ s = refl
 
-  pub zid-after : (acts : List (Act K)) (s : Store K) → (acted_all cmp matching acts s).rows.zid ≡ s.rows.zid
+  pub zid-after : (acts : List (Act K)) (s : Store K) → (acted_all cmp acts s).rows.zid ≡ s.rows.zid
   unfolding acted_all
   zid-after [] s = refl
-  zid-after (act ∷ acts) s = zid-after acts (acted cmp matching act s) ∙ zid-acted act s
+  zid-after (act ∷ acts) s = zid-after acts (acted cmp act s) ∙ zid-acted act s

@@ -74,41 +74,41 @@ added_row _ = None
 module _ {K : Type 0} (cmp : K → K → Ordering) (matching : K → K → Bool) where
   -- the rows after an act
   abbrev rows_acted : Act K → List (RoutedRow K) → List (RoutedRow K)
-  rows_acted (AddRouted region source e) rows = with_key (routed_order cmp matching) (row_at cmp matching region source e) rows
-  rows_acted (DropRouted region source e) rows = filter (λ row. not (is_routed_row cmp matching (row_at cmp matching region source e) row)) rows
+  rows_acted (AddRouted region source e) rows = with_key (routed_order cmp) (row_at cmp region source e) rows
+  rows_acted (DropRouted region source e) rows = filter (λ row. not (is_routed_row cmp (row_at cmp region source e) row)) rows
   rows_acted _ rows = rows
 
-  routed-rows : (act : Act K) (s : Store K) → (acted cmp matching act s).rows.routed ≡ rows_acted act s.rows.routed
+  routed-rows : (act : Act K) (s : Store K) → (acted cmp act s).rows.routed ≡ rows_acted act s.rows.routed
   unfolding acted with_face with_routed without_routed
-  routed-rows (Answered n k) s = routed-at_ask n (answered_with cmp matching k) s
+  routed-rows (Answered n k) s = routed-at_ask n (answered_with cmp k) s
   routed-rows (DropAsk n) s = routed-at_ask n ask_dropped s
   routed-rows _ s = refl
 
-  rising-acted : IsTotalOrder cmp → (act : Act K) (rows : List (RoutedRow K)) → AreRising (routed_order cmp matching) rows → AreRising (routed_order cmp matching) (rows_acted act rows)
-  rising-acted o (AddRouted region source e) rows rising = rising-with (routed_order cmp matching) (routed_total cmp matching o) (row_at cmp matching region source e) rows rising
-  rising-acted o (DropRouted region source e) rows rising = rising-filter (routed_order cmp matching) (λ row. not (is_routed_row cmp matching (row_at cmp matching region source e) row)) rows rising
+  rising-acted : IsTotalOrder cmp → (act : Act K) (rows : List (RoutedRow K)) → AreRising (routed_order cmp) rows → AreRising (routed_order cmp) (rows_acted act rows)
+  rising-acted o (AddRouted region source e) rows rising = rising-with (routed_order cmp) (routed_total cmp matching o) (row_at cmp region source e) rows rising
+  rising-acted o (DropRouted region source e) rows rising = rising-filter (routed_order cmp) (λ row. not (is_routed_row cmp (row_at cmp region source e) row)) rows rising
   rising-acted o _ rows rising = rising
 
-  pub routed-rising : IsTotalOrder cmp → (acts : List (Act K)) (s : Store K) → AreRising (routed_order cmp matching) s.rows.routed → AreRising (routed_order cmp matching) (acted_all cmp matching acts s).rows.routed
+  pub routed-rising : IsTotalOrder cmp → (acts : List (Act K)) (s : Store K) → AreRising (routed_order cmp) s.rows.routed → AreRising (routed_order cmp) (acted_all cmp acts s).rows.routed
   unfolding acted_all
   routed-rising o [] s rising = rising
   routed-rising o (act ∷ acts) s rising =
-      routed-rising o acts (acted cmp matching act s) (subst (AreRising (routed_order cmp matching)) (sym (routed-rows act s)) (rising-acted o act s.rows.routed rising))
+      routed-rising o acts (acted cmp act s) (subst (AreRising (routed_order cmp)) (sym (routed-rows act s)) (rising-acted o act s.rows.routed rising))
 
   module _ (p : RoutedRow K → Bool) where
     any-acted : (act : Act K) (acts : List (Act K)) (rows : List (RoutedRow K)) → list_any p (given_on (map added_row acts) (rows_acted act rows)) ≡ true → list_any p (given_on (map added_row (act ∷ acts)) rows) ≡ true
     any-acted (AddRouted region source e) acts rows h =
-        let row : RoutedRow K = row_at cmp matching region source e in
-        any-given p (map added_row acts) (with_key (routed_order cmp matching) row rows) (row ∷ rows) (any-with p (routed_order cmp matching) row rows) h
+        let row : RoutedRow K = row_at cmp region source e in
+        any-given p (map added_row acts) (with_key (routed_order cmp) row rows) (row ∷ rows) (any-with p (routed_order cmp) row rows) h
     any-acted (DropRouted region source e) acts rows h =
-        any-given p (map added_row acts) (rows_acted (DropRouted region source e) rows) rows (any-filter p (λ row. not (is_routed_row cmp matching (row_at cmp matching region source e) row)) rows) h
+        any-given p (map added_row acts) (rows_acted (DropRouted region source e) rows) rows (any-filter p (λ row. not (is_routed_row cmp (row_at cmp region source e) row)) rows) h
     any-acted _ acts rows h = h
 
-    pub routed-given : (acts : List (Act K)) (s : Store K) → list_any p (acted_all cmp matching acts s).rows.routed ≡ true → list_any p (given_on (map added_row acts) s.rows.routed) ≡ true
+    pub routed-given : (acts : List (Act K)) (s : Store K) → list_any p (acted_all cmp acts s).rows.routed ≡ true → list_any p (given_on (map added_row acts) s.rows.routed) ≡ true
     unfolding acted_all
     routed-given [] s h = h
     routed-given (act ∷ acts) s h =
-        any-acted act acts s.rows.routed (ap (λ rows. list_any p (given_on (map added_row acts) rows)) (sym (routed-rows act s)) ∙ routed-given acts (acted cmp matching act s) h)
+        any-acted act acts s.rows.routed (ap (λ rows. list_any p (given_on (map added_row acts) rows)) (sym (routed-rows act s)) ∙ routed-given acts (acted cmp act s) h)
 
 -- ---- the expressions of a source's rows in a region, and the sources of a region
 abbrev pub of_source : {K : Type 0} → Region → Zid → RoutedRow K → Bool
@@ -148,7 +148,7 @@ mapped-twice f h [] = refl
 mapped-twice f h (x ∷ xs) = ap (λ l. h (f x) ∷ l) (mapped-twice f h xs)
 
 module _ {K : Type 0} (cmp : K → K → Ordering) (matching : K → K → Bool) where
-  source-rises : IsTotalOrder cmp → (region : Region) (source : Zid) (x y : RoutedRow K) → routed_order cmp matching x y ≡ Less → of_source region source x ≡ true → of_source region source y ≡ true
+  source-rises : IsTotalOrder cmp → (region : Region) (source : Zid) (x y : RoutedRow K) → routed_order cmp x y ≡ Less → of_source region source x ≡ true → of_source region source y ≡ true
       → is_lt (cmp y.expr x.expr) ≡ false
   source-rises o region source x y less h k =
       let regions = one-region region x.region y.region (and_first _ _ h) (and_first _ _ k) in
@@ -156,7 +156,7 @@ module _ {K : Type 0} (cmp : K → K → Ordering) (matching : K → K → Bool)
       let below : cmp x.expr y.expr ≡ Less = rw (regions, zids) at less in
       ap is_lt (o.antisymm y.expr x.expr ∙ ap ordering_reverse below)
 
-  region-rises : (region : Region) (x y : RoutedRow K) → routed_order cmp matching x y ≡ Less → of_region region x ≡ true → of_region region y ≡ true → is_lt (zid_cmp y.source x.source) ≡ false
+  region-rises : (region : Region) (x y : RoutedRow K) → routed_order cmp x y ≡ Less → of_region region x ≡ true → of_region region y ≡ true → is_lt (zid_cmp y.source x.source) ≡ false
   region-rises region x y less h k =
       let regions = one-region region x.region y.region h k in
       let turned = nat_cmp_total.antisymm y.source.0 x.source.0 in
@@ -166,26 +166,26 @@ module _ {K : Type 0} (cmp : K → K → Ordering) (matching : K → K → Bool)
       (λ g. cc (rw (regions, g) at less))
 
   -- ---- in the order of the rows
-  pub expressions-next : IsTotalOrder cmp → ((a b : K) → cmp a b ≡ Equal → a ≡ b) → (region : Region) (source : Zid) (after : Option K) (rows : List (RoutedRow K)) → AreRising (routed_order cmp matching) rows
+  pub expressions-next : IsTotalOrder cmp → ((a b : K) → cmp a b ≡ Equal → a ≡ b) → (region : Region) (source : Zid) (after : Option K) (rows : List (RoutedRow K)) → AreRising (routed_order cmp) rows
       → IsNext cmp (expressions_of region source rows) after (option_map (λ row. row.expr) (first_where (λ row. of_source region source row && is_after cmp after row.expr) rows))
   expressions-next o one region source after rows rising =
       subst (IsNext cmp (expressions_of region source rows) after) (sym (picked-first (of_source region source) (λ row. row.expr) cmp after rows))
       (next-ordered cmp o one after (expressions_of region source rows)
-      (picked-ordered (of_source region source) (λ row. row.expr) cmp (routed_order cmp matching) (source-rises o region source) rows rising))
+      (picked-ordered (of_source region source) (λ row. row.expr) cmp (routed_order cmp) (source-rises o region source) rows rising))
 
-  pub sources-next : (region : Region) (after : Option Zid) (rows : List (RoutedRow K)) → AreRising (routed_order cmp matching) rows
+  pub sources-next : (region : Region) (after : Option Zid) (rows : List (RoutedRow K)) → AreRising (routed_order cmp) rows
       → IsNext zid_cmp (sources_in region rows) after (option_map (λ row. row.source) (first_where (λ row. of_region region row && is_after zid_cmp after row.source) rows))
   sources-next region after rows rising =
       subst (IsNext zid_cmp (sources_in region rows) after) (sym (picked-first (of_region region) (λ row. row.source) zid_cmp after rows))
       (next-ordered zid_cmp zid_cmp_total zid-one after (sources_in region rows)
-      (picked-ordered (of_region region) (λ row. row.source) zid_cmp (routed_order cmp matching) (region-rises region) rows rising))
+      (picked-ordered (of_region region) (λ row. row.source) zid_cmp (routed_order cmp) (region-rises region) rows rising))
 
   -- ---- what stands
   pub expression-stands : (region : Region) (source : Zid) (e : K) (rows : List (RoutedRow K))
-      → list_any (is_routed_row cmp matching (row_at cmp matching region source e)) rows ≡ is_among cmp e (expressions_of region source rows)
+      → list_any (is_routed_row cmp (row_at cmp region source e)) rows ≡ is_among cmp e (expressions_of region source rows)
   expression-stands region source e rows = alike rows ∙ picked-among (of_source region source) (λ row. row.expr) cmp e rows
     where
-      alike : (rows : List (RoutedRow K)) → list_any (is_routed_row cmp matching (row_at cmp matching region source e)) rows ≡ list_any (λ row. of_source region source row && same cmp e row.expr) rows
+      alike : (rows : List (RoutedRow K)) → list_any (is_routed_row cmp (row_at cmp region source e)) rows ≡ list_any (λ row. of_source region source row && same cmp e row.expr) rows
       alike [] = refl
       alike (row ∷ rows) = λ i. named-row cmp matching region source e row.region row.source row.expr i || alike rows i
 
@@ -201,21 +201,21 @@ module _ {K : Type 0} (cmp : K → K → Ordering) (matching : K → K → Bool)
 
   -- ---- what stands after acts stood before, or was added
   module _ {P : Type 0} (by : P → P → Ordering) (test : RoutedRow K → Bool) (key : RoutedRow K → P) where
-    picked-later : (k : P) (acts : List (Act K)) (s : Store K) → is_among by k (picked test key (acted_all cmp matching acts s).rows.routed) ≡ true
+    picked-later : (k : P) (acts : List (Act K)) (s : Store K) → is_among by k (picked test key (acted_all cmp acts s).rows.routed) ≡ true
         → is_among by k (given_on (map (λ act. key_picked test key (added_row act)) acts) (picked test key s.rows.routed)) ≡ true
     picked-later k acts s h =
         let p = λ (row : RoutedRow K). test row && same by k (key row) in
         let rows = s.rows.routed in
-        let there = picked-among test key by k (acted_all cmp matching acts s).rows.routed ∙ h in
+        let there = picked-among test key by k (acted_all cmp acts s).rows.routed ∙ h in
         ap (λ added. is_among by k (given_on added (picked test key rows))) (sym (mapped-twice added_row (key_picked test key) acts))
         ∙ ap (is_among by k) (sym (picked-given test key (map added_row acts) rows))
         ∙ sym (picked-among test key by k (given_on (map added_row acts) rows))
         ∙ routed-given cmp matching p acts s there
 
-  pub expressions-later : (region : Region) (source : Zid) (e : K) (acts : List (Act K)) (s : Store K) → is_among cmp e (expressions_of region source (acted_all cmp matching acts s).rows.routed) ≡ true
+  pub expressions-later : (region : Region) (source : Zid) (e : K) (acts : List (Act K)) (s : Store K) → is_among cmp e (expressions_of region source (acted_all cmp acts s).rows.routed) ≡ true
       → is_among cmp e (given_on (map (expression_added region source) acts) (expressions_of region source s.rows.routed)) ≡ true
   expressions-later region source = picked-later cmp (of_source region source) (λ row. row.expr)
 
-  pub sources-later : (region : Region) (z : Zid) (acts : List (Act K)) (s : Store K) → is_among zid_cmp z (sources_in region (acted_all cmp matching acts s).rows.routed) ≡ true
+  pub sources-later : (region : Region) (z : Zid) (acts : List (Act K)) (s : Store K) → is_among zid_cmp z (sources_in region (acted_all cmp acts s).rows.routed) ≡ true
       → is_among zid_cmp z (given_on (map (source_added region) acts) (sources_in region s.rows.routed)) ≡ true
   sources-later region = picked-later zid_cmp (of_region region) (λ row. row.source)

@@ -87,7 +87,7 @@ module _ {K A : Type 0} (gives : Face K → List (ℕ × A)) where
 
 module _ {K : Type 0} (cmp : K → K → Ordering) (matching : K → K → Bool) where
   -- ---- live
-  live-touched : (f : ℕ) (act : Act K) (s : Store K) → Fits cmp matching act s
+  live-touched : (f : ℕ) (act : Act K) (s : Store K) → Fits cmp act s
       → list_of_face (λ x. x.live) (touched f (touch cmp matching act s) (find_face f s.rows)) ≡ edited (live_edit f act) (list_of_face (λ x. x.live) (find_face f s.rows))
   unfolding fits
   live-touched f (CloseFace n) s fit = list-closed (λ x. x.live) n f (find_face f s.rows)
@@ -96,16 +96,16 @@ module _ {K : Type 0} (cmp : K → K → Ordering) (matching : K → K → Bool)
   live-touched f (DropLive n id) s fit = list-taken (λ x. x.live) n f id (unregistered id) (λ x. refl) (find_face f s.rows)
   live-touched f act s fit = list-kept (λ x. x.live) f (touch cmp matching act s) (λ i x. refl) (find_face f s.rows)
 
-  pub live-edited : (f : ℕ) (acts : List (Act K)) (s : Store K) → Fit cmp matching acts s
-      → list_of_face (λ x. x.live) (find_face f (acted_all cmp matching acts s).rows) ≡ edited_all (map (live_edit f) acts) (list_of_face (λ x. x.live) (find_face f s.rows))
+  pub live-edited : (f : ℕ) (acts : List (Act K)) (s : Store K) → Fit cmp acts s
+      → list_of_face (λ x. x.live) (find_face f (acted_all cmp acts s).rows) ≡ edited_all (map (live_edit f) acts) (list_of_face (λ x. x.live) (find_face f s.rows))
   unfolding acted_all Fit
   live-edited f [] s fit = refl
   live-edited f (act ∷ acts) s fit =
-      live-edited f acts (acted cmp matching act s) fit.1
+      live-edited f acts (acted cmp act s) fit.1
       ∙ ap (edited_all (map (live_edit f) acts)) (ap (list_of_face (λ x. x.live)) (face-acted cmp matching f act s) ∙ live-touched f act s fit.0)
 
   -- ---- held
-  held-touched : (f : ℕ) (act : Act K) (s : Store K) → Fits cmp matching act s
+  held-touched : (f : ℕ) (act : Act K) (s : Store K) → Fits cmp act s
       → list_of_face (λ x. x.held) (touched f (touch cmp matching act s) (find_face f s.rows)) ≡ edited (held_edit f act) (list_of_face (λ x. x.held) (find_face f s.rows))
   unfolding fits
   held-touched f (CloseFace n) s fit = list-closed (λ x. x.held) n f (find_face f s.rows)
@@ -114,16 +114,16 @@ module _ {K : Type 0} (cmp : K → K → Ordering) (matching : K → K → Bool)
   held-touched f (DropHeld n id) s fit = list-taken (λ x. x.held) n f id (unheld id) (λ x. refl) (find_face f s.rows)
   held-touched f act s fit = list-kept (λ x. x.held) f (touch cmp matching act s) (λ i x. refl) (find_face f s.rows)
 
-  pub held-edited : (f : ℕ) (acts : List (Act K)) (s : Store K) → Fit cmp matching acts s
-      → list_of_face (λ x. x.held) (find_face f (acted_all cmp matching acts s).rows) ≡ edited_all (map (held_edit f) acts) (list_of_face (λ x. x.held) (find_face f s.rows))
+  pub held-edited : (f : ℕ) (acts : List (Act K)) (s : Store K) → Fit cmp acts s
+      → list_of_face (λ x. x.held) (find_face f (acted_all cmp acts s).rows) ≡ edited_all (map (held_edit f) acts) (list_of_face (λ x. x.held) (find_face f s.rows))
   unfolding acted_all Fit
   held-edited f [] s fit = refl
   held-edited f (act ∷ acts) s fit =
-      held-edited f acts (acted cmp matching act s) fit.1
+      held-edited f acts (acted cmp act s) fit.1
       ∙ ap (edited_all (map (held_edit f) acts)) (ap (list_of_face (λ x. x.held)) (face-acted cmp matching f act s) ∙ held-touched f act s fit.0)
 
   -- ---- locals
-  locals-touched : (f : ℕ) (act : Act K) (s : Store K) → Fits cmp matching act s
+  locals-touched : (f : ℕ) (act : Act K) (s : Store K) → Fits cmp act s
       → list_of_face (λ x. x.locals) (touched f (touch cmp matching act s) (find_face f s.rows)) ≡ edited (locals_edit f act) (list_of_face (λ x. x.locals) (find_face f s.rows))
   unfolding fits
   locals-touched f (CloseFace n) s fit = list-closed (λ x. x.locals) n f (find_face f s.rows)
@@ -132,16 +132,16 @@ module _ {K : Type 0} (cmp : K → K → Ordering) (matching : K → K → Bool)
   locals-touched f (DropLocal n id) s fit = list-taken (λ x. x.locals) n f id (local_dropped id) (λ x. refl) (find_face f s.rows)
   locals-touched f act s fit = list-kept (λ x. x.locals) f (touch cmp matching act s) (λ i x. refl) (find_face f s.rows)
 
-  pub locals-edited : (f : ℕ) (acts : List (Act K)) (s : Store K) → Fit cmp matching acts s
-      → list_of_face (λ x. x.locals) (find_face f (acted_all cmp matching acts s).rows) ≡ edited_all (map (locals_edit f) acts) (list_of_face (λ x. x.locals) (find_face f s.rows))
+  pub locals-edited : (f : ℕ) (acts : List (Act K)) (s : Store K) → Fit cmp acts s
+      → list_of_face (λ x. x.locals) (find_face f (acted_all cmp acts s).rows) ≡ edited_all (map (locals_edit f) acts) (list_of_face (λ x. x.locals) (find_face f s.rows))
   unfolding acted_all Fit
   locals-edited f [] s fit = refl
   locals-edited f (act ∷ acts) s fit =
-      locals-edited f acts (acted cmp matching act s) fit.1
+      locals-edited f acts (acted cmp act s) fit.1
       ∙ ap (edited_all (map (locals_edit f) acts)) (ap (list_of_face (λ x. x.locals)) (face-acted cmp matching f act s) ∙ locals-touched f act s fit.0)
 
   -- ---- pendings
-  pendings-touched : (f : ℕ) (act : Act K) (s : Store K) → Fits cmp matching act s
+  pendings-touched : (f : ℕ) (act : Act K) (s : Store K) → Fits cmp act s
       → list_of_face (λ x. x.pendings) (touched f (touch cmp matching act s) (find_face f s.rows)) ≡ edited (pendings_edit f act) (list_of_face (λ x. x.pendings) (find_face f s.rows))
   unfolding fits
   pendings-touched f (CloseFace n) s fit = list-closed (λ x. x.pendings) n f (find_face f s.rows)
@@ -152,12 +152,12 @@ module _ {K : Type 0} (cmp : K → K → Ordering) (matching : K → K → Bool)
   pendings-touched f (DropPending n id) s fit = list-taken (λ x. x.pendings) n f id (ended id) (λ x. refl) (find_face f s.rows)
   pendings-touched f act s fit = list-kept (λ x. x.pendings) f (touch cmp matching act s) (λ i x. refl) (find_face f s.rows)
 
-  pub pendings-edited : (f : ℕ) (acts : List (Act K)) (s : Store K) → Fit cmp matching acts s
-      → list_of_face (λ x. x.pendings) (find_face f (acted_all cmp matching acts s).rows) ≡ edited_all (map (pendings_edit f) acts) (list_of_face (λ x. x.pendings) (find_face f s.rows))
+  pub pendings-edited : (f : ℕ) (acts : List (Act K)) (s : Store K) → Fit cmp acts s
+      → list_of_face (λ x. x.pendings) (find_face f (acted_all cmp acts s).rows) ≡ edited_all (map (pendings_edit f) acts) (list_of_face (λ x. x.pendings) (find_face f s.rows))
   unfolding acted_all Fit
   pendings-edited f [] s fit = refl
   pendings-edited f (act ∷ acts) s fit =
-      pendings-edited f acts (acted cmp matching act s) fit.1
+      pendings-edited f acts (acted cmp act s) fit.1
       ∙ ap (edited_all (map (pendings_edit f) acts)) (ap (list_of_face (λ x. x.pendings)) (face-acted cmp matching f act s) ∙ pendings-touched f act s fit.0)
 
   -- an interest is put where none stands
@@ -168,17 +168,17 @@ module _ {K : Type 0} (cmp : K → K → Ordering) (matching : K → K → Bool)
       at_face None h = cc
       at_face (Some x) h = by_test (has_id id x.held) (λ u. cc (rw u at h)) (λ u. u)
 
-  held-fit : (f : ℕ) (act : Act K) (s : Store K) → Fits cmp matching act s → EditFits (held_edit f act) (list_of_face (λ x. x.held) (find_face f s.rows))
+  held-fit : (f : ℕ) (act : Act K) (s : Store K) → Fits cmp act s → EditFits (held_edit f act) (list_of_face (λ x. x.held) (find_face f s.rows))
   unfolding fits
   held-fit f (AddHeld n id interest) s fit = by_test (n == f) (λ t. rw t (missing n f id s.rows.faces fit t)) (λ t. rw t tt)
   held-fit f (DropHeld n id) s fit = by_test (n == f) (λ t. rw t tt) (λ t. rw t tt)
   held-fit f (CloseFace n) s fit = by_test (n == f) (λ t. rw t tt) (λ t. rw t tt)
   held-fit f _ s fit = tt
 
-  pub held-fits : (f : ℕ) (acts : List (Act K)) (s : Store K) → Fit cmp matching acts s → EditsFit (map (held_edit f) acts) (list_of_face (λ x. x.held) (find_face f s.rows))
+  pub held-fits : (f : ℕ) (acts : List (Act K)) (s : Store K) → Fit cmp acts s → EditsFit (map (held_edit f) acts) (list_of_face (λ x. x.held) (find_face f s.rows))
   unfolding acted_all Fit
   held-fits f [] s fit = tt
   held-fits f (act ∷ acts) s fit =
-      let here : list_of_face (λ x. x.held) (find_face f (acted cmp matching act s).rows) ≡ edited (held_edit f act) (list_of_face (λ x. x.held) (find_face f s.rows)) =
+      let here : list_of_face (λ x. x.held) (find_face f (acted cmp act s).rows) ≡ edited (held_edit f act) (list_of_face (λ x. x.held) (find_face f s.rows)) =
       ap (list_of_face (λ x. x.held)) (face-acted cmp matching f act s) ∙ held-touched f act s fit.0 in
-      (held-fit f act s fit.0, subst (λ rows. EditsFit (map (held_edit f) acts) rows) here (held-fits f acts (acted cmp matching act s) fit.1))
+      (held-fit f act s fit.0, subst (λ rows. EditsFit (map (held_edit f) acts) rows) here (held-fits f acts (acted cmp act s) fit.1))

@@ -68,6 +68,6 @@ module _ {K : Type 0} (cmp : K → K → Ordering) where
         (λ u. rw u rest)))
 
     pub from-untold : (matching : K → K → Bool) (f : ℕ) (e : K) (n : ℕ) (k : K) (face : Option (Face K))
-        → from_face (λ x. told_id cmp e x.told) (if n == f then option_map (told_ended cmp matching k) face else face) ≡ (if (n == f) && same cmp k e then None else from_face (λ x. told_id cmp e x.told) face)
+        → from_face (λ x. told_id cmp e x.told) (if n == f then option_map (told_ended cmp k) face else face) ≡ (if (n == f) && same cmp k e then None else from_face (λ x. told_id cmp e x.told) face)
     from-untold matching f e n k None = by_test (n == f) (λ t. rw t (by_test (same cmp k e) (λ u. rw u refl) (λ u. rw u refl))) (λ t. rw t refl)
     from-untold matching f e n k (Some x) = by_test (n == f) (λ t. rw t (without-told e k x.told)) (λ t. rw t refl)

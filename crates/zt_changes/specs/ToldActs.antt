@@ -25,8 +25,8 @@ module _ {K : Type 0} (cmp : K → K → Ordering) (matching : K → K → Bool)
   told_step f e _ found = found
 
   module _ (o : IsTotalOrder cmp) where
-    told-acted : (f : ℕ) (e : K) (act : Act K) (s : Store K) → Fits cmp matching act s
-        → from_face (λ x. told_id cmp e x.told) (find_face f (acted cmp matching act s).rows) ≡ told_step f e act (from_face (λ x. told_id cmp e x.told) (find_face f s.rows))
+    told-acted : (f : ℕ) (e : K) (act : Act K) (s : Store K) → Fits cmp act s
+        → from_face (λ x. told_id cmp e x.told) (find_face f (acted cmp act s).rows) ≡ told_step f e act (from_face (λ x. told_id cmp e x.told) (find_face f s.rows))
     unfolding acted fits with_face with_routed without_routed told_id
     told-acted f e (OpenFace zid whatami region bound first) s fit = from-opened f (λ x. told_id cmp e x.told) (face_opened zid whatami region bound first s.rows) refl s.rows.faces
     told-acted f e (CloseFace n) s fit = from-closed f (λ x. told_id cmp e x.told) n s.rows.faces
@@ -35,7 +35,7 @@ module _ {K : Type 0} (cmp : K → K → Ordering) (matching : K → K → Bool)
     told-acted f e (AddRouted region source k) s fit = refl
     told-acted f e (DropRouted region source k) s fit = refl
     told-acted f e (Tell n i k) s fit = ap (from_face (λ x. told_id cmp e x.told)) (face-changed f n (told_under i k) (λ x. refl) s.rows.faces) ∙ from-told cmp o f e n i k (face_in f s.rows.faces) (not-kept-where cmp n f i k s.rows.faces fit)
-    told-acted f e (Untell n k) s fit = ap (from_face (λ x. told_id cmp e x.told)) (face-changed f n (told_ended cmp matching k) (λ x. refl) s.rows.faces) ∙ from-untold cmp o matching f e n k (face_in f s.rows.faces)
+    told-acted f e (Untell n k) s fit = ap (from_face (λ x. told_id cmp e x.told)) (face-changed f n (told_ended cmp k) (λ x. refl) s.rows.faces) ∙ from-untold cmp o matching f e n k (face_in f s.rows.faces)
     told-acted f e (AddHeld n i interest) s fit = ap (from_face (λ x. told_id cmp e x.told)) (face-changed f n (held_added i interest) (λ x. refl) s.rows.faces) ∙ from-kept f (λ x. told_id cmp e x.told) n (held_added i interest) (face_in f s.rows.faces) (λ x. refl)
     told-acted f e (DropHeld n i) s fit = ap (from_face (λ x. told_id cmp e x.told)) (face-changed f n (unheld i) (λ x. refl) s.rows.faces) ∙ from-kept f (λ x. told_id cmp e x.told) n (unheld i) (face_in f s.rows.faces) (λ x. refl)
     told-acted f e (AddLocal n i interest) s fit = ap (from_face (λ x. told_id cmp e x.told)) (face-changed f n (local_added i interest) (λ x. refl) s.rows.faces) ∙ from-kept f (λ x. told_id cmp e x.told) n (local_added i interest) (face_in f s.rows.faces) (λ x. refl)
@@ -49,7 +49,7 @@ module _ {K : Type 0} (cmp : K → K → Ordering) (matching : K → K → Bool)
         ∙ ap (from_face (λ x. told_id cmp e x.told)) changed ∙ from-kept f (λ x. told_id cmp e x.told) n (pending_added i pending) (face_in f s.rows.faces) (λ x. refl)
     told-acted f e (DropPending n i) s fit = ap (from_face (λ x. told_id cmp e x.told)) (face-changed f n (ended i) (λ x. refl) s.rows.faces) ∙ from-kept f (λ x. told_id cmp e x.told) n (ended i) (face_in f s.rows.faces) (λ x. refl)
     told-acted f e (AddAsk n i interest) s fit = ap (from_face (λ x. told_id cmp e x.told)) (face-changed f n (ask_added i interest) (λ x. refl) s.rows.faces) ∙ from-kept f (λ x. told_id cmp e x.told) n (ask_added i interest) (face_in f s.rows.faces) (λ x. refl)
-    told-acted f e (Answered n k) s fit = kept-at_ask (λ x. told_id cmp e x.told) f n (answered_with cmp matching k) (λ i x. refl) (λ i x. refl) s
+    told-acted f e (Answered n k) s fit = kept-at_ask (λ x. told_id cmp e x.told) f n (answered_with cmp k) (λ i x. refl) (λ i x. refl) s
     told-acted f e (DropAsk n) s fit = kept-at_ask (λ x. told_id cmp e x.told) f n ask_dropped (λ i x. refl) (λ i x. refl) s
     told-acted f e (Send n m) s fit = refl
     told-acted f e (SetMoment now) s fit = refl
@@ -57,8 +57,8 @@ module _ {K : Type 0} (cmp : K → K → Ordering) (matching : K → K → Bool)
     told-acted f e (SetEntities n subscribers queryables) s fit = ap (from_face (λ x. told_id cmp e x.told)) (face-changed f n (entities_set subscribers queryables) (λ x. refl) s.rows.faces) ∙ from-kept f (λ x. told_id cmp e x.told) n (entities_set subscribers queryables) (face_in f s.rows.faces) (λ x. refl)
     told-acted f e (Number k) s fit = refl
 
-    pub told-after : (f : ℕ) (e : K) (acts : List (Act K)) (s : Store K) → Fit cmp matching acts s
-        → from_face (λ x. told_id cmp e x.told) (find_face f (acted_all cmp matching acts s).rows) ≡ folded (told_step f e) acts (from_face (λ x. told_id cmp e x.told) (find_face f s.rows))
+    pub told-after : (f : ℕ) (e : K) (acts : List (Act K)) (s : Store K) → Fit cmp acts s
+        → from_face (λ x. told_id cmp e x.told) (find_face f (acted_all cmp acts s).rows) ≡ folded (told_step f e) acts (from_face (λ x. told_id cmp e x.told) (find_face f s.rows))
     unfolding acted_all Fit
     told-after f e [] s fit = refl
-    told-after f e (act ∷ acts) s fit = told-after f e acts (acted cmp matching act s) fit.1 ∙ ap (folded (told_step f e) acts) (told-acted f e act s fit.0)
+    told-after f e (act ∷ acts) s fit = told-after f e acts (acted cmp act s) fit.1 ∙ ap (folded (told_step f e) acts) (told-acted f e act s fit.0)

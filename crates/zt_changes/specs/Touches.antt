@@ -81,7 +81,7 @@ module _ {K : Type 0} (cmp : K → K → Ordering) (matching : K → K → Bool)
   touch (AddLive n id e) s = Changes (Some n) (registered id e)
   touch (DropLive n id) s = Changes (Some n) (unregistered id)
   touch (Tell n id e) s = Changes (Some n) (told_under id e)
-  touch (Untell n e) s = Changes (Some n) (told_ended cmp matching e)
+  touch (Untell n e) s = Changes (Some n) (told_ended cmp e)
   touch (AddHeld n id interest) s = Changes (Some n) (held_added id interest)
   touch (DropHeld n id) s = Changes (Some n) (unheld id)
   touch (AddLocal n id interest) s = Changes (Some n) (local_added id interest)
@@ -90,7 +90,7 @@ module _ {K : Type 0} (cmp : K → K → Ordering) (matching : K → K → Bool)
   touch (AddPending n id ask pending) s = ChangesAll n (pending_added id pending) (with_listed (place_of_ask s ask) (n, id))
   touch (DropPending n id) s = Changes (Some n) (ended id)
   touch (AddAsk n id interest) s = Changes (Some n) (ask_added id interest)
-  touch (Answered n e) s = Changes (face_at (at_id n s.numbers)) (answered_with cmp matching e (id_at (at_id n s.numbers)))
+  touch (Answered n e) s = Changes (face_at (at_id n s.numbers)) (answered_with cmp e (id_at (at_id n s.numbers)))
   touch (DropAsk n) s = Changes (face_at (at_id n s.numbers)) (ask_dropped (id_at (at_id n s.numbers)))
   touch (SetEntities n subscribers queryables) s = Changes (Some n) (entities_set subscribers queryables)
   touch _ s = Changes None (λ x. x)
@@ -100,9 +100,9 @@ module _ {K : Type 0} (cmp : K → K → Ordering) (matching : K → K → Bool)
   unfolding with_face
   touch-at_ask n change s = by_option (at_id n s.numbers) (λ p is. rw (is, at_ask) refl) (λ none. rw (none, at_ask) refl)
 
-  pub faces-acted : (act : Act K) (s : Store K) → (acted cmp matching act s).rows.faces ≡ touched_all (touch act s) s.rows.faces
+  pub faces-acted : (act : Act K) (s : Store K) → (acted cmp act s).rows.faces ≡ touched_all (touch act s) s.rows.faces
   unfolding acted with_face with_routed without_routed
-  faces-acted (Answered n e) s = touch-at_ask n (answered_with cmp matching e) s
+  faces-acted (Answered n e) s = touch-at_ask n (answered_with cmp e) s
   faces-acted (DropAsk n) s = touch-at_ask n ask_dropped s
   faces-acted _ s = refl
 
@@ -111,7 +111,7 @@ module _ {K : Type 0} (cmp : K → K → Ordering) (matching : K → K → Bool)
   keeps-number _ s = λ i x. refl
 
   -- the face of a number after an act
-  pub face-acted : (f : ℕ) (act : Act K) (s : Store K) → find_face f (acted cmp matching act s).rows ≡ touched f (touch act s) (find_face f s.rows)
+  pub face-acted : (f : ℕ) (act : Act K) (s : Store K) → find_face f (acted cmp act s).rows ≡ touched f (touch act s) (find_face f s.rows)
   face-acted f act s = ap (face_in f) (faces-acted act s) ∙ face-touched f (touch act s) (keeps-number act s) s.rows.faces
 
   made-at_ask : (n : ℕ) (change : ℕ → Face K → Face K) (s : Store K) → (at_ask n change s).rows.made ≡ s.rows.made
@@ -123,8 +123,8 @@ module _ {K : Type 0} (cmp : K → K → Ordering) (matching : K → K → Bool)
   made_by (OpenFace zid whatami region bound first) made = made + 1
   made_by _ made = made
 
-  pub made-acted : (act : Act K) (s : Store K) → (acted cmp matching act s).rows.made ≡ made_by act s.rows.made
+  pub made-acted : (act : Act K) (s : Store K) → (acted cmp act s).rows.made ≡ made_by act s.rows.made
   unfolding acted with_face with_routed without_routed
-  made-acted (Answered n e) s = made-at_ask n (answered_with cmp matching e) s
+  made-acted (Answered n e) s = made-at_ask n (answered_with cmp e) s
   made-acted (DropAsk n) s = made-at_ask n ask_dropped s
   made-acted _ s = refl

@@ -25,11 +25,11 @@ module _ {K : Type 0} (cmp : K → K → Ordering) (matching : K → K → Bool)
   wants-list e None = refl
   wants-list e (Some x) = refl
 
-  pub wants-after : (f : ℕ) (e : K) (acts : List (Act K)) (s : Store K) → Fit cmp matching acts s
-      → is_some_and (find_face f (acted_all cmp matching acts s).rows) (λ x. wants matching x e)
+  pub wants-after : (f : ℕ) (e : K) (acts : List (Act K)) (s : Store K) → Fit cmp acts s
+      → is_some_and (find_face f (acted_all cmp acts s).rows) (λ x. wants matching x e)
       ≡ (any_put (λ interest. asks_token matching interest e) (map (held_edit f) acts)
       || list_any (λ row. asks_token matching row.1 e && kept_by (map (held_edit f) acts) row.0) (list_of_face (λ x. x.held) (find_face f s.rows)))
   wants-after f e acts s fit =
-      wants-list e (find_face f (acted_all cmp matching acts s).rows)
+      wants-list e (find_face f (acted_all cmp acts s).rows)
       ∙ ap (list_any (λ row. asks_token matching row.1 e)) (held-edited cmp matching f acts s fit)
       ∙ any-edited_all (λ interest. asks_token matching interest e) (map (held_edit f) acts) (list_of_face (λ x. x.held) (find_face f s.rows)) (held-fits cmp matching f acts s fit)

@@ -27,15 +27,15 @@ module _ {K : Type 0} (cmp : K → K → Ordering) (matching : K → K → Bool)
   made-next (OpenFace zid whatami region bound first) made = omega arith
   made-next _ made = omega arith
 
-  made-rises : (acts : List (Act K)) (s : Store K) → s.rows.made ≤ (acted_all cmp matching acts s).rows.made
+  made-rises : (acts : List (Act K)) (s : Store K) → s.rows.made ≤ (acted_all cmp acts s).rows.made
   unfolding acted_all
   made-rises [] s = omega arith
-  made-rises (act ∷ acts) s = omega (arith, made-one act s.rows.made, made-acted cmp matching act s, made-rises acts (acted cmp matching act s))
+  made-rises (act ∷ acts) s = omega (arith, made-one act s.rows.made, made-acted cmp matching act s, made-rises acts (acted cmp act s))
 
-  pub made-most : (acts : List (Act K)) (s : Store K) → (acted_all cmp matching acts s).rows.made ≤ s.rows.made + length acts
+  pub made-most : (acts : List (Act K)) (s : Store K) → (acted_all cmp acts s).rows.made ≤ s.rows.made + length acts
   unfolding acted_all
   made-most [] s = omega arith
-  made-most (act ∷ acts) s = omega (arith, made-next act s.rows.made, made-acted cmp matching act s, made-most acts (acted cmp matching act s))
+  made-most (act ∷ acts) s = omega (arith, made-next act s.rows.made, made-acted cmp matching act s, made-most acts (acted cmp act s))
 
 -- ---- one change
 module _ {K : Type 0} where
@@ -113,7 +113,7 @@ module _ {K : Type 0} (cmp : K → K → Ordering) (matching : K → K → Bool)
   not-new : (f made : ℕ) → f ≤ made → (f == made + 1) ≡ false
   not-new f made most = grind (arith, nat_tests)
 
-  next-by : (f : ℕ) (act : Act K) (s : Store K) → f ≤ s.rows.made → Fits cmp matching act s → draws_next act s ≡ true → NextBy f act s
+  next-by : (f : ℕ) (act : Act K) (s : Store K) → f ≤ s.rows.made → Fits cmp act s → draws_next act s ≡ true → NextBy f act s
   unfolding fits
   next-by f (OpenFace zid whatami region bound first) s made fit draws = same-by f (OpenFace zid whatami region bound first) s refl (not-new f s.rows.made made)
   next-by f (CloseFace m) s made fit draws = same-by f (CloseFace m) s refl tt
@@ -142,11 +142,11 @@ module _ {K : Type 0} (cmp : K → K → Ordering) (matching : K → K → Bool)
   next-by f (Number e) s made fit draws = same-by f (Number e) s refl (λ x. refl)
 
   -- ---- plans
-  pub acted-last : (acts : List (Act K)) (act : Act K) (s : Store K) → acted_all cmp matching (acts ++ act ∷ []) s ≡ acted cmp matching act (acted_all cmp matching acts s)
+  pub acted-last : (acts : List (Act K)) (act : Act K) (s : Store K) → acted_all cmp (acts ++ act ∷ []) s ≡ acted cmp act (acted_all cmp acts s)
   unfolding acted_all
   acted-last acts act s = acted_all-append cmp matching acts (act ∷ []) s
 
-  fit-last : (acts : List (Act K)) (act : Act K) (s : Store K) → Fit cmp matching acts s → Fits cmp matching act (acted_all cmp matching acts s) → Fit cmp matching (acts ++ act ∷ []) s
+  fit-last : (acts : List (Act K)) (act : Act K) (s : Store K) → Fit cmp acts s → Fits cmp act (acted_all cmp acts s) → Fit cmp (acts ++ act ∷ []) s
   unfolding Fit
   fit-last acts act s fit last = fit-append cmp matching acts (act ∷ []) s fit (last, tt)
 
@@ -159,15 +159,15 @@ module _ {K : Type 0} (cmp : K → K → Ordering) (matching : K → K → Bool)
   checked-none s = record { fit = tt; next = λ f x made found. rw found (sym (add-zero x.next)) }
 
   -- a change more
-  pub checked-added : (acts : List (Act K)) (act : Act K) (s : Store K) → IsChecked cmp matching acts s → Fits cmp matching act (acted_all cmp matching acts s) → draws_next act (acted_all cmp matching acts s) ≡ true
+  pub checked-added : (acts : List (Act K)) (act : Act K) (s : Store K) → IsChecked cmp matching acts s → Fits cmp act (acted_all cmp acts s) → draws_next act (acted_all cmp acts s) ≡ true
       → IsChecked cmp matching (acts ++ act ∷ []) s
   checked-added acts act s checked fit draws = record {
     fit = fit-last acts act s checked.fit fit;
     next = λ f x made found.
-        let later = acted_all cmp matching acts s in
+        let later = acted_all cmp acts s in
         let there = next-by f act later (omega (arith, made, made-rises cmp matching acts s)) fit draws (x.next + count_drawn f acts) (checked.next f x made found) in
         let count : x.next + count_drawn f (acts ++ act ∷ []) ≡ x.next + count_drawn f acts + ids_of f act = omega (arith, count-last f acts act) in
-        subst (λ (k : ℕ). IfSome (find_face f (acted_all cmp matching (acts ++ act ∷ []) s).rows) (IsNext k)) (sym count)
+        subst (λ (k : ℕ). IfSome (find_face f (acted_all cmp (acts ++ act ∷ []) s).rows) (IsNext k)) (sym count)
         (subst (λ (t : Store K). IfSome (find_face f t.rows) (IsNext (x.next + count_drawn f acts + ids_of f act))) (sym (acted-last acts act s))
         (subst (λ (o : Option (Face K)). IfSome o (IsNext (x.next + count_drawn f acts + ids_of f act))) (sym (face-acted cmp matching f act later)) there));
   }

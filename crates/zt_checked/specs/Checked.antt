@@ -29,5 +29,5 @@ abbrev pub IsNext : {K : Type 0} → ℕ → Face K → Type 0
 IsNext n x = x.next ≡ n
 
 pub record IsChecked {K : Type 0} (cmp : K → K → Ordering) (matching : K → K → Bool) (acts : List (Act K)) (s : Store K) : Type 0 where
-  pub fit : Fit cmp matching acts s
-  pub next : (f : ℕ) (x : Face K) → f ≤ s.rows.made → find_face f s.rows ≡ Some x → IfSome (find_face f (acted_all cmp matching acts s).rows) (IsNext (x.next + count_drawn f acts))
+  pub fit : Fit cmp acts s
+  pub next : (f : ℕ) (x : Face K) → f ≤ s.rows.made → find_face f s.rows ≡ Some x → IfSome (find_face f (acted_all cmp acts s).rows) (IsNext (x.next + count_drawn f acts))

@@ -30,7 +30,7 @@ pub fn add_fitting<K: Key>(
     requires { IsChecked K.cmp K.matching plan.old tables.now.store }
     ensures checked { IsChecked K.cmp K.matching plan.new tables.now.store }
     ensures ok { IfOk result (λ added. plan.new ≡ (if added then plan.old ++ plain_change change ∷ [] else plan.old)) }
-    ensures exact { IfOk result (λ added. is_told_exactly (plain_change change) ≡ true → added ≡ fits K.cmp K.matching (plain_change change) (acted_all K.cmp K.matching plan.old tables.now.store)) }
+    ensures exact { IfOk result (λ added. is_told_exactly (plain_change change) ≡ true → added ≡ fits K.cmp (plain_change change) (acted_all K.cmp plan.old tables.now.store)) }
     ensures err { OnErr result (plan.new ≡ plan.old) }
 {
     if !fits(tables, plan, &change) {
@@ -60,8 +60,8 @@ pub fn plan_fitting<K: Key>(
 
 /// Makes room for the plan and makes its changes. The only error is want of memory, and then no row changes.
 pub fn apply_fitting<K: Key>(tables: &mut Tables<K>, plan: Plan<K>) -> Result<(), Memory>
-    requires { Fit K.cmp K.matching plan tables.old.store }
-    ensures ok { OnOk result (tables.new.store ≡ acted_all K.cmp K.matching plan tables.old.store) }
+    requires { Fit K.cmp plan tables.old.store }
+    ensures ok { OnOk result (tables.new.store ≡ acted_all K.cmp plan tables.old.store) }
     ensures err { OnErr result (tables.new.store ≡ tables.old.store) }
 {
     let mut plan = plan;

@@ -17,7 +17,7 @@ use zt_tables::{Plan, Tables};
 // plan opens draws first, no query tells.
 fn next_id<K: Key>(tables: &Tables<K>, plan: &Plan<K>, f: u32) -> Option<u32>
     requires { IsChecked K.cmp K.matching plan.now tables.now.store }
-    ensures { IfSome result (λ id. IsTrue (is_some_and (find_face f (acted_all K.cmp K.matching plan.now tables.now.store).rows) (is_drawn id))) }
+    ensures { IfSome result (λ id. IsTrue (is_some_and (find_face f (acted_all K.cmp plan.now tables.now.store).rows) (is_drawn id))) }
 {
     tables.faces_rise();
     let left = tables.left_ids(f);
@@ -32,7 +32,7 @@ fn next_id<K: Key>(tables: &Tables<K>, plan: &Plan<K>, f: u32) -> Option<u32>
 // Whether the id is the one that is drawn next for the face.
 pub(crate) fn is_next<K: Key>(tables: &Tables<K>, plan: &Plan<K>, f: u32, id: u32) -> bool
     requires { IsChecked K.cmp K.matching plan.now tables.now.store }
-    ensures { result ≡ true → is_some_and (find_face f (acted_all K.cmp K.matching plan.now tables.now.store).rows) (is_drawn id) ≡ true }
+    ensures { result ≡ true → is_some_and (find_face f (acted_all K.cmp plan.now tables.now.store).rows) (is_drawn id) ≡ true }
 {
     match next_id(tables, plan, f) {
         Some(next) => id == next,
@@ -49,7 +49,7 @@ pub(crate) fn telling_fits<K: Key>(
     expr: &K,
 ) -> bool
     requires { IsChecked K.cmp K.matching plan.now tables.now.store }
-    ensures { result ≡ true → Fits K.cmp K.matching (Tell f id expr.now) (acted_all K.cmp K.matching plan.now tables.now.store) }
+    ensures { result ≡ true → Fits K.cmp (Tell f id expr.now) (acted_all K.cmp plan.now tables.now.store) }
 {
     if is_told(tables, plan, f, expr) {
         false
@@ -67,8 +67,8 @@ pub(crate) fn local_fits<K: Key>(
     row: &UpstreamRow<K>,
 ) -> bool
     requires { IsChecked K.cmp K.matching plan.now tables.now.store }
-    ensures fits { result ≡ true → Fits K.cmp K.matching (AddLocal f row.now.id (interest_sent row.now)) (acted_all K.cmp K.matching plan.now tables.now.store) }
-    ensures draws { result ≡ true → draws_next (AddLocal f row.now.id (interest_sent row.now)) (acted_all K.cmp K.matching plan.now tables.now.store) ≡ true }
+    ensures fits { result ≡ true → Fits K.cmp (AddLocal f row.now.id (interest_sent row.now)) (acted_all K.cmp plan.now tables.now.store) }
+    ensures draws { result ≡ true → draws_next (AddLocal f row.now.id (interest_sent row.now)) (acted_all K.cmp plan.now tables.now.store) ≡ true }
 {
     plan.ids_drawn(tables, f);
     let id = row.id;
@@ -90,8 +90,8 @@ pub(crate) fn pending_fits<K: Key>(
     row: &PendingRow,
 ) -> bool
     requires { IsChecked K.cmp K.matching plan.now tables.now.store }
-    ensures fits { result ≡ true → Fits K.cmp K.matching (AddPending f row.now.id row.now.ask (plain_pending row.now)) (acted_all K.cmp K.matching plan.now tables.now.store) }
-    ensures draws { result ≡ true → draws_next (AddPending f row.now.id row.now.ask (plain_pending row.now)) (acted_all K.cmp K.matching plan.now tables.now.store) ≡ true }
+    ensures fits { result ≡ true → Fits K.cmp (AddPending f row.now.id row.now.ask (plain_pending row.now)) (acted_all K.cmp plan.now tables.now.store) }
+    ensures draws { result ≡ true → draws_next (AddPending f row.now.id row.now.ask (plain_pending row.now)) (acted_all K.cmp plan.now tables.now.store) ≡ true }
 {
     let id = row.id;
     if !has_place(tables, plan, RowKind::Pending, f, id) {

@@ -26,7 +26,7 @@ const MOST_NUMBERS: u32 = 65535;
 // Whether a face may open. No query says how many faces a plan opens, so each of its changes is taken for one: near the
 // last number the answer is no where some of them open none.
 fn opening_fits<K: Key>(tables: &Tables<K>, plan: &Plan<K>, row: &FaceRow) -> bool
-    ensures { result ≡ true → Fits K.cmp K.matching (OpenFace row.now.zid row.now.whatami row.now.region row.now.remote_bound row.now.first) (acted_all K.cmp K.matching plan.now tables.now.store) }
+    ensures { result ≡ true → Fits K.cmp (OpenFace row.now.zid row.now.whatami row.now.region row.now.remote_bound row.now.first) (acted_all K.cmp plan.now tables.now.store) }
 {
     match tables.next_face_number() {
         Some(number) if number as usize + plan.len() <= MOST_FACES => has_region(
@@ -44,8 +44,8 @@ fn routed_comes<K: Key>(
     source: Zid,
     expr: &K,
 ) -> bool
-    requires { Fit K.cmp K.matching plan.now tables.now.store }
-    ensures { result ≡ fits K.cmp K.matching (AddRouted region source expr.now) (acted_all K.cmp K.matching plan.now tables.now.store) }
+    requires { Fit K.cmp plan.now tables.now.store }
+    ensures { result ≡ fits K.cmp (AddRouted region source expr.now) (acted_all K.cmp plan.now tables.now.store) }
 {
     if has_region(tables, region) {
         !plan.routed(tables, region, source, expr)
@@ -62,8 +62,8 @@ fn routed_goes<K: Key>(
     source: Zid,
     expr: &K,
 ) -> bool
-    requires { Fit K.cmp K.matching plan.now tables.now.store }
-    ensures { result ≡ fits K.cmp K.matching (DropRouted region source expr.now) (acted_all K.cmp K.matching plan.now tables.now.store) }
+    requires { Fit K.cmp plan.now tables.now.store }
+    ensures { result ≡ fits K.cmp (DropRouted region source expr.now) (acted_all K.cmp plan.now tables.now.store) }
 {
     if has_region(tables, region) {
         plan.routed(tables, region, source, expr)
@@ -74,8 +74,8 @@ fn routed_goes<K: Key>(
 
 // Whether the face may ask under the id.
 fn ask_fits<K: Key>(tables: &Tables<K>, plan: &Plan<K>, f: u32, id: u32) -> bool
-    requires { Fit K.cmp K.matching plan.now tables.now.store }
-    ensures { result ≡ is_some_and (find_face f (acted_all K.cmp K.matching plan.now tables.now.store).rows) (λ x. not (has_id id x.asks)) }
+    requires { Fit K.cmp plan.now tables.now.store }
+    ensures { result ≡ is_some_and (find_face f (acted_all K.cmp plan.now tables.now.store).rows) (λ x. not (has_id id x.asks)) }
 {
     match plan.ask_of(tables, f, id) {
         Some(_) => false,
@@ -86,7 +86,7 @@ fn ask_fits<K: Key>(tables: &Tables<K>, plan: &Plan<K>, f: u32, id: u32) -> bool
 // Whether the moment may come. No query tells the moment that a plan leaves, so it is taken as a plan's first change
 // alone.
 fn moment_fits<K: Key>(tables: &Tables<K>, plan: &Plan<K>, now: u64) -> bool
-    ensures { result ≡ true → Fits K.cmp K.matching (SetMoment now) (acted_all K.cmp K.matching plan.now tables.now.store) }
+    ensures { result ≡ true → Fits K.cmp (SetMoment now) (acted_all K.cmp plan.now tables.now.store) }
 {
     if plan.len() == 0 {
         tables.moment() <= now
@@ -97,8 +97,8 @@ fn moment_fits<K: Key>(tables: &Tables<K>, plan: &Plan<K>, now: u64) -> bool
 
 // Whether the expression may get a number.
 fn number_fits<K: Key>(tables: &Tables<K>, plan: &Plan<K>, expr: &K) -> bool
-    requires { Fit K.cmp K.matching plan.now tables.now.store }
-    ensures { result ≡ fits K.cmp K.matching (Number expr.now) (acted_all K.cmp K.matching plan.now tables.now.store) }
+    requires { Fit K.cmp plan.now tables.now.store }
+    ensures { result ≡ fits K.cmp (Number expr.now) (acted_all K.cmp plan.now tables.now.store) }
 {
     match plan.dictionary(tables, expr) {
         Some(_) => false,
@@ -109,9 +109,9 @@ fn number_fits<K: Key>(tables: &Tables<K>, plan: &Plan<K>, expr: &K) -> bool
 // Whether the change fits.
 pub(crate) fn fits<K: Key>(tables: &Tables<K>, plan: &Plan<K>, change: &Change<K>) -> bool
     requires { IsChecked K.cmp K.matching plan.now tables.now.store }
-    ensures fits { result ≡ true → Fits K.cmp K.matching (plain_change change.now) (acted_all K.cmp K.matching plan.now tables.now.store) }
-    ensures draws { result ≡ true → draws_next (plain_change change.now) (acted_all K.cmp K.matching plan.now tables.now.store) ≡ true }
-    ensures exact { is_told_exactly (plain_change change.now) ≡ true → result ≡ fits K.cmp K.matching (plain_change change.now) (acted_all K.cmp K.matching plan.now tables.now.store) }
+    ensures fits { result ≡ true → Fits K.cmp (plain_change change.now) (acted_all K.cmp plan.now tables.now.store) }
+    ensures draws { result ≡ true → draws_next (plain_change change.now) (acted_all K.cmp plan.now tables.now.store) ≡ true }
+    ensures exact { is_told_exactly (plain_change change.now) ≡ true → result ≡ fits K.cmp (plain_change change.now) (acted_all K.cmp plan.now tables.now.store) }
 {
     match change {
         Change::OpenFace { row } => opening_fits(tables, plan, row),

@@ -33,8 +33,8 @@ pub(crate) fn has_region<K: Key>(tables: &Tables<K>, region: Region) -> bool
 
 /// Whether the face is open after a plan, whose changes fit.
 pub fn has_face<K: Key>(tables: &Tables<K>, plan: &Plan<K>, f: u32) -> bool
-    requires { Fit K.cmp K.matching plan.now tables.now.store }
-    ensures { result ≡ is_open f (acted_all K.cmp K.matching plan.now tables.now.store) }
+    requires { Fit K.cmp plan.now tables.now.store }
+    ensures { result ≡ is_open f (acted_all K.cmp plan.now tables.now.store) }
 {
     plan.face(tables, f).is_some()
 }
@@ -47,8 +47,8 @@ pub(crate) fn has_row<K: Key>(
     f: u32,
     id: u32,
 ) -> bool
-    requires { Fit K.cmp K.matching plan.now tables.now.store }
-    ensures { result ≡ is_some_and (find_face f (acted_all K.cmp K.matching plan.now tables.now.store).rows) (stands_under kind id) }
+    requires { Fit K.cmp plan.now tables.now.store }
+    ensures { result ≡ is_some_and (find_face f (acted_all K.cmp plan.now tables.now.store).rows) (stands_under kind id) }
 {
     match kind {
         RowKind::Live => plan.live(tables, f, id).is_some(),
@@ -66,8 +66,8 @@ pub(crate) fn has_place<K: Key>(
     f: u32,
     id: u32,
 ) -> bool
-    requires { Fit K.cmp K.matching plan.now tables.now.store }
-    ensures { result ≡ is_some_and (find_face f (acted_all K.cmp K.matching plan.now tables.now.store).rows) (λ x. not (stands_under kind id x)) }
+    requires { Fit K.cmp plan.now tables.now.store }
+    ensures { result ≡ is_some_and (find_face f (acted_all K.cmp plan.now tables.now.store).rows) (λ x. not (stands_under kind id x)) }
 {
     if has_row(tables, plan, kind, f, id) {
         false
@@ -78,24 +78,24 @@ pub(crate) fn has_place<K: Key>(
 
 // Whether the face was told the expression.
 pub(crate) fn is_told<K: Key>(tables: &Tables<K>, plan: &Plan<K>, f: u32, expr: &K) -> bool
-    requires { Fit K.cmp K.matching plan.now tables.now.store }
-    ensures { result ≡ is_some_and (find_face f (acted_all K.cmp K.matching plan.now tables.now.store).rows) (λ x. keeps K.cmp x expr.now) }
+    requires { Fit K.cmp plan.now tables.now.store }
+    ensures { result ≡ is_some_and (find_face f (acted_all K.cmp plan.now tables.now.store).rows) (λ x. keeps K.cmp x expr.now) }
 {
     plan.told(tables, f, expr).is_some()
 }
 
 // Whether the ask of the number stands.
 pub(crate) fn has_ask<K: Key>(tables: &Tables<K>, plan: &Plan<K>, n: u64) -> bool
-    requires { Fit K.cmp K.matching plan.now tables.now.store }
-    ensures { result ≡ is_ask n (acted_all K.cmp K.matching plan.now tables.now.store) }
+    requires { Fit K.cmp plan.now tables.now.store }
+    ensures { result ≡ is_ask n (acted_all K.cmp plan.now tables.now.store) }
 {
     plan.ask(tables, n).is_some()
 }
 
 // Whether the ask of the number stands, if one is named.
 pub(crate) fn has_named_ask<K: Key>(tables: &Tables<K>, plan: &Plan<K>, ask: Option<u64>) -> bool
-    requires { Fit K.cmp K.matching plan.now tables.now.store }
-    ensures { result ≡ (is_none ask || is_some_and ask (λ n. is_ask n (acted_all K.cmp K.matching plan.now tables.now.store))) }
+    requires { Fit K.cmp plan.now tables.now.store }
+    ensures { result ≡ (is_none ask || is_some_and ask (λ n. is_ask n (acted_all K.cmp plan.now tables.now.store))) }
 {
     match ask {
         None => true,
@@ -105,8 +105,8 @@ pub(crate) fn has_named_ask<K: Key>(tables: &Tables<K>, plan: &Plan<K>, ask: Opt
 
 // Whether the ask of the number stands and wasn't answered the expression.
 pub(crate) fn is_unanswered<K: Key>(tables: &Tables<K>, plan: &Plan<K>, n: u64, expr: &K) -> bool
-    requires { Fit K.cmp K.matching plan.now tables.now.store }
-    ensures { result ≡ is_ask_where n (λ ask. not (is_among K.cmp expr.now ask.answered)) (acted_all K.cmp K.matching plan.now tables.now.store) }
+    requires { Fit K.cmp plan.now tables.now.store }
+    ensures { result ≡ is_ask_where n (λ ask. not (is_among K.cmp expr.now ask.answered)) (acted_all K.cmp plan.now tables.now.store) }
 {
     if plan.answered(tables, n, expr) {
         false

@@ -56,7 +56,7 @@ impl<K: Key> Faces<K> {
     /// The face is told that the expression is gone.
     pub fn untell(&mut self, f: u32, expr: &K)
         requires { has_face f self.old.faces ≡ true }
-        ensures faces { self.new ≡ record self.old { faces = changed_at f (told_ended K.cmp K.matching expr.now) self.old.faces; rooms = self.new.rooms } }
+        ensures faces { self.new ≡ record self.old { faces = changed_at f (told_ended K.cmp expr.now) self.old.faces; rooms = self.new.rooms } }
         ensures rooms { KeepsRooms nothing self.old.rooms self.new.rooms }
     {
         match self.rows.get_mut(&f) {

@@ -54,7 +54,7 @@ impl<K: Key> Faces<K> {
         requires new { is_some_and (ask_in (at_id n self.old.numbers) self.old.faces) (λ ask. not (is_among K.cmp expr ask.answered)) ≡ true }
         requires room { 0 < answer_room n self.old.rooms }
         ensures faces { self.new
-            ≡ record self.old { faces = change_at (at_id n self.old.numbers) (answered_with K.cmp K.matching expr) self.old.faces; rooms = self.new.rooms } }
+            ≡ record self.old { faces = change_at (at_id n self.old.numbers) (answered_with K.cmp expr) self.old.faces; rooms = self.new.rooms } }
         ensures rooms { KeepsRooms (one_answer n) self.old.rooms self.new.rooms }
     {
         match self.asks.get(&n).copied() {

@@ -116,7 +116,7 @@ module _ {K : Type 0} (cmp : K → K → Ordering) (matching : K → K → Bool)
     abbrev pub Index : Type 0
     Index = List (Bucket × Table (ℕ × ℕ) (Option K))
 
-    pub indexed-still : (act : Act K) (s : Store K) (index : Index) → is_still act ≡ true → IsIndexed anchored s.rows.faces index → IsIndexed anchored (acted cmp matching act s).rows.faces index
+    pub indexed-still : (act : Act K) (s : Store K) (index : Index) → is_still act ≡ true → IsIndexed anchored s.rows.faces index → IsIndexed anchored (acted cmp act s).rows.faces index
     indexed-still act s index still is = record {
       at = λ bucket n id.
           is.at bucket n id
@@ -167,13 +167,13 @@ module _ {K : Type 0} (cmp : K → K → Ordering) (matching : K → K → Bool)
       left-sorted false o sorted = sorted
 
       pub indexed-added : (interest : InterestRow K) (x : Face K) → find_face f s.rows ≡ Some x → at_id i x.held ≡ None → ChangesIn (bucket_of anchored interest) (put place_cmp (f, i) interest.expr) old new
-          → IsIndexed anchored (acted cmp matching (AddHeld f i interest) s).rows.faces new
+          → IsIndexed anchored (acted cmp (AddHeld f i interest) s).rows.faces new
       indexed-added interest x there none changes = record {
         at = λ bucket n id.
             let rows = rows_at bucket_cmp bucket old in
             let b = is_bucket bucket (bucket_of anchored interest) in
             let was = is.at bucket n id in
-            let after : held_under id (find_face n (acted cmp matching (AddHeld f i interest) s).rows) ≡ from_face (λ y. if (f == n) && (id == i) then Some interest else at_id id y.held) (find_face n s.rows) =
+            let after : held_under id (find_face n (acted cmp (AddHeld f i interest) s).rows) ≡ from_face (λ y. if (f == n) && (id == i) then Some interest else at_id id y.held) (find_face n s.rows) =
             ap (held_under id) (face-acted cmp matching n (AddHeld f i interest) s) ∙ added-under n f id i interest (find_face n s.rows) in
             found-in (bucket_of anchored interest) (put place_cmp (f, i) interest.expr) changes bucket n id
             ∙ by_test (same place_cmp (n, id) (f, i))
@@ -184,27 +184,27 @@ module _ {K : Type 0} (cmp : K → K → Ordering) (matching : K → K → Bool)
             let open_there : find_face n s.rows ≡ Some x = ap (λ (m : ℕ). find_face m s.rows) at_place.0 ∙ there in
             let nothing : find place_cmp (n, id) rows ≡ None = was ∙ ap (kept_in anchored bucket) (ap (held_under id) open_there ∙ ap (λ (m : ℕ). at_id m x.held) at_place.1 ∙ none) in
             let put_there : find place_cmp (n, id) (put place_cmp (f, i) interest.expr rows) ≡ Some interest.expr = find-put place_cmp place-total (n, id) (f, i) interest.expr rows ∙ rw t refl in
-            let now : held_under id (find_face n (acted cmp matching (AddHeld f i interest) s).rows) ≡ Some interest = after ∙ rw (open_there, own, own_id) refl in
+            let now : held_under id (find_face n (acted cmp (AddHeld f i interest) s).rows) ≡ Some interest = after ∙ rw (open_there, own, own_id) refl in
             by_test b
             (λ u. rw u (put_there ∙ sym (ap (kept_in anchored bucket) now ∙ rw u refl)))
             (λ u. rw u (nothing ∙ sym (ap (kept_in anchored bucket) now ∙ rw u refl))))
             (λ t.
             let put_there : find place_cmp (n, id) (put place_cmp (f, i) interest.expr rows) ≡ find place_cmp (n, id) rows = find-put place_cmp place-total (n, id) (f, i) interest.expr rows ∙ rw t refl in
             let apart : ((f == n) && (id == i)) ≡ false = by_test (f == n) (λ u. rw u (other-place n f id i t u)) (λ u. rw u refl) in
-            let now : held_under id (find_face n (acted cmp matching (AddHeld f i interest) s).rows) ≡ held_under id (find_face n s.rows) = after ∙ rw apart refl in
+            let now : held_under id (find_face n (acted cmp (AddHeld f i interest) s).rows) ≡ held_under id (find_face n s.rows) = after ∙ rw apart refl in
             by_test b
             (λ u. rw u (put_there ∙ was ∙ sym (ap (kept_in anchored bucket) now)))
             (λ u. rw u (was ∙ sym (ap (kept_in anchored bucket) now))));
         in_order = λ n. ap (λ o. is_sorted nat_cmp (held_by o)) (face-acted cmp matching n (AddHeld f i interest) s) ∙ put-sorted n (f == n) interest (find_face n s.rows) (is.in_order n);
       }
 
-      pub indexed-dropped : ChangesIn (bucket_held anchored (held_under i (find_face f s.rows))) (without place_cmp (f, i)) old new → IsIndexed anchored (acted cmp matching (DropHeld f i) s).rows.faces new
+      pub indexed-dropped : ChangesIn (bucket_held anchored (held_under i (find_face f s.rows))) (without place_cmp (f, i)) old new → IsIndexed anchored (acted cmp (DropHeld f i) s).rows.faces new
       indexed-dropped changes = record {
         at = λ bucket n id.
             let rows = rows_at bucket_cmp bucket old in
             let held = held_under i (find_face f s.rows) in
             let was = is.at bucket n id in
-            let after : held_under id (find_face n (acted cmp matching (DropHeld f i) s).rows) ≡ (if (f == n) && (id == i) then None else held_under id (find_face n s.rows)) =
+            let after : held_under id (find_face n (acted cmp (DropHeld f i) s).rows) ≡ (if (f == n) && (id == i) then None else held_under id (find_face n s.rows)) =
             ap (held_under id) (face-acted cmp matching n (DropHeld f i) s) ∙ dropped-under n f id i (find_face n s.rows) in
             let left = find-without place_cmp place-total (n, id) (f, i) rows in
             found-in (bucket_held anchored held) (without place_cmp (f, i)) changes bucket n id
@@ -213,14 +213,14 @@ module _ {K : Type 0} (cmp : K → K → Ordering) (matching : K → K → Bool)
             let at_place = places n f id i t in
             let own : (f == n) ≡ true = eq-eqb f n (sym at_place.0) in
             let own_id : (id == i) ≡ true = eq-eqb id i at_place.1 in
-            let now : held_under id (find_face n (acted cmp matching (DropHeld f i) s).rows) ≡ None = after ∙ rw (own, own_id) refl in
+            let now : held_under id (find_face n (acted cmp (DropHeld f i) s).rows) ≡ None = after ∙ rw (own, own_id) refl in
             let were : held_under id (find_face n s.rows) ≡ held = (λ k. held_under (at_place.1 k) (find_face (at_place.0 k) s.rows)) in
             by_test (is_bucket bucket (bucket_held anchored held))
             (λ u. let gone : find place_cmp (n, id) (without place_cmp (f, i) rows) ≡ None = left ∙ rw t refl in rw u (gone ∙ sym (ap (kept_in anchored bucket) now)))
             (λ u. rw u (was ∙ ap (kept_in anchored bucket) were ∙ not-kept bucket held u ∙ sym (ap (kept_in anchored bucket) now))))
             (λ t.
             let apart : ((f == n) && (id == i)) ≡ false = by_test (f == n) (λ u. rw u (other-place n f id i t u)) (λ u. rw u refl) in
-            let now : held_under id (find_face n (acted cmp matching (DropHeld f i) s).rows) ≡ held_under id (find_face n s.rows) = after ∙ rw apart refl in
+            let now : held_under id (find_face n (acted cmp (DropHeld f i) s).rows) ≡ held_under id (find_face n s.rows) = after ∙ rw apart refl in
             let stays : find place_cmp (n, id) (without place_cmp (f, i) rows) ≡ find place_cmp (n, id) rows = left ∙ rw t refl in
             by_test (is_bucket bucket (bucket_held anchored held))
             (λ u. rw u (stays ∙ was ∙ sym (ap (kept_in anchored bucket) now)))
@@ -241,10 +241,10 @@ module _ {K : Type 0} (cmp : K → K → Ordering) (matching : K → K → Bool)
     closed-sorted true o sorted = refl
     closed-sorted false o sorted = sorted
 
-    pub indexed-closed : (f : ℕ) (s : Store K) (index : Index) → list_of_face (λ x. x.held) (find_face f s.rows) ≡ [] → IsIndexed anchored s.rows.faces index → IsIndexed anchored (acted cmp matching (CloseFace f) s).rows.faces index
+    pub indexed-closed : (f : ℕ) (s : Store K) (index : Index) → list_of_face (λ x. x.held) (find_face f s.rows) ≡ [] → IsIndexed anchored s.rows.faces index → IsIndexed anchored (acted cmp (CloseFace f) s).rows.faces index
     indexed-closed f s index none is = record {
       at = λ bucket n id.
-          let after : held_under id (find_face n (acted cmp matching (CloseFace f) s).rows) ≡ held_under id (if f == n then None else find_face n s.rows) = ap (held_under id) (face-acted cmp matching n (CloseFace f) s) in
+          let after : held_under id (find_face n (acted cmp (CloseFace f) s).rows) ≡ held_under id (if f == n then None else find_face n s.rows) = ap (held_under id) (face-acted cmp matching n (CloseFace f) s) in
           is.at bucket n id
           ∙ ap (kept_in anchored bucket) (by_test (f == n)
           (λ t. let here : find_face n s.rows ≡ find_face f s.rows = ap (λ (m : ℕ). find_face m s.rows) (sym (eqb-true f n t)) in

@@ -62,9 +62,9 @@ module _ {K : Type 0} (cmp : K → K → Ordering) where
   local_heard now id Future options e f future = refl
   local_heard now id CurrentFuture options e f future = cc
 
-  pub unkept_heard : (matching : K → K → Bool) (now interest node : ℕ) (e : K) (f : Face K) → 1 ≤ f.next → answered_with cmp matching e interest f ≡ heard cmp now (message.DeclareToken 0 e (Some interest) node) f
-  unkept_heard matching now interest node e f real = ap (λ (k : ℕ). record (answered_with cmp matching e interest f) { next = k }) (sym (next_stays 0 f.next (omega arith)))
+  pub unkept_heard : (matching : K → K → Bool) (now interest node : ℕ) (e : K) (f : Face K) → 1 ≤ f.next → answered_with cmp e interest f ≡ heard cmp now (message.DeclareToken 0 e (Some interest) node) f
+  unkept_heard matching now interest node e f real = ap (λ (k : ℕ). record (answered_with cmp e interest f) { next = k }) (sym (next_stays 0 f.next (omega arith)))
 
   module _ (total : IsTotalOrder cmp) where
-    pub untell_heard : (matching : K → K → Bool) (now id node : ℕ) (e : K) (f : Face K) → IsToldInOrder cmp f.told f.next → told_id cmp e f.told ≡ Some id → told_ended cmp matching e f ≡ heard cmp now (message.UndeclareToken id None node) f
+    pub untell_heard : (matching : K → K → Bool) (now id node : ℕ) (e : K) (f : Face K) → IsToldInOrder cmp f.told f.next → told_id cmp e f.told ≡ Some id → told_ended cmp e f ≡ heard cmp now (message.UndeclareToken id None node) f
     untell_heard matching now id node e f ordered told_ = ap (λ (rows : ById K). record f { told = rows }) (sym (without_told cmp total e 1 f.told id ordered.rises ordered.once told_))

@@ -49,7 +49,7 @@ pub region_total : IsTotalOrder region_order
 region_total = then_total (on_total region_rank nat_cmp_total) (then_total (on_total south_id nat_cmp_total) (on_total south_mode nat_cmp_total))
 
 module _ {K : Type 0} (cmp : K → K → Ordering) (matching : K → K → Bool) where
-  pub routed_total : IsTotalOrder cmp → IsTotalOrder (routed_order cmp matching)
+  pub routed_total : IsTotalOrder cmp → IsTotalOrder (routed_order cmp)
   routed_total total = then_total (on_total (λ (row : RoutedRow K). row.region) region_total) (then_total (on_total (λ (row : RoutedRow K). row.source.0) nat_cmp_total) (on_total (λ (row : RoutedRow K). row.expr) total))
 
   in_order_filtered : {A : Type 0} (order : A → A → Ordering) (p : A → Bool) (xs : List A) → InKeyOrder order xs → InKeyOrder order (filter p xs)
@@ -69,7 +69,7 @@ module _ {K : Type 0} (cmp : K → K → Ordering) (matching : K → K → Bool)
 
   -- ---- changes of the gateway's own lists
 
-  quiet_routed : (change : Rows K → List (RoutedRow K)) → ((g : Rows K) → InKeyOrder (routed_order cmp matching) g.routed → InKeyOrder (routed_order cmp matching) (change g)) → IsQuiet cmp matching (λ g. record g { routed = change g })
+  quiet_routed : (change : Rows K → List (RoutedRow K)) → ((g : Rows K) → InKeyOrder (routed_order cmp) g.routed → InKeyOrder (routed_order cmp) (change g)) → IsQuiet cmp matching (λ g. record g { routed = change g })
   quiet_routed change ordered = λ g lists. (
     record { faces_rise = lists.faces_rise; faces_made = lists.faces_made; rows = lists.rows; routed = ordered g lists.routed; trees = lists.trees; dictionary = lists.dictionary },
     refl,
@@ -83,7 +83,7 @@ module _ {K : Type 0} (cmp : K → K → Ordering) (matching : K → K → Bool)
     refl,
   )
 
-  quiet_table : (region : Region) (t : Trees) → IsQuiet cmp matching (with_table cmp matching region t)
+  quiet_table : (region : Region) (t : Trees) → IsQuiet cmp matching (with_table cmp region t)
   quiet_table region t = λ g lists. (
     record {
       faces_rise = lists.faces_rise;
@@ -97,24 +97,24 @@ module _ {K : Type 0} (cmp : K → K → Ordering) (matching : K → K → Bool)
     refl,
   )
 
-  quiet_without_routed : (region : Region) (source : Zid) (e : K) → IsQuiet cmp matching (without_routed cmp matching region source e)
+  quiet_without_routed : (region : Region) (source : Zid) (e : K) → IsQuiet cmp matching (without_routed cmp region source e)
   unfolding without_routed
   quiet_without_routed region source e =
-      quiet_routed (λ g. filter (λ row. not (is_routed_row cmp matching (row_at cmp matching region source e) row)) g.routed)
-      (λ g ordered. in_order_filtered (routed_order cmp matching) (λ row. not (is_routed_row cmp matching (row_at cmp matching region source e) row)) g.routed ordered)
+      quiet_routed (λ g. filter (λ row. not (is_routed_row cmp (row_at cmp region source e) row)) g.routed)
+      (λ g ordered. in_order_filtered (routed_order cmp) (λ row. not (is_routed_row cmp (row_at cmp region source e) row)) g.routed ordered)
 
-  quiet_without_own_rows : (source : Region) (e : K) → IsQuiet cmp matching (without_own_rows cmp matching source e)
+  quiet_without_own_rows : (source : Region) (e : K) → IsQuiet cmp matching (without_own_rows cmp source e)
   unfolding without_own_rows
-  quiet_without_own_rows source e = quiet_routed (λ g. (without_own_rows cmp matching source e g).routed) (λ g ordered. in_order_filtered (routed_order cmp matching) _ g.routed ordered)
+  quiet_without_own_rows source e = quiet_routed (λ g. (without_own_rows cmp source e g).routed) (λ g ordered. in_order_filtered (routed_order cmp) _ g.routed ordered)
 
-  quiet_without_left_out : (region : Region) (t : Trees) → IsQuiet cmp matching (without_left_out cmp matching region t)
+  quiet_without_left_out : (region : Region) (t : Trees) → IsQuiet cmp matching (without_left_out cmp region t)
   quiet_without_left_out region t =
-      quiet_routed (λ g. filter (λ row. not (is_left_out cmp matching region t row)) g.routed) (λ g ordered. in_order_filtered (routed_order cmp matching) (λ row. not (is_left_out cmp matching region t row)) g.routed ordered)
+      quiet_routed (λ g. filter (λ row. not (is_left_out cmp region t row)) g.routed) (λ g ordered. in_order_filtered (routed_order cmp) (λ row. not (is_left_out cmp region t row)) g.routed ordered)
 
   -- ---- silent parts
 
-  silent_hiding : (source : Region) (e : K) → Each (IsSilentPart cmp matching) (hiding cmp matching source e)
-  silent_hiding source e = (λ g. each_ruled DrawsNothing (hide_to cmp matching g source e) g.faces (silent_hide cmp matching g source e), (quiet_without_own_rows source e, tt))
+  silent_hiding : (source : Region) (e : K) → Each (IsSilentPart cmp matching) (hiding cmp source e)
+  silent_hiding source e = (λ g. each_ruled DrawsNothing (hide_to cmp g source e) g.faces (silent_hide cmp matching g source e), (quiet_without_own_rows source e, tt))
 
   silent_forgetting : (source : Region) (e : K) → IsSilentPart cmp matching (Say (λ g. to_each (forget_to cmp matching g source e) g.faces))
   silent_forgetting source e = λ g. each_ruled DrawsNothing (forget_to cmp matching g source e) g.faces (silent_forget cmp matching g source e)
@@ -129,7 +129,7 @@ module _ {K : Type 0} (cmp : K → K → Ordering) (matching : K → K → Bool)
   pub silent_hiding_undeclared : (id : ℕ) (given : Option K) (f : Face K) → Each (IsSilentPart cmp matching) (hiding_undeclared cmp matching id given f)
   silent_hiding_undeclared id given f = cases (undeclared cmp matching id given f)
     where
-      cases : (o : Option K) → Each (IsSilentPart cmp matching) (elim o [ None ↦ [] | Some e ↦ hiding cmp matching f.region e ])
+      cases : (o : Option K) → Each (IsSilentPart cmp matching) (elim o [ None ↦ [] | Some e ↦ hiding cmp f.region e ])
       cases None = tt
       cases (Some e) = silent_hiding f.region e
 
@@ -154,19 +154,19 @@ module _ {K : Type 0} (cmp : K → K → Ordering) (matching : K → K → Bool)
 
   pub silent_leaving : (n : ℕ) (f : Face K) → Each (IsSilentPart cmp matching) (leaving cmp matching n f)
   silent_leaving n f =
-      let undeclares = λ (row : ℕ × K). undeclaring cmp matching n row.0 None f ++ hiding cmp matching f.region row.1 in
+      let undeclares = λ (row : ℕ × K). undeclaring cmp matching n row.0 None f ++ hiding cmp f.region row.1 in
       let finalises = λ (row : ℕ × InterestRow K). finalising cmp matching n row.0 row.1 in
       let ends = flat_map (λ row. ending n row.0) f.pendings in
       each_append (IsSilentPart cmp matching) (flat_map undeclares f.live ++ flat_map finalises f.held) (Alter (with_face n without_asks) ∷ ends)
       (each_append (IsSilentPart cmp matching) (flat_map undeclares f.live) (flat_map finalises f.held)
-      (each_flat_map (IsSilentPart cmp matching) undeclares f.live (λ row. each_append (IsSilentPart cmp matching) (undeclaring cmp matching n row.0 None f) (hiding cmp matching f.region row.1) (silent_undeclaring n row.0 None f) (silent_hiding f.region row.1)))
+      (each_flat_map (IsSilentPart cmp matching) undeclares f.live (λ row. each_append (IsSilentPart cmp matching) (undeclaring cmp matching n row.0 None f) (hiding cmp f.region row.1) (silent_undeclaring n row.0 None f) (silent_hiding f.region row.1)))
       (each_flat_map (IsSilentPart cmp matching) finalises f.held (λ row. silent_finalising n row.0 row.1))) (
         quiet_face cmp matching n without_asks (λ k. refl) (λ k rows. record { live = rows.live; held = rows.held; locals = rows.locals; pendings = rows.pendings; asks = tt }),
         each_flat_map (IsSilentPart cmp matching) (λ row. ending n row.0) f.pendings (λ row. silent_ending n row.0),
       )
 
   silent_undeclaring_routed : (n : ℕ) (source : Zid) (e : K) (f : Face K) → Each (IsSilentPart cmp matching) (undeclaring_routed cmp matching n source e f)
-  silent_undeclaring_routed n source e f = (quiet_without_routed f.region source e, (λ g. each_filter (λ s. DrawsNothing s.1) (λ s. not (n == s.0)) (to_each (unpass_to cmp matching g f.region source e) g.faces) (each_ruled DrawsNothing (unpass_to cmp matching g f.region source e) g.faces (silent_unpass cmp matching g f.region source e)), (silent_forgetting f.region e, silent_hiding f.region e)))
+  silent_undeclaring_routed n source e f = (quiet_without_routed f.region source e, (λ g. each_filter (λ s. DrawsNothing s.1) (λ s. not (n == s.0)) (to_each (unpass_to cmp g f.region source e) g.faces) (each_ruled DrawsNothing (unpass_to cmp g f.region source e) g.faces (silent_unpass cmp matching g f.region source e)), (silent_forgetting f.region e, silent_hiding f.region e)))
 
   pub silent_undeclaring_of : (n : ℕ) (source : Option Zid) (given : Option K) (f : Face K) → Each (IsSilentPart cmp matching) (undeclaring_of cmp matching n source given f)
   silent_undeclaring_of n None given f = tt
@@ -176,30 +176,30 @@ module _ {K : Type 0} (cmp : K → K → Ordering) (matching : K → K → Bool)
   pub silent_changing : (region : Region) (t : Trees) (g : Rows K) → Each (IsSilentPart cmp matching) (changing_table cmp matching region t g)
   silent_changing region t g =
       let counted = counted_table t in
-      let forgets = λ (e : K). Say (λ h. to_each (forget_to cmp matching h region e) h.faces) ∷ hiding cmp matching region e in (
+      let forgets = λ (e : K). Say (λ h. to_each (forget_to cmp matching h region e) h.faces) ∷ hiding cmp region e in (
         quiet_without_left_out region counted,
-        each_append (IsSilentPart cmp matching) (flat_map forgets (left_out cmp matching region counted g)) _
-            (each_flat_map (IsSilentPart cmp matching) forgets (left_out cmp matching region counted g) (λ e. (silent_forgetting region e, silent_hiding region e))) (
+        each_append (IsSilentPart cmp matching) (flat_map forgets (left_out cmp region counted g)) _
+            (each_flat_map (IsSilentPart cmp matching) forgets (left_out cmp region counted g) (λ e. (silent_forgetting region e, silent_hiding region e))) (
               quiet_table region t,
               (
-                λ h. each_ruled DrawsNothing (greet_to cmp matching h region (table_of g region)) h.faces (silent_greet cmp matching h region (table_of g region)),
+                λ h. each_ruled DrawsNothing (greet_to cmp h region (table_of g region)) h.faces (silent_greet cmp matching h region (table_of g region)),
                 tt,
               ),
             ),
       )
 
   module _ (total : IsTotalOrder cmp) where
-    quiet_with_routed : (region : Region) (source : Zid) (e : K) → IsQuiet cmp matching (with_routed cmp matching region source e)
+    quiet_with_routed : (region : Region) (source : Zid) (e : K) → IsQuiet cmp matching (with_routed cmp region source e)
     unfolding with_routed
     quiet_with_routed region source e =
-        quiet_routed (λ g. with_key (routed_order cmp matching) (row_at cmp matching region source e) g.routed) (λ g ordered. in_order_with_key (routed_order cmp matching) (routed_total total) (row_at cmp matching region source e) g.routed ordered)
+        quiet_routed (λ g. with_key (routed_order cmp) (row_at cmp region source e) g.routed) (λ g ordered. in_order_with_key (routed_order cmp) (routed_total total) (row_at cmp region source e) g.routed ordered)
 
-    quiet_own_rows : (rs : List Region) (e : K) → IsQuiet cmp matching (with_own_rows cmp matching rs e)
+    quiet_own_rows : (rs : List Region) (e : K) → IsQuiet cmp matching (with_own_rows cmp rs e)
     unfolding with_own_rows
     quiet_own_rows [] e = λ g lists. (lists, refl, refl)
     quiet_own_rows (r ∷ rs) e = λ g lists.
         let one = quiet_with_routed r g.zid e g lists in
-        let rest = quiet_own_rows rs e (with_routed cmp matching r g.zid e g) one.0 in
+        let rest = quiet_own_rows rs e (with_routed cmp r g.zid e g) one.0 in
         (rest.0, rest.1 ∙ one.1, rest.2 ∙ one.2)
 
     -- ---- the dictionary
@@ -213,23 +213,23 @@ module _ {K : Type 0} (cmp : K → K → Ordering) (matching : K → K → Bool)
         let later : is_among cmp e ks ≡ false = rw here at new_ in
         (any-append (same cmp k) ks (e ∷ []) ∙ or_from (is_among cmp k ks) (is_among cmp k (e ∷ [])) once.0 (or_from (same cmp k e) false (same_back cmp total k e ∙ here) refl), keys_once_push e ks later once.1))
 
-    numbered_once : (es known : List K) → KeysOnce cmp known → KeysOnce cmp (numbered_with cmp matching es known)
+    numbered_once : (es known : List K) → KeysOnce cmp known → KeysOnce cmp (numbered_with cmp es known)
     unfolding numbered_with
     numbered_once [] known once = once
     numbered_once (e ∷ es) known once =
         numbered_once es (if is_among cmp e known then known else known ++ e ∷ []) (of_cond (KeysOnce cmp) (is_among cmp e known) known (known ++ e ∷ []) (λ _. once) (λ new_. keys_once_push e known new_ once))
 
-    quiet_numbers : (es : List K) → IsQuiet cmp matching (with_numbers cmp matching es)
+    quiet_numbers : (es : List K) → IsQuiet cmp matching (with_numbers cmp es)
     quiet_numbers es = λ g lists. (
       record { faces_rise = lists.faces_rise; faces_made = lists.faces_made; rows = lists.rows; routed = lists.routed; trees = lists.trees; dictionary = numbered_once es g.dictionary lists.dictionary },
       refl,
       refl,
     )
 
-    pub quiet_entities : (n : ℕ) (subscribers : List K) (queryables : List (K × QueryableInfo)) → IsQuiet cmp matching (with_entities cmp matching n subscribers queryables)
+    pub quiet_entities : (n : ℕ) (subscribers : List K) (queryables : List (K × QueryableInfo)) → IsQuiet cmp matching (with_entities cmp n subscribers queryables)
     quiet_entities n subscribers queryables = λ g lists.
-        let one = quiet_numbers (entity_expressions cmp matching subscribers queryables) g lists in
-        let rest = quiet_face cmp matching n (λ f. record f { subscribers = subscribers; queryables = queryables }) (λ k. refl) (λ k rows. record { live = rows.live; held = rows.held; locals = rows.locals; pendings = rows.pendings; asks = rows.asks }) (with_numbers cmp matching (entity_expressions cmp matching subscribers queryables) g) one.0 in
+        let one = quiet_numbers (entity_expressions cmp subscribers queryables) g lists in
+        let rest = quiet_face cmp matching n (λ f. record f { subscribers = subscribers; queryables = queryables }) (λ k. refl) (λ k rows. record { live = rows.live; held = rows.held; locals = rows.locals; pendings = rows.pendings; asks = rows.asks }) (with_numbers cmp (entity_expressions cmp subscribers queryables) g) one.0 in
         (rest.0, rest.1 ∙ one.1, rest.2 ∙ one.2)
 
     -- ---- parts that tell
@@ -237,8 +237,8 @@ module _ {K : Type 0} (cmp : K → K → Ordering) (matching : K → K → Bool)
     orderly_telling : (source : Region) (e : K) → IsOrderlyPart cmp matching (Say (λ g. to_each (tell_to cmp matching g source e) g.faces))
     orderly_telling source e = orderly_each cmp matching (λ g f. tell_to cmp matching g source e f) (λ g f ordered. in_order_tell cmp total matching g source e f ordered)
 
-    orderly_showing : (source : Region) (e : K) → Each (IsOrderlyPart cmp matching) (showing cmp matching source e)
-    orderly_showing source e = (orderly_if_silent cmp matching (Say (λ g. to_each (show_to cmp matching g source e) g.faces)) (λ g. each_ruled DrawsNothing (show_to cmp matching g source e) g.faces (silent_show cmp matching g source e)), (λ g lists. quiet_own_rows (filter (is_newly_shown cmp matching g source e) (router_regions g)) e g lists, tt))
+    orderly_showing : (source : Region) (e : K) → Each (IsOrderlyPart cmp matching) (showing cmp source e)
+    orderly_showing source e = (orderly_if_silent cmp matching (Say (λ g. to_each (show_to cmp g source e) g.faces)) (λ g. each_ruled DrawsNothing (show_to cmp g source e) g.faces (silent_show cmp matching g source e)), (λ g lists. quiet_own_rows (filter (is_newly_shown cmp g source e) (router_regions g)) e g lists, tt))
 
     orderly_answering : (n : ℕ) (interest : Option ℕ) (e : K) (f : Face K) → Each (IsOrderlyPart cmp matching) (answering cmp matching n interest e f)
     orderly_answering n None e f = tt
@@ -254,8 +254,8 @@ module _ {K : Type 0} (cmp : K → K → Ordering) (matching : K → K → Bool)
     orderly_declaring_of n (Some source) e f = (
       quiet_with_routed f.region source e,
       (
-        orderly_if_silent cmp matching (Say (λ g. filter (λ s. not (n == s.0)) (to_each (pass_to cmp matching g f.region source e) g.faces)))
-            (λ g. each_filter (λ s. DrawsNothing s.1) (λ s. not (n == s.0)) (to_each (pass_to cmp matching g f.region source e) g.faces) (each_ruled DrawsNothing (pass_to cmp matching g f.region source e) g.faces (silent_pass cmp matching g f.region source e))),
+        orderly_if_silent cmp matching (Say (λ g. filter (λ s. not (n == s.0)) (to_each (pass_to cmp g f.region source e) g.faces)))
+            (λ g. each_filter (λ s. DrawsNothing s.1) (λ s. not (n == s.0)) (to_each (pass_to cmp g f.region source e) g.faces) (each_ruled DrawsNothing (pass_to cmp g f.region source e) g.faces (silent_pass cmp matching g f.region source e))),
         (orderly_telling f.region e, orderly_showing f.region e),
       ),
     )
@@ -271,7 +271,7 @@ module _ {K : Type 0} (cmp : K → K → Ordering) (matching : K → K → Bool)
     )
 
     orderly_asking : (n id : ℕ) (interest : InterestRow K) (asker : Region) (g : Rows K) → Each (IsOrderlyPart cmp matching) (asking cmp matching n id interest asker g)
-    orderly_asking n id interest asker g = (quiet_numbers (numbered_by cmp matching interest), (orderly_each cmp matching (λ h f. route_to h asker interest f) (λ h f ordered. in_order_nothings cmp (route_to h asker interest f) (told_of f) (silent_route h asker interest f) ordered), (orderly_if_silent cmp matching (Say (λ h. to_face n (entities_for cmp matching h id interest) h)) (λ h. each_ruled_one DrawsNothing n (entities_for cmp matching h id interest) h (silent_entities cmp matching h id interest)), orderly_interesting (sent_as g asker interest.mode) n id interest)))
+    orderly_asking n id interest asker g = (quiet_numbers (numbered_by cmp interest), (orderly_each cmp matching (λ h f. route_to h asker interest f) (λ h f ordered. in_order_nothings cmp (route_to h asker interest f) (told_of f) (silent_route h asker interest f) ordered), (orderly_if_silent cmp matching (Say (λ h. to_face n (entities_for cmp matching h id interest) h)) (λ h. each_ruled_one DrawsNothing n (entities_for cmp matching h id interest) h (silent_entities cmp matching h id interest)), orderly_interesting (sent_as g asker interest.mode) n id interest)))
 
     -- ---- opening and closing
 
@@ -464,11 +464,11 @@ module _ {K : Type 0} (cmp : K → K → Ordering) (matching : K → K → Bool)
         orderly_found n g _
         (λ f.
         of_cond (Each (IsOrderlyPart cmp matching)) (is_routed g f) (declaring_of cmp matching n (source_of g f node) e f)
-        (answering cmp matching n interest e f ++ (if registers f interest then declaring cmp matching n id e f ++ showing cmp matching f.region e else []))
+        (answering cmp matching n interest e f ++ (if registers f interest then declaring cmp matching n id e f ++ showing cmp f.region e else []))
         (λ _. orderly_declaring_of n (source_of g f node) e f)
-        (λ _. each_append (IsOrderlyPart cmp matching) (answering cmp matching n interest e f) (if registers f interest then declaring cmp matching n id e f ++ showing cmp matching f.region e else []) (orderly_answering n interest e f)
-        (of_cond (Each (IsOrderlyPart cmp matching)) (registers f interest) (declaring cmp matching n id e f ++ showing cmp matching f.region e) []
-        (λ _. each_append (IsOrderlyPart cmp matching) (declaring cmp matching n id e f) (showing cmp matching f.region e) (orderly_declaring n id e f) (orderly_showing f.region e)) (λ _. tt))))
+        (λ _. each_append (IsOrderlyPart cmp matching) (answering cmp matching n interest e f) (if registers f interest then declaring cmp matching n id e f ++ showing cmp f.region e else []) (orderly_answering n interest e f)
+        (of_cond (Each (IsOrderlyPart cmp matching)) (registers f interest) (declaring cmp matching n id e f ++ showing cmp f.region e) []
+        (λ _. each_append (IsOrderlyPart cmp matching) (declaring cmp matching n id e f) (showing cmp f.region e) (orderly_declaring n id e f) (orderly_showing f.region e)) (λ _. tt))))
     orderly_call (UndeclareToken n id given node) g keeps_ =
         orderly_found n g _
         (λ f.

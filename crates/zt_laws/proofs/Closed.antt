@@ -130,16 +130,16 @@ module _ {K : Type 0} (cmp : K → K → Ordering) (matching : K → K → Bool)
     rows_by_lives : (fs : List (Face K)) → flat_map rows_of_face fs ≡ flat_map (λ (t : ℕ × Region × ById K). map (λ row. (t.1, row.1)) t.2) (lives fs)
     rows_by_lives fs = sym (flat_map-map (λ (t : ℕ × Region × ById K). map (λ row. (t.1, row.1)) t.2) (λ (f : Face K). (f.number, f.region, f.live)) fs)
 
-    beside_hiding : (source : Region) (e : K) (g h : Rows K) → IsHeardBeside g h → IsHeardBeside (without_own_rows cmp matching source e g) (without_own_rows cmp matching source e h)
+    beside_hiding : (source : Region) (e : K) (g h : Rows K) → IsHeardBeside g h → IsHeardBeside (without_own_rows cmp source e g) (without_own_rows cmp source e h)
     unfolding without_own_rows is_hidden
     beside_hiding source e g h beside = record {
       moment = beside.moment;
       faces = beside.faces;
       rows =
-          ap (without_own_rows cmp matching source e) beside.rows
+          ap (without_own_rows cmp source e) beside.rows
           ∙ ap (λ (rows : List (RoutedRow K)). record g { routed = rows; faces = beside.faces })
-          (filter_alike (λ row. not (zid_eq row.source g.zid && (same cmp e row.expr && is_hidden cmp matching (record g { faces = beside.faces }) source e row.region))) (λ row. not (zid_eq row.source g.zid && (same cmp e row.expr && is_hidden cmp matching g source e row.region))) g.routed
-          (each_always (λ row. not (zid_eq row.source g.zid && (same cmp e row.expr && is_hidden cmp matching (record g { faces = beside.faces }) source e row.region)) ≡ not (zid_eq row.source g.zid && (same cmp e row.expr && is_hidden cmp matching g source e row.region)))
+          (filter_alike (λ row. not (zid_eq row.source g.zid && (same cmp e row.expr && is_hidden cmp (record g { faces = beside.faces }) source e row.region))) (λ row. not (zid_eq row.source g.zid && (same cmp e row.expr && is_hidden cmp g source e row.region))) g.routed
+          (each_always (λ row. not (zid_eq row.source g.zid && (same cmp e row.expr && is_hidden cmp (record g { faces = beside.faces }) source e row.region)) ≡ not (zid_eq row.source g.zid && (same cmp e row.expr && is_hidden cmp g source e row.region)))
           (λ row. ap (λ b. not (zid_eq row.source g.zid && (same cmp e row.expr && (is_router_hat (strategy_of g.mode row.region) && (not (region_eq row.region source) && not b)))))
           (visible_alike cmp g beside.faces row.region e (rows_by_lives beside.faces ∙ ap (flat_map (λ (t : ℕ × Region × ById K). map (λ row. (t.1, row.1)) t.2)) beside.lives_are ∙ sym (rows_by_lives g.faces)))) g.routed));
       lives_are = beside.lives_are;
@@ -173,7 +173,7 @@ module _ {K : Type 0} (cmp : K → K → Ordering) (matching : K → K → Bool)
     right_ends [] g h beside = beside
     right_ends (row ∷ rows) g h beside = right_ends rows g (with_face n (ended row.0) h) (beside_right (ended row.0) g h (ends_live row.0) beside)
 
-    follow_hiding : (source : Region) (e : K) → Each Follows (hiding cmp matching source e)
+    follow_hiding : (source : Region) (e : K) → Each Follows (hiding cmp source e)
     follow_hiding source e = (tt, (λ g h beside. beside_hiding source e g h beside, tt))
 
     follow_undeclaring : (id : ℕ) (f : Face K) → Each Follows (undeclaring cmp matching n id None f)
@@ -189,14 +189,14 @@ module _ {K : Type 0} (cmp : K → K → Ordering) (matching : K → K → Bool)
     -- all that a leaving face does before its asks are dropped
     abbrev leaving_first : Face K → List (Part K)
     leaving_first f =
-        flat_map (λ row. undeclaring cmp matching n row.0 None f ++ hiding cmp matching f.region row.1) f.live
+        flat_map (λ row. undeclaring cmp matching n row.0 None f ++ hiding cmp f.region row.1) f.live
         ++ flat_map (λ row. finalising cmp matching n row.0 row.1) f.held
 
     follow_leaving : (f : Face K) → Each Follows (leaving_first f)
     follow_leaving f =
-        each_append Follows (flat_map (λ row. undeclaring cmp matching n row.0 None f ++ hiding cmp matching f.region row.1) f.live) (flat_map (λ row. finalising cmp matching n row.0 row.1) f.held)
-        (each_flat_map Follows (λ row. undeclaring cmp matching n row.0 None f ++ hiding cmp matching f.region row.1) f.live
-        (λ row. each_append Follows (undeclaring cmp matching n row.0 None f) (hiding cmp matching f.region row.1) (follow_undeclaring row.0 f) (follow_hiding f.region row.1)))
+        each_append Follows (flat_map (λ row. undeclaring cmp matching n row.0 None f ++ hiding cmp f.region row.1) f.live) (flat_map (λ row. finalising cmp matching n row.0 row.1) f.held)
+        (each_flat_map Follows (λ row. undeclaring cmp matching n row.0 None f ++ hiding cmp f.region row.1) f.live
+        (λ row. each_append Follows (undeclaring cmp matching n row.0 None f) (hiding cmp f.region row.1) (follow_undeclaring row.0 f) (follow_hiding f.region row.1)))
         (each_flat_map Follows (λ row. finalising cmp matching n row.0 row.1) f.held (λ row. follow_finalising row.0 row.1))
 
     -- two faces that differ at most in what was heard leave the same rows

@@ -233,8 +233,8 @@ module _ {K : Type 0} (cmp : K → K → Ordering) where
       drawing_telling : (source : Region) (e : K) → IsDrawing (Say (λ g. to_each (tell_to cmp matching g source e) g.faces))
       drawing_telling source e = drawing_each (λ g f. tell_to cmp matching g source e f) (λ g f ordered. draw_tell g source e f)
 
-      drawing_showing : (source : Region) (e : K) → Each IsDrawing (showing cmp matching source e)
-      drawing_showing source e = ((λ g lists ordered. draws_silent (to_each (show_to cmp matching g source e) g.faces) (tolds cmp g) (each_ruled DrawsNothing (show_to cmp matching g source e) g.faces (silent_show cmp matching g source e))), (tt, tt))
+      drawing_showing : (source : Region) (e : K) → Each IsDrawing (showing cmp source e)
+      drawing_showing source e = ((λ g lists ordered. draws_silent (to_each (show_to cmp g source e) g.faces) (tolds cmp g) (each_ruled DrawsNothing (show_to cmp g source e) g.faces (silent_show cmp matching g source e))), (tt, tt))
 
       drawing_answering : (n : ℕ) (interest : Option ℕ) (e : K) (f : Face K) → Each IsDrawing (answering cmp matching n interest e f)
       drawing_answering n None e f = tt
@@ -247,8 +247,8 @@ module _ {K : Type 0} (cmp : K → K → Ordering) where
         tt,
         (
           λ g lists ordered.
-              draws_silent (filter (λ s. not (n == s.0)) (to_each (pass_to cmp matching g f.region source e) g.faces)) (tolds cmp g)
-              (each_filter (λ s. DrawsNothing s.1) (λ s. not (n == s.0)) (to_each (pass_to cmp matching g f.region source e) g.faces) (each_ruled DrawsNothing (pass_to cmp matching g f.region source e) g.faces (silent_pass cmp matching g f.region source e))),
+              draws_silent (filter (λ s. not (n == s.0)) (to_each (pass_to cmp g f.region source e) g.faces)) (tolds cmp g)
+              (each_filter (λ s. DrawsNothing s.1) (λ s. not (n == s.0)) (to_each (pass_to cmp g f.region source e) g.faces) (each_ruled DrawsNothing (pass_to cmp g f.region source e) g.faces (silent_pass cmp matching g f.region source e))),
           (drawing_telling f.region e, drawing_showing f.region e),
         ),
       )
@@ -258,14 +258,14 @@ module _ {K : Type 0} (cmp : K → K → Ordering) where
       drawing_declare n id node e interest g = cases (find_face n g)
         where
           cases : (o : Option (Face K))
-              → Each IsDrawing (elim o [ None ↦ [] | Some f ↦ if is_routed g f then declaring_of cmp matching n (source_of g f node) e f else answering cmp matching n interest e f ++ (if registers f interest then declaring cmp matching n id e f ++ showing cmp matching f.region e else []) ])
+              → Each IsDrawing (elim o [ None ↦ [] | Some f ↦ if is_routed g f then declaring_of cmp matching n (source_of g f node) e f else answering cmp matching n interest e f ++ (if registers f interest then declaring cmp matching n id e f ++ showing cmp f.region e else []) ])
           cases None = tt
           cases (Some f) =
-              of_cond (Each IsDrawing) (is_routed g f) (declaring_of cmp matching n (source_of g f node) e f) (answering cmp matching n interest e f ++ (if registers f interest then declaring cmp matching n id e f ++ showing cmp matching f.region e else []))
+              of_cond (Each IsDrawing) (is_routed g f) (declaring_of cmp matching n (source_of g f node) e f) (answering cmp matching n interest e f ++ (if registers f interest then declaring cmp matching n id e f ++ showing cmp f.region e else []))
               (λ _. drawing_routed n (source_of g f node) e f)
-              (λ _. each_append IsDrawing (answering cmp matching n interest e f) (if registers f interest then declaring cmp matching n id e f ++ showing cmp matching f.region e else []) (drawing_answering n interest e f)
-              (of_cond (Each IsDrawing) (registers f interest) (declaring cmp matching n id e f ++ showing cmp matching f.region e) []
-              (λ _. each_append IsDrawing (declaring cmp matching n id e f) (showing cmp matching f.region e) (tt, (drawing_telling f.region e, tt)) (drawing_showing f.region e)) (λ _. tt)))
+              (λ _. each_append IsDrawing (answering cmp matching n interest e f) (if registers f interest then declaring cmp matching n id e f ++ showing cmp f.region e else []) (drawing_answering n interest e f)
+              (of_cond (Each IsDrawing) (registers f interest) (declaring cmp matching n id e f ++ showing cmp f.region e) []
+              (λ _. each_append IsDrawing (declaring cmp matching n id e f) (showing cmp f.region e) (tt, (drawing_telling f.region e, tt)) (drawing_showing f.region e)) (λ _. tt)))
 
       drawing_ask : (n id : ℕ) (mode : InterestMode) (options : InterestOptions) (e : Option K) (g : Rows K) → Each IsDrawing (parts_of cmp matching (InterestCall n id mode options e) g)
       unfolding parts_of

@@ -67,12 +67,12 @@ module _ {K : Type 0} (cmp : K → K → Ordering) (matching : K → K → Bool)
       ∙ map_alike (λ f. (heard_all cmp g.moment (messages_for f.number ss) f).live) (λ f. f.live) g.faces
       (each_always (λ f. (heard_all cmp g.moment (messages_for f.number ss) f).live ≡ f.live) (λ f. heard_all-live cmp g.moment (messages_for f.number ss) f) g.faces)
 
-  own_rows_faces : (rs : List Region) (e : K) (g : Rows K) → (with_own_rows cmp matching rs e g).faces ≡ g.faces
+  own_rows_faces : (rs : List Region) (e : K) (g : Rows K) → (with_own_rows cmp rs e g).faces ≡ g.faces
   unfolding with_own_rows with_routed
   own_rows_faces [] e g = refl
-  own_rows_faces (r ∷ rs) e g = own_rows_faces rs e (with_routed cmp matching r g.zid e g)
+  own_rows_faces (r ∷ rs) e g = own_rows_faces rs e (with_routed cmp r g.zid e g)
 
-  routed_lives : (region : Region) (source : Zid) (e : K) (g : Rows K) → lives (with_routed cmp matching region source e g) ≡ lives g
+  routed_lives : (region : Region) (source : Zid) (e : K) (g : Rows K) → lives (with_routed cmp region source e g) ≡ lives g
   unfolding with_routed
   routed_lives region source e g = refl
 
@@ -100,7 +100,7 @@ module _ {K : Type 0} (cmp : K → K → Ordering) (matching : K → K → Bool)
     declared_again n id node e k interest f g lists found at_ same_ =
         let c = DeclareToken n id e node interest in
         lives_heard (said cmp matching c g) (altered cmp matching c g)
-        ∙ subst (λ o. Same (elim o [ None ↦ [] | Some f ↦ if is_routed g f then declaring_of cmp matching n (source_of g f node) e f else answering cmp matching n interest e f ++ (if registers f interest then declaring cmp matching n id e f ++ showing cmp matching f.region e else []) ])) (sym found) of_face
+        ∙ subst (λ o. Same (elim o [ None ↦ [] | Some f ↦ if is_routed g f then declaring_of cmp matching n (source_of g f node) e f else answering cmp matching n interest e f ++ (if registers f interest then declaring cmp matching n id e f ++ showing cmp f.region e else []) ])) (sym found) of_face
       where
         Same : List (Part K) → Type 0
         Same parts = lives (altered_by cmp matching parts g) ≡ lives g
@@ -108,24 +108,24 @@ module _ {K : Type 0} (cmp : K → K → Ordering) (matching : K → K → Bool)
         there : lives (with_face n (registered id e) g) ≡ lives g
         there = registered_there n id e f g lists found (at_ ∙ ap (λ x. Some x) (sym (same_is cmp total equal_is_same e k same_)))
 
-        shown : (h : Rows K) → lives h ≡ lives g → lives (with_own_rows cmp matching (filter (is_newly_shown cmp matching h f.region e) (router_regions h)) e h) ≡ lives g
-        shown h is = ap (map (λ f. f.live)) (own_rows_faces (filter (is_newly_shown cmp matching h f.region e) (router_regions h)) e h) ∙ is
+        shown : (h : Rows K) → lives h ≡ lives g → lives (with_own_rows cmp (filter (is_newly_shown cmp h f.region e) (router_regions h)) e h) ≡ lives g
+        shown h is = ap (map (λ f. f.live)) (own_rows_faces (filter (is_newly_shown cmp h f.region e) (router_regions h)) e h) ∙ is
 
         routed : (o : Option Zid) → Same (declaring_of cmp matching n o e f)
         routed None = refl
-        routed (Some source) = shown (with_routed cmp matching f.region source e g) (routed_lives f.region source e g)
+        routed (Some source) = shown (with_routed cmp f.region source e g) (routed_lives f.region source e g)
 
-        registers_ : (b : Bool) → Same (if b then declaring cmp matching n id e f ++ showing cmp matching f.region e else [])
+        registers_ : (b : Bool) → Same (if b then declaring cmp matching n id e f ++ showing cmp f.region e else [])
         registers_ true = shown (with_face n (registered id e) g) there
         registers_ false = refl
 
-        answers : (o : Option ℕ) → Same (answering cmp matching n o e f ++ (if registers f interest then declaring cmp matching n id e f ++ showing cmp matching f.region e else []))
+        answers : (o : Option ℕ) → Same (answering cmp matching n o e f ++ (if registers f interest then declaring cmp matching n id e f ++ showing cmp f.region e else []))
         answers None = registers_ (registers f interest)
-        answers (Some i) = of_cond (λ ps. Same (ps ++ (if registers f interest then declaring cmp matching n id e f ++ showing cmp matching f.region e else []))) (has_id i f.pendings) (Say (answer cmp matching n i e) ∷ []) [] (λ _. registers_ (registers f interest)) (λ _. registers_ (registers f interest))
+        answers (Some i) = of_cond (λ ps. Same (ps ++ (if registers f interest then declaring cmp matching n id e f ++ showing cmp f.region e else []))) (has_id i f.pendings) (Say (answer cmp matching n i e) ∷ []) [] (λ _. registers_ (registers f interest)) (λ _. registers_ (registers f interest))
 
-        of_face : Same (if is_routed g f then declaring_of cmp matching n (source_of g f node) e f else answering cmp matching n interest e f ++ (if registers f interest then declaring cmp matching n id e f ++ showing cmp matching f.region e else []))
+        of_face : Same (if is_routed g f then declaring_of cmp matching n (source_of g f node) e f else answering cmp matching n interest e f ++ (if registers f interest then declaring cmp matching n id e f ++ showing cmp f.region e else []))
         of_face =
-            of_cond Same (is_routed g f) (declaring_of cmp matching n (source_of g f node) e f) (answering cmp matching n interest e f ++ (if registers f interest then declaring cmp matching n id e f ++ showing cmp matching f.region e else []))
+            of_cond Same (is_routed g f) (declaring_of cmp matching n (source_of g f node) e f) (answering cmp matching n interest e f ++ (if registers f interest then declaring cmp matching n id e f ++ showing cmp f.region e else []))
             (λ _. routed (source_of g f node)) (λ _. answers interest)
 
   -- ---- closing

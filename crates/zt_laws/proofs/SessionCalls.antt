@@ -80,25 +80,25 @@ module _ {K : Type 0} (cmp : K → K → Ordering) (matching : K → K → Bool)
 
   -- ---- trees
 
-  shows_nobody : (source : Region) (e : K) (g : Rows K) → IsOfSessions g → to_each (show_to cmp matching g source e) g.faces ≡ []
+  shows_nobody : (source : Region) (e : K) (g : Rows K) → IsOfSessions g → to_each (show_to cmp g source e) g.faces ≡ []
   unfolding show_to is_newly_shown
   shows_nobody source e g sessions =
-      each_says_nothing (show_to cmp matching g source e) g.faces
-      (each_weaker (λ f. f.region ≡ Local) (λ f. show_to cmp matching g source e f ≡ [])
-      (λ f local. ap (λ (r : Region). if is_newly_shown cmp matching g source e r then pass_to cmp matching g f.region g.zid e f else []) local) g.faces sessions.faces)
+      each_says_nothing (show_to cmp g source e) g.faces
+      (each_weaker (λ f. f.region ≡ Local) (λ f. show_to cmp g source e f ≡ [])
+      (λ f local. ap (λ (r : Region). if is_newly_shown cmp g source e r then pass_to cmp g f.region g.zid e f else []) local) g.faces sessions.faces)
 
-  shows_no_region : (source : Region) (e : K) (g : Rows K) → IsOfSessions g → with_own_rows cmp matching (filter (is_newly_shown cmp matching g source e) (router_regions g)) e g ≡ g
+  shows_no_region : (source : Region) (e : K) (g : Rows K) → IsOfSessions g → with_own_rows cmp (filter (is_newly_shown cmp g source e) (router_regions g)) e g ≡ g
   unfolding with_own_rows
-  shows_no_region source e g sessions = ap (λ rs. with_own_rows cmp matching (filter (is_newly_shown cmp matching g source e) rs) e g) (no_router_regions g sessions)
+  shows_no_region source e g sessions = ap (λ rs. with_own_rows cmp (filter (is_newly_shown cmp g source e) rs) e g) (no_router_regions g sessions)
 
-  hides_from_nobody : (source : Region) (e : K) (g : Rows K) → IsOfSessions g → to_each (hide_to cmp matching g source e) g.faces ≡ []
+  hides_from_nobody : (source : Region) (e : K) (g : Rows K) → IsOfSessions g → to_each (hide_to cmp g source e) g.faces ≡ []
   unfolding hide_to is_hidden
   hides_from_nobody source e g sessions =
-      each_says_nothing (hide_to cmp matching g source e) g.faces
-      (each_weaker (λ f. f.region ≡ Local) (λ f. hide_to cmp matching g source e f ≡ [])
-      (λ f local. ap (λ (r : Region). if is_hidden cmp matching g source e r then unpass_to cmp matching g f.region g.zid e f else []) local) g.faces sessions.faces)
+      each_says_nothing (hide_to cmp g source e) g.faces
+      (each_weaker (λ f. f.region ≡ Local) (λ f. hide_to cmp g source e f ≡ [])
+      (λ f local. ap (λ (r : Region). if is_hidden cmp g source e r then unpass_to cmp g f.region g.zid e f else []) local) g.faces sessions.faces)
 
-  hides_no_row : (source : Region) (e : K) (g : Rows K) → IsOfSessions g → without_own_rows cmp matching source e g ≡ g
+  hides_no_row : (source : Region) (e : K) (g : Rows K) → IsOfSessions g → without_own_rows cmp source e g ≡ g
   unfolding without_own_rows
   hides_no_row source e g sessions = ap (λ (rows : List (RoutedRow K)). record g { routed = rows }) (nothing_left _ g.routed sessions.routed)
     where
@@ -106,7 +106,7 @@ module _ {K : Type 0} (cmp : K → K → Ordering) (matching : K → K → Bool)
       nothing_left p [] is = refl
       nothing_left p (row ∷ rows) is = cc
 
-  declares_to_sessions : (n id : ℕ) (e : K) (f : Face K) (g : Rows K) → IsOfSessions g → ComeTo (declaring cmp matching n id e f ++ showing cmp matching f.region e) (declaring cmp matching n id e f) g
+  declares_to_sessions : (n id : ℕ) (e : K) (f : Face K) (g : Rows K) → IsOfSessions g → ComeTo (declaring cmp matching n id e f ++ showing cmp f.region e) (declaring cmp matching n id e f) g
   unfolding said_by altered_by
   declares_to_sessions n id e f g sessions =
       let h = with_face n (registered id e) g in
@@ -117,7 +117,7 @@ module _ {K : Type 0} (cmp : K → K → Ordering) (matching : K → K → Bool)
       )
 
   undeclares_to_sessions : (n id : ℕ) (e : K) (f : Face K) (g : Rows K) → IsOfSessions g
-      → ComeTo (Alter (with_face n (unregistered id)) ∷ Say (forget cmp matching f.region e) ∷ hiding cmp matching f.region e) (Alter (with_face n (unregistered id)) ∷ Say (forget cmp matching f.region e) ∷ []) g
+      → ComeTo (Alter (with_face n (unregistered id)) ∷ Say (forget cmp matching f.region e) ∷ hiding cmp f.region e) (Alter (with_face n (unregistered id)) ∷ Say (forget cmp matching f.region e) ∷ []) g
   unfolding said_by altered_by
   undeclares_to_sessions n id e f g sessions =
       let h = with_face n (unregistered id) g in
@@ -199,7 +199,7 @@ module _ {K : Type 0} (cmp : K → K → Ordering) (matching : K → K → Bool)
       cases : (o : Option (Face K)) → find_face n g ≡ o
           → ComeTo (elim o [
             | None ↦ []
-            | Some f ↦ if is_routed g f then declaring_of cmp matching n (source_of g f node) e f else declaring cmp matching n id e f ++ showing cmp matching f.region e
+            | Some f ↦ if is_routed g f then declaring_of cmp matching n (source_of g f node) e f else declaring cmp matching n id e f ++ showing cmp f.region e
           ]) (elim o [ None ↦ [] | Some f ↦ declaring cmp matching n id e f ]) g
       cases None found = (refl, refl)
       cases (Some f) found =
@@ -208,7 +208,7 @@ module _ {K : Type 0} (cmp : K → K → Ordering) (matching : K → K → Bool)
   session_call (UndeclareToken n id given node) g built sessions = cases (find_face n g) refl
     where
       one : (f : Face K) (o : Option K)
-          → ComeTo ((elim o [ None ↦ [] | Some e ↦ Alter (with_face n (unregistered id)) ∷ Say (forget cmp matching f.region e) ∷ [] ]) ++ (elim o [ None ↦ [] | Some e ↦ hiding cmp matching f.region e ]))
+          → ComeTo ((elim o [ None ↦ [] | Some e ↦ Alter (with_face n (unregistered id)) ∷ Say (forget cmp matching f.region e) ∷ [] ]) ++ (elim o [ None ↦ [] | Some e ↦ hiding cmp f.region e ]))
           (elim o [ None ↦ [] | Some e ↦ Alter (with_face n (unregistered id)) ∷ Say (forget cmp matching f.region e) ∷ [] ]) g
       one f None = (refl, refl)
       one f (Some e) = undeclares_to_sessions n id e f g sessions

@@ -95,7 +95,7 @@ module _ {K : Type 0} (cmp : K → K → Ordering) (matching : K → K → Bool)
 
   -- ---- entities
 
-  silent_aggregate : {A : Type 0} (expr : Option K) (found : Option A) (declare : K → A → Message K) → ((k : K) (x : A) → DrawsNothing (declare k x)) → DrawNothing (aggregate_of cmp matching expr found declare)
+  silent_aggregate : {A : Type 0} (expr : Option K) (found : Option A) (declare : K → A → Message K) → ((k : K) (x : A) → DrawsNothing (declare k x)) → DrawNothing (aggregate_of cmp expr found declare)
   silent_aggregate None found declare h = tt
   silent_aggregate (Some k) None declare h = tt
   silent_aggregate (Some k) (Some x) declare h = (h k x, tt)
@@ -104,18 +104,18 @@ module _ {K : Type 0} (cmp : K → K → Ordering) (matching : K → K → Bool)
   unfolding subscribers_for
   silent_subscribers g id interest f =
       let found = matching_subscribers cmp matching g interest f in
-      of_cond DrawNothing (has_aggregate interest.options) (aggregate_of cmp matching interest.expr (first_of found) (λ k e. subscriber_of cmp matching g id k)) (map (subscriber_of cmp matching g id) (in_key_order cmp found))
-      (λ _. silent_aggregate interest.expr (first_of found) (λ k e. subscriber_of cmp matching g id k) (λ k e. tt))
-      (λ _. each_alike (subscriber_of cmp matching g id) (in_key_order cmp found) (λ e. tt))
+      of_cond DrawNothing (has_aggregate interest.options) (aggregate_of cmp interest.expr (first_of found) (λ k e. subscriber_of cmp g id k)) (map (subscriber_of cmp g id) (in_key_order cmp found))
+      (λ _. silent_aggregate interest.expr (first_of found) (λ k e. subscriber_of cmp g id k) (λ k e. tt))
+      (λ _. each_alike (subscriber_of cmp g id) (in_key_order cmp found) (λ e. tt))
 
   silent_queryables : (g : Rows K) (id : ℕ) (interest : InterestRow K) (f : Face K) → DrawNothing (queryables_for cmp matching g id interest f)
   unfolding queryables_for
   silent_queryables g id interest f =
       let found = matching_queryables cmp matching g interest f in
-      let each_info = λ (e : K). map (queryable_of cmp matching g id e) (option_to_list (info_of cmp matching e found)) in
-      of_cond DrawNothing (has_aggregate interest.options) (aggregate_of cmp matching interest.expr (all_merged (map (λ q. q.1) found)) (queryable_of cmp matching g id)) (flat_map each_info (in_key_order cmp (map (λ q. q.0) found)))
-      (λ _. silent_aggregate interest.expr (all_merged (map (λ q. q.1) found)) (queryable_of cmp matching g id) (λ k x. tt))
-      (λ _. each_flat_map DrawsNothing each_info (in_key_order cmp (map (λ q. q.0) found)) (λ e. each_alike (queryable_of cmp matching g id e) (option_to_list (info_of cmp matching e found)) (λ x. tt)))
+      let each_info = λ (e : K). map (queryable_of cmp g id e) (option_to_list (info_of cmp e found)) in
+      of_cond DrawNothing (has_aggregate interest.options) (aggregate_of cmp interest.expr (all_merged (map (λ q. q.1) found)) (queryable_of cmp g id)) (flat_map each_info (in_key_order cmp (map (λ q. q.0) found)))
+      (λ _. silent_aggregate interest.expr (all_merged (map (λ q. q.1) found)) (queryable_of cmp g id) (λ k x. tt))
+      (λ _. each_flat_map DrawsNothing each_info (in_key_order cmp (map (λ q. q.0) found)) (λ e. each_alike (queryable_of cmp g id e) (option_to_list (info_of cmp e found)) (λ x. tt)))
 
   pub silent_entities : (g : Rows K) (id : ℕ) (interest : InterestRow K) (f : Face K) → DrawNothing (entities_for cmp matching g id interest f)
   unfolding entities_for
@@ -130,29 +130,29 @@ module _ {K : Type 0} (cmp : K → K → Ordering) (matching : K → K → Bool)
 
   -- ---- trees
 
-  pub silent_pass : (g : Rows K) (region : Region) (source : Zid) (e : K) (f : Face K) → DrawNothing (pass_to cmp matching g region source e f)
+  pub silent_pass : (g : Rows K) (region : Region) (source : Zid) (e : K) (f : Face K) → DrawNothing (pass_to cmp g region source e f)
   unfolding pass_to
   silent_pass g region source e f =
       of_cond DrawNothing (region_eq f.region region && is_child g (table_of g region) source f) (DeclareToken 0 e None (node_of source (table_of g region)) ∷ []) [] (λ _. (refl, tt)) (λ _. tt)
 
-  pub silent_unpass : (g : Rows K) (region : Region) (source : Zid) (e : K) (f : Face K) → DrawNothing (unpass_to cmp matching g region source e f)
+  pub silent_unpass : (g : Rows K) (region : Region) (source : Zid) (e : K) (f : Face K) → DrawNothing (unpass_to cmp g region source e f)
   unfolding unpass_to
   silent_unpass g region source e f =
       of_cond DrawNothing (region_eq f.region region && is_child g (table_of g region) source f) (UndeclareToken 0 (Some e) (node_of source (table_of g region)) ∷ []) [] (λ _. (tt, tt)) (λ _. tt)
 
-  pub silent_show : (g : Rows K) (source : Region) (e : K) (f : Face K) → DrawNothing (show_to cmp matching g source e f)
+  pub silent_show : (g : Rows K) (source : Region) (e : K) (f : Face K) → DrawNothing (show_to cmp g source e f)
   unfolding show_to
-  silent_show g source e f = of_cond DrawNothing (is_newly_shown cmp matching g source e f.region) (pass_to cmp matching g f.region g.zid e f) [] (λ _. silent_pass g f.region g.zid e f) (λ _. tt)
+  silent_show g source e f = of_cond DrawNothing (is_newly_shown cmp g source e f.region) (pass_to cmp g f.region g.zid e f) [] (λ _. silent_pass g f.region g.zid e f) (λ _. tt)
 
-  pub silent_hide : (g : Rows K) (source : Region) (e : K) (f : Face K) → DrawNothing (hide_to cmp matching g source e f)
+  pub silent_hide : (g : Rows K) (source : Region) (e : K) (f : Face K) → DrawNothing (hide_to cmp g source e f)
   unfolding hide_to
-  silent_hide g source e f = of_cond DrawNothing (is_hidden cmp matching g source e f.region) (unpass_to cmp matching g f.region g.zid e f) [] (λ _. silent_unpass g f.region g.zid e f) (λ _. tt)
+  silent_hide g source e f = of_cond DrawNothing (is_hidden cmp g source e f.region) (unpass_to cmp g f.region g.zid e f) [] (λ _. silent_unpass g f.region g.zid e f) (λ _. tt)
 
-  pub silent_greet : (g : Rows K) (region : Region) (before : Trees) (f : Face K) → DrawNothing (greet_to cmp matching g region before f)
+  pub silent_greet : (g : Rows K) (region : Region) (before : Trees) (f : Face K) → DrawNothing (greet_to cmp g region before f)
   unfolding greet_to
   silent_greet g region before f =
       let t = table_of g region in
-      let greets = λ (r : ℕ × Zid). if region_eq f.region region && (is_child g t r.1 f && not (is_child g before r.1 f)) then map (λ e. DeclareToken 0 e None r.0) (routed_expressions cmp matching g region r.1) else [] in
-      each_flat_map DrawsNothing greets (routers_in_order cmp matching t)
-      (λ r. of_cond DrawNothing (region_eq f.region region && (is_child g t r.1 f && not (is_child g before r.1 f))) (map (λ e. DeclareToken 0 e None r.0) (routed_expressions cmp matching g region r.1)) []
-      (λ _. each_alike (λ e. DeclareToken 0 e None r.0) (routed_expressions cmp matching g region r.1) (λ e. refl)) (λ _. tt))
+      let greets = λ (r : ℕ × Zid). if region_eq f.region region && (is_child g t r.1 f && not (is_child g before r.1 f)) then map (λ e. DeclareToken 0 e None r.0) (routed_expressions cmp g region r.1) else [] in
+      each_flat_map DrawsNothing greets (routers_in_order cmp t)
+      (λ r. of_cond DrawNothing (region_eq f.region region && (is_child g t r.1 f && not (is_child g before r.1 f))) (map (λ e. DeclareToken 0 e None r.0) (routed_expressions cmp g region r.1)) []
+      (λ _. each_alike (λ e. DeclareToken 0 e None r.0) (routed_expressions cmp g region r.1) (λ e. refl)) (λ _. tt))

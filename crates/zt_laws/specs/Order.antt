@@ -35,7 +35,7 @@ module _ {K : Type 0} (cmp : K → K → Ordering) (matching : K → K → Bool)
     pub faces_rise : RiseFrom (λ f. f.number) 1 g.faces
     pub faces_made : Each (λ f. f.number ≤ g.made) g.faces
     pub rows : Each HasRowsInOrder g.faces
-    pub routed : InKeyOrder (routed_order cmp matching) g.routed
+    pub routed : InKeyOrder (routed_order cmp) g.routed
     pub trees : InKeyOrder region_order (map (λ t. t.0) g.trees)
     pub dictionary : KeysOnce cmp g.dictionary
 

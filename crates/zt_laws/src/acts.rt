@@ -26,8 +26,8 @@ pub fn changes_are_heard<K: Key>()
     ensures tell_again { (now id node : ℕ) (e : K) (f : Face K) → id < f.next → list_any (λ row. (id == row.0) && same K.cmp e row.1) f.told ≡ true
         → f ≡ heard K.cmp now (message.DeclareToken id e None node) f }
     ensures untell { (now id node : ℕ) (e : K) (f : Face K) → IsToldInOrder K.cmp f.told f.next → told_id K.cmp e f.told ≡ Some id
-        → told_ended K.cmp K.matching e f ≡ heard K.cmp now (message.UndeclareToken id None node) f }
-    ensures untell_by_expression { (now id node : ℕ) (e : K) (f : Face K) → told_ended K.cmp K.matching e f ≡ heard K.cmp now (message.UndeclareToken id (Some e) node) f }
+        → told_ended K.cmp e f ≡ heard K.cmp now (message.UndeclareToken id None node) f }
+    ensures untell_by_expression { (now id node : ℕ) (e : K) (f : Face K) → told_ended K.cmp e f ≡ heard K.cmp now (message.UndeclareToken id (Some e) node) f }
     ensures add_pending { (now id : ℕ) (mode : InterestMode) (options : InterestOptions) (e : Option K) (f : Face K) → is_future mode ≡ false
         → pending_added id (record { mode = mode; since = now }) f ≡ heard K.cmp now (message.Interest id mode options e) f }
     ensures add_local { (now id : ℕ) (mode : InterestMode) (options : InterestOptions) (e : Option K) (f : Face K) → is_current mode ≡ false
@@ -36,8 +36,8 @@ pub fn changes_are_heard<K: Key>()
         → local_added id (record { mode = mode; options = options; expr = e }) (pending_added id (record { mode = mode; since = now }) f) ≡ heard K.cmp now (message.Interest id mode options e) f }
     ensures drop_local { (now id : ℕ) (f : Face K) → local_dropped id f ≡ heard K.cmp now (message.InterestFinal id) f }
     ensures answer { (now id interest node : ℕ) (e : K) (f : Face K)
-        → answered_with K.cmp K.matching e interest (heard K.cmp now (message.DeclareToken id e None node) f) ≡ heard K.cmp now (message.DeclareToken id e (Some interest) node) f }
+        → answered_with K.cmp e interest (heard K.cmp now (message.DeclareToken id e None node) f) ≡ heard K.cmp now (message.DeclareToken id e (Some interest) node) f }
     ensures answer_unkept { (now interest node : ℕ) (e : K) (f : Face K) → 1 ≤ f.next
-        → answered_with K.cmp K.matching e interest f ≡ heard K.cmp now (message.DeclareToken 0 e (Some interest) node) f }
+        → answered_with K.cmp e interest f ≡ heard K.cmp now (message.DeclareToken 0 e (Some interest) node) f }
     ensures drop_ask { (now id : ℕ) (f : Face K) → ask_dropped id f ≡ heard K.cmp now (message.DeclareFinal id) f }
 {}

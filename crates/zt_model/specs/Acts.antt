@@ -168,7 +168,7 @@ is_ask_where n test s =
 abbrev pub is_ask : {K : Type 0} → ℕ → Store K → Bool
 is_ask n s = is_ask_where n (λ ask. true) s
 
-module _ {K : Type 0} (cmp : K → K → Ordering) (matching : K → K → Bool) where
+module _ {K : Type 0} (cmp : K → K → Ordering) where
   -- the face was told that the expression is gone
   abbrev pub told_ended : K → Face K → Face K
   told_ended e f = record f { told = untold cmp 0 (Some e) f.told }
@@ -183,8 +183,8 @@ module _ {K : Type 0} (cmp : K → K → Ordering) (matching : K → K → Bool)
   acted (CloseFace n) s = closed n s
   acted (AddLive n id e) s = at_face n (registered id e) s
   acted (DropLive n id) s = at_face n (unregistered id) s
-  acted (AddRouted region source e) s = record s { rows = with_routed cmp matching region source e s.rows }
-  acted (DropRouted region source e) s = record s { rows = without_routed cmp matching region source e s.rows }
+  acted (AddRouted region source e) s = record s { rows = with_routed cmp region source e s.rows }
+  acted (DropRouted region source e) s = record s { rows = without_routed cmp region source e s.rows }
   acted (Tell n id e) s = at_face n (told_under id e) s
   acted (Untell n e) s = at_face n (told_ended e) s
   acted (AddHeld n id interest) s = at_face n (held_added id interest) s
@@ -199,9 +199,9 @@ module _ {K : Type 0} (cmp : K → K → Ordering) (matching : K → K → Bool)
   acted (DropAsk n) s = record (at_ask n ask_dropped s) { numbers = without_id n s.numbers }
   acted (Send n m) s = sent_to n m s
   acted (SetMoment now) s = record s { rows = record s.rows { moment = now } }
-  acted (SetTree region table) s = record s { rows = with_table cmp matching region table s.rows }
+  acted (SetTree region table) s = record s { rows = with_table cmp region table s.rows }
   acted (SetEntities n subscribers queryables) s = at_face n (entities_set subscribers queryables) s
-  acted (Number e) s = record s { rows = with_numbers cmp matching (e ∷ []) s.rows }
+  acted (Number e) s = record s { rows = with_numbers cmp (e ∷ []) s.rows }
 
   -- the store after changes, the first first
   unfoldable pub acted_all : List (Act K) → Store K → Store K
@@ -215,8 +215,8 @@ module _ {K : Type 0} (cmp : K → K → Ordering) (matching : K → K → Bool)
   fits (CloseFace n) s = is_open n s
   fits (AddLive n id e) s = is_face_where n (λ f. not (has_id id f.live)) s
   fits (DropLive n id) s = is_face_where n (λ f. has_id id f.live) s
-  fits (AddRouted region source e) s = is_region_of s.rows.regions region && not (list_any (is_routed_row cmp matching (row_at cmp matching region source e)) s.rows.routed)
-  fits (DropRouted region source e) s = is_region_of s.rows.regions region && list_any (is_routed_row cmp matching (row_at cmp matching region source e)) s.rows.routed
+  fits (AddRouted region source e) s = is_region_of s.rows.regions region && not (list_any (is_routed_row cmp (row_at cmp region source e)) s.rows.routed)
+  fits (DropRouted region source e) s = is_region_of s.rows.regions region && list_any (is_routed_row cmp (row_at cmp region source e)) s.rows.routed
   fits (Tell n id e) s = is_face_where n (λ f. is_drawn id f && not (keeps cmp f e)) s
   fits (Untell n e) s = is_face_where n (λ f. keeps cmp f e) s
   fits (AddHeld n id interest) s = is_face_where n (λ f. not (has_id id f.held)) s

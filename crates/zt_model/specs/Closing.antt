@@ -28,7 +28,7 @@ expiring now g =
 module _ {K : Type 0} (cmp : K → K → Ordering) (matching : K → K → Bool) where
   abbrev pub leaving : ℕ → Face K → List (Part K)
   leaving n f =
-      flat_map (λ row. undeclaring cmp matching n row.0 None f ++ hiding cmp matching f.region row.1) f.live
+      flat_map (λ row. undeclaring cmp matching n row.0 None f ++ hiding cmp f.region row.1) f.live
       ++ flat_map (λ row. finalising cmp matching n row.0 row.1) f.held
       ++ Alter (with_face n without_asks)
       ∷ flat_map (λ row. ending n row.0) f.pendings

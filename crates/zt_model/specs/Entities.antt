@@ -21,7 +21,7 @@ abbrev pub all_merged : List QueryableInfo → Option QueryableInfo
 all_merged [] = None
 all_merged (i ∷ is) = elim (all_merged is) [ None ↦ Some i | Some j ↦ Some (merged i j) ]
 
-module _ {K : Type 0} (cmp : K → K → Ordering) (matching : K → K → Bool) where
+module _ {K : Type 0} (cmp : K → K → Ordering) where
   -- ---- the dictionary
 
   -- a dictionary with further expressions, in order
@@ -60,12 +60,6 @@ module _ {K : Type 0} (cmp : K → K → Ordering) (matching : K → K → Bool)
   abbrev pub shown_faces : Rows K → Face K → List (Face K)
   shown_faces g f = filter (λ x. not (x.number == f.number) && shows f.region x.region) g.faces
 
-  abbrev pub matching_subscribers : Rows K → InterestRow K → Face K → List K
-  matching_subscribers g interest f = filter (is_about matching interest.expr) (flat_map (λ x. x.subscribers) (shown_faces g f))
-
-  abbrev pub matching_queryables : Rows K → InterestRow K → Face K → List (K × QueryableInfo)
-  matching_queryables g interest f = filter (λ q. is_about matching interest.expr q.0) (flat_map (λ x. x.queryables) (shown_faces g f))
-
   -- what is known together of the queryables of one expression
   abbrev pub info_of : K → List (K × QueryableInfo) → Option QueryableInfo
   info_of e qs = all_merged (map (λ q. q.1) (filter (λ q. same cmp e q.0) qs))
@@ -82,19 +76,26 @@ module _ {K : Type 0} (cmp : K → K → Ordering) (matching : K → K → Bool)
   aggregate_of (Some k) None declare = []
   aggregate_of (Some k) (Some x) declare = declare k x ∷ []
 
+module _ {K : Type 0} (cmp : K → K → Ordering) (matching : K → K → Bool) where
+  abbrev pub matching_subscribers : Rows K → InterestRow K → Face K → List K
+  matching_subscribers g interest f = filter (is_about matching interest.expr) (flat_map (λ x. x.subscribers) (shown_faces cmp g f))
+
+  abbrev pub matching_queryables : Rows K → InterestRow K → Face K → List (K × QueryableInfo)
+  matching_queryables g interest f = filter (λ q. is_about matching interest.expr q.0) (flat_map (λ x. x.queryables) (shown_faces cmp g f))
+
   unfoldable pub subscribers_for : Rows K → ℕ → InterestRow K → Face K → List (Message K)
   subscribers_for g id interest f =
       let found = matching_subscribers g interest f in
       if has_aggregate interest.options
-      then aggregate_of interest.expr (first_of found) (λ k e. subscriber_of g id k)
-      else map (subscriber_of g id) (in_key_order cmp found)
+      then aggregate_of cmp interest.expr (first_of found) (λ k e. subscriber_of cmp g id k)
+      else map (subscriber_of cmp g id) (in_key_order cmp found)
 
   unfoldable pub queryables_for : Rows K → ℕ → InterestRow K → Face K → List (Message K)
   queryables_for g id interest f =
       let found = matching_queryables g interest f in
       if has_aggregate interest.options
-      then aggregate_of interest.expr (all_merged (map (λ q. q.1) found)) (queryable_of g id)
-      else flat_map (λ e. map (queryable_of g id e) (option_to_list (info_of e found))) (in_key_order cmp (map (λ q. q.0) found))
+      then aggregate_of cmp interest.expr (all_merged (map (λ q. q.1) found)) (queryable_of cmp g id)
+      else flat_map (λ e. map (queryable_of cmp g id e) (option_to_list (info_of cmp e found))) (in_key_order cmp (map (λ q. q.0) found))
 
   -- An interest in what is there now and later is answered the entities that it asks for.
   unfoldable pub entities_for : Rows K → ℕ → InterestRow K → Face K → List (Message K)

@@ -156,7 +156,7 @@ module _ {K : Type 0} (cmp : K → K → Ordering) (matching : K → K → Bool)
 
   -- the dictionary would hold too many expressions
   abbrev pub fills_dictionary : List K → Rows K → Bool
-  fills_dictionary es g = nat_lt GREATEST_DICTIONARY (length (numbered_with cmp matching es g.dictionary))
+  fills_dictionary es g = nat_lt GREATEST_DICTIONARY (length (numbered_with cmp es g.dictionary))
 
   -- ---- the causes of each call
 
@@ -190,7 +190,7 @@ module _ {K : Type 0} (cmp : K → K → Ordering) (matching : K → K → Bool)
       ∷ (on_face n g (asks_from_north g), refusal.InterestFromNorth)
       ∷ (is_illegal_current mode options, refusal.IllegalCurrent)
       ∷ (on_face n g (is_interest_id_in_use id mode), refusal.InterestIdInUse)
-      ∷ (on_face n g (λ f. fills_dictionary (numbered_by cmp matching (row_of cmp matching f mode options e)) g), refusal.DictionaryFull)
+      ∷ (on_face n g (λ f. fills_dictionary (numbered_by cmp (row_of cmp matching f mode options e)) g), refusal.DictionaryFull)
       ∷ (spent, refusal.IdsSpent)
       ∷ []
   call_causes spent (InterestFinal n id) g =
@@ -212,7 +212,7 @@ module _ {K : Type 0} (cmp : K → K → Ordering) (matching : K → K → Bool)
       ∷ []
   call_causes spent (SetEntities n subscribers queryables) g =
       (is_unknown_face n g, refusal.UnknownFace)
-      ∷ (fills_dictionary (entity_expressions cmp matching subscribers queryables) g, refusal.DictionaryFull)
+      ∷ (fills_dictionary (entity_expressions cmp subscribers queryables) g, refusal.DictionaryFull)
       ∷ []
 
   -- ---- what a transcript shows of ids

@@ -41,7 +41,7 @@ module _ {K : Type 0} (cmp : K → K → Ordering) (matching : K → K → Bool)
   -- nobody, the final.
   abbrev pub asking : ℕ → ℕ → InterestRow K → Region → Rows K → List (Part K)
   asking n id interest asker g =
-      Alter (with_numbers cmp matching (numbered_by cmp matching interest))
+      Alter (with_numbers cmp (numbered_by cmp interest))
       ∷ Say (route asker interest)
       ∷ Say (λ h. to_face n (entities_for cmp matching h id interest) h)
       ∷ interesting_above (sent_as g asker interest.mode) n id interest
@@ -57,7 +57,7 @@ module _ {K : Type 0} (cmp : K → K → Ordering) (matching : K → K → Bool)
 
   -- the router regions of the gateway hear too of what was undeclared
   abbrev pub hiding_undeclared : ℕ → Option K → Face K → List (Part K)
-  hiding_undeclared id given f = elim (undeclared cmp matching id given f) [ None ↦ [] | Some e ↦ hiding cmp matching f.region e ]
+  hiding_undeclared id given f = elim (undeclared cmp matching id given f) [ None ↦ [] | Some e ↦ hiding cmp f.region e ]
 
   abbrev pub finalising_held : ℕ → ℕ → Face K → List (Part K)
   finalising_held n id f = elim (at_id id f.held) [ None ↦ [] | Some interest ↦ finalising cmp matching n id interest ]
@@ -71,7 +71,7 @@ module _ {K : Type 0} (cmp : K → K → Ordering) (matching : K → K → Bool)
         | None ↦ []
         | Some f ↦
             if is_routed g f then declaring_of n (source_of g f node) e f
-            else answering cmp matching n interest e f ++ (if registers f interest then declaring cmp matching n id e f ++ showing cmp matching f.region e else [])
+            else answering cmp matching n interest e f ++ (if registers f interest then declaring cmp matching n id e f ++ showing cmp f.region e else [])
       ]
   parts_of (UndeclareToken n id given node) g =
       elim (find_face n g) [
@@ -86,7 +86,7 @@ module _ {K : Type 0} (cmp : K → K → Ordering) (matching : K → K → Bool)
   parts_of (CloseFace n) g = elim (find_face n g) [ None ↦ [] | Some f ↦ closing cmp matching n g f ]
   parts_of (Expire now) g = expiring now g
   parts_of (SetTrees region table) g = changing_table cmp matching region table g
-  parts_of (SetEntities n subscribers queryables) g = Alter (with_entities cmp matching n subscribers queryables) ∷ []
+  parts_of (SetEntities n subscribers queryables) g = Alter (with_entities cmp n subscribers queryables) ∷ []
 
   -- the messages of a call, in the order sent
   abbrev pub said : PlainCall K → Rows K → Sends K

@@ -94,7 +94,7 @@ region_order a b = ordering_then (nat_cmp (region_rank a) (region_rank b)) (orde
 abbrev pub router_regions : {K : Type 0} → Rows K → List Region
 router_regions g = filter (λ r. is_router_hat (strategy_of g.mode r)) (North ∷ g.regions)
 
-module _ {K : Type 0} (cmp : K → K → Ordering) (matching : K → K → Bool) where
+module _ {K : Type 0} (cmp : K → K → Ordering) where
   abbrev pub routed_order : RoutedRow K → RoutedRow K → Ordering
   routed_order a b = ordering_then (region_order a.region b.region) (ordering_then (nat_cmp a.source.0 b.source.0) (cmp a.expr b.expr))
 
@@ -180,21 +180,6 @@ module _ {K : Type 0} (cmp : K → K → Ordering) (matching : K → K → Bool)
   abbrev pub but_for : ℕ → Sends K → Sends K
   but_for n ss = filter (λ s. not (n == s.0)) ss
 
-  -- a token that a router declares
-  abbrev pub declaring_routed : ℕ → Zid → K → Face K → List (Part K)
-  declaring_routed n source e f =
-      Alter (with_routed f.region source e)
-      ∷ Say (λ g. but_for n (pass_on f.region source e g))
-      ∷ Say (tell cmp matching f.region e)
-      ∷ showing f.region e
-
-  abbrev pub undeclaring_routed : ℕ → Zid → K → Face K → List (Part K)
-  undeclaring_routed n source e f =
-      Alter (without_routed f.region source e)
-      ∷ Say (λ g. but_for n (unpass f.region source e g))
-      ∷ Say (forget cmp matching f.region e)
-      ∷ hiding f.region e
-
   -- ---- a new table
 
   -- the rows of a region whose source a table doesn't list
@@ -207,9 +192,6 @@ module _ {K : Type 0} (cmp : K → K → Ordering) (matching : K → K → Bool)
   -- their expressions in key order
   abbrev pub left_out : Region → Trees → Rows K → List K
   left_out region t g = in_key_order cmp (map (λ row. row.expr) (filter (is_left_out region t) g.routed))
-
-  abbrev pub forgetting : Region → List K → List (Part K)
-  forgetting region es = flat_map (λ e. Say (forget cmp matching region e) ∷ hiding region e) es
 
   abbrev pub with_table : Region → Trees → Rows K → Rows K
   with_table region t g = record g { trees = put region_order region t g.trees }
@@ -225,11 +207,30 @@ module _ {K : Type 0} (cmp : K → K → Ordering) (matching : K → K → Bool)
       flat_map (λ r. if region_eq f.region region && (is_child g t r.1 f && not (is_child g before r.1 f)) then map (λ e. message.DeclareToken 0 e None r.0) (routed_expressions g region r.1) else [])
       (routers_in_order t)
 
+module _ {K : Type 0} (cmp : K → K → Ordering) (matching : K → K → Bool) where
+  -- a token that a router declares
+  abbrev pub declaring_routed : ℕ → Zid → K → Face K → List (Part K)
+  declaring_routed n source e f =
+      Alter (with_routed cmp f.region source e)
+      ∷ Say (λ g. but_for cmp n (pass_on cmp f.region source e g))
+      ∷ Say (tell cmp matching f.region e)
+      ∷ showing cmp f.region e
+
+  abbrev pub undeclaring_routed : ℕ → Zid → K → Face K → List (Part K)
+  undeclaring_routed n source e f =
+      Alter (without_routed cmp f.region source e)
+      ∷ Say (λ g. but_for cmp n (unpass cmp f.region source e g))
+      ∷ Say (forget cmp matching f.region e)
+      ∷ hiding cmp f.region e
+
+  abbrev pub forgetting : Region → List K → List (Part K)
+  forgetting region es = flat_map (λ e. Say (forget cmp matching region e) ∷ hiding cmp region e) es
+
   abbrev pub changing_table : Region → Trees → Rows K → List (Part K)
   changing_table region t g =
       let counted = counted_table t in
-      Alter (without_left_out region counted)
-      ∷ forgetting region (left_out region counted g)
-      ++ Alter (with_table region t)
-      ∷ Say (λ h. to_each (greet_to h region (table_of g region)) h.faces)
+      Alter (without_left_out cmp region counted)
+      ∷ forgetting region (left_out cmp region counted g)
+      ++ Alter (with_table cmp region t)
+      ∷ Say (λ h. to_each (greet_to cmp h region (table_of g region)) h.faces)
       ∷ []

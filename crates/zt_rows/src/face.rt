@@ -356,7 +356,7 @@ impl<K: Key> FaceRows<K> {
 
     /// The face is told that the expression is gone.
     pub fn untell(&mut self, expr: &K)
-        ensures face { self.new ≡ record self.old { face = told_ended K.cmp K.matching expr.now self.old.face; room = record self.old.room { told = self.new.room.told } } }
+        ensures face { self.new ≡ record self.old { face = told_ended K.cmp expr.now self.old.face; room = record self.old.room { told = self.new.room.told } } }
         ensures room { self.old.room.told ≤ self.new.room.told }
     {
         self.told.remove(expr);
@@ -508,7 +508,7 @@ impl<K: Key> FaceRows<K> {
     pub fn answer(&mut self, id: u32, expr: K)
         requires new { is_some_and (at_id id self.old.face.asks) (λ ask. not (is_among K.cmp expr ask.answered)) ≡ true }
         requires room { 0 < (ask_room id self.old.ask_rooms).answers }
-        ensures face { self.new ≡ record self.old { face = answered_with K.cmp K.matching expr id self.old.face; ask_rooms = self.new.ask_rooms } }
+        ensures face { self.new ≡ record self.old { face = answered_with K.cmp expr id self.old.face; ask_rooms = self.new.ask_rooms } }
         ensures room { KeepsAskRooms id 0 1 self.old.ask_rooms self.new.ask_rooms }
     {
         match self.asks.get_mut(&id) {

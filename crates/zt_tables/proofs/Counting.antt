@@ -57,30 +57,30 @@ in-order-other cmp matching x s other unrouted = tt
 
 -- ---- one change more
 module _ {K : Type 0} (cmp : K → K → Ordering) (e : K) (matching : K → K → Bool) (xs before : List (Change K)) (i : ℕ) (x : Change K) (s : Store K) where
-  pub tokens-more : (f : ℕ) → i < length xs → x ≡ get_or xs i x → before ≡ take i xs → Fit cmp matching (map plain_change xs) s → is_sorted nat_cmp (tokens_in f s) ≡ true
+  pub tokens-more : (f : ℕ) → i < length xs → x ≡ get_or xs i x → before ≡ take i xs → Fit cmp (map plain_change xs) s → is_sorted nat_cmp (tokens_in f s) ≡ true
       → (adds : Bool) → (list_any (adds_token cmp e) (map plain_change xs) ≡ true → adds ≡ true)
-      → (count n : ℕ) → count ≡ tokens_of cmp e (tokens_in f (acted_all cmp matching (map plain_change (take i xs)) s))
-      → (Fit cmp matching (map plain_change before) s → (list_any (adds_token cmp e) (map plain_change before) ≡ true → adds ≡ true) → n ≡ tokens_step cmp e f (plain_change x) (acted_all cmp matching (map plain_change before) s) count)
-      → n ≡ tokens_of cmp e (tokens_in f (acted_all cmp matching (map plain_change (take (i + 1) xs)) s))
+      → (count n : ℕ) → count ≡ tokens_of cmp e (tokens_in f (acted_all cmp (map plain_change (take i xs)) s))
+      → (Fit cmp (map plain_change before) s → (list_any (adds_token cmp e) (map plain_change before) ≡ true → adds ≡ true) → n ≡ tokens_step cmp e f (plain_change x) (acted_all cmp (map plain_change before) s) count)
+      → n ≡ tokens_of cmp e (tokens_in f (acted_all cmp (map plain_change (take (i + 1) xs)) s))
   tokens-more f less is same_list fit sorted adds added count n counted step =
       let more = next-act cmp matching plain_change xs i x s less fit in
       let stepped = rw same_list at step in
-      let there = acted_all cmp matching (map plain_change (take i xs)) s in
+      let there = acted_all cmp (map plain_change (take i xs)) s in
       stepped more.fit (λ t. added (any-first (adds_token cmp e) plain_change xs i t))
       ∙ (λ j. tokens_step cmp e f (plain_change (is j)) there (counted j))
       ∙ sym (tokens-acted cmp e matching f (plain_change (get_or xs i x)) there more.fits (tokens-in-order cmp matching f (map plain_change (take i xs)) s more.fit sorted))
       ∙ ap (λ (t : Store K). tokens_of cmp e (tokens_in f t)) (sym more.next)
 
-  pub count-more : IsTotalOrder cmp → (test : Region → Bool) → i < length xs → x ≡ get_or xs i x → before ≡ take i xs → Fit cmp matching (map plain_change xs) s → IsOrderly s
+  pub count-more : IsTotalOrder cmp → (test : Region → Bool) → i < length xs → x ≡ get_or xs i x → before ≡ take i xs → Fit cmp (map plain_change xs) s → IsOrderly s
       → (adds : Bool) → (list_any (adds_token cmp e) (map plain_change xs) ≡ true → adds ≡ true)
-      → (count n : ℕ) → count ≡ live_count cmp e test (acted_all cmp matching (map plain_change (take i xs)) s).rows
-      → (Fit cmp matching (map plain_change before) s → IsInOrderAt cmp matching (plain_change x) (acted_all cmp matching (map plain_change before) s))
-      → (Fit cmp matching (map plain_change before) s → (list_any (adds_token cmp e) (map plain_change before) ≡ true → adds ≡ true) → n ≡ count_step cmp e test matching (plain_change x) (acted_all cmp matching (map plain_change before) s) count)
-      → n ≡ live_count cmp e test (acted_all cmp matching (map plain_change (take (i + 1) xs)) s).rows
+      → (count n : ℕ) → count ≡ live_count cmp e test (acted_all cmp (map plain_change (take i xs)) s).rows
+      → (Fit cmp (map plain_change before) s → IsInOrderAt cmp matching (plain_change x) (acted_all cmp (map plain_change before) s))
+      → (Fit cmp (map plain_change before) s → (list_any (adds_token cmp e) (map plain_change before) ≡ true → adds ≡ true) → n ≡ count_step cmp e test matching (plain_change x) (acted_all cmp (map plain_change before) s) count)
+      → n ≡ live_count cmp e test (acted_all cmp (map plain_change (take (i + 1) xs)) s).rows
   count-more o test less is same_list fit orderly adds added count n counted ordered step =
       let more = next-act cmp matching plain_change xs i x s less fit in
       let stepped = rw same_list at step in
-      let there = acted_all cmp matching (map plain_change (take i xs)) s in
+      let there = acted_all cmp (map plain_change (take i xs)) s in
       let ordered_here = rw same_list at ordered in
       let ordered_there = subst (λ (y : Change K). IsInOrderAt cmp matching (plain_change y) there) is (ordered_here more.fit) in
       stepped more.fit (λ t. added (any-first (adds_token cmp e) plain_change xs i t))

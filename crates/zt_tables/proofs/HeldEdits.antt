@@ -37,19 +37,19 @@ module _ {K : Type 0} where
 
 module _ {K : Type 0} (cmp : K → K → Ordering) (matching : K → K → Bool) (f id : ℕ) (s : Store K) where
   pub unheld-less : Some id ≡ from_face (λ x. next_id None x.held) (find_face f s.rows)
-      → length (list_of_face (λ x. x.held) (find_face f (acted cmp matching (DropHeld f id) s).rows)) < length (list_of_face (λ x. x.held) (find_face f s.rows))
+      → length (list_of_face (λ x. x.held) (find_face f (acted cmp (DropHeld f id) s).rows)) < length (list_of_face (λ x. x.held) (find_face f s.rows))
   unheld-less h =
       subst (λ (o : Option (Face K)). length (list_of_face (λ x. x.held) o) < length (list_of_face (λ x. x.held) (find_face f s.rows)))
       (sym (face-acted cmp matching f (DropHeld f id) s)) (held-less f id (find_face f s.rows) h)
 
-  pub unheld-live : list_of_face (λ x. x.live) (find_face f (acted cmp matching (DropHeld f id) s).rows) ≡ list_of_face (λ x. x.live) (find_face f s.rows)
+  pub unheld-live : list_of_face (λ x. x.live) (find_face f (acted cmp (DropHeld f id) s).rows) ≡ list_of_face (λ x. x.live) (find_face f s.rows)
   unheld-live = ap (list_of_face (λ x. x.live)) (face-acted cmp matching f (DropHeld f id) s) ∙ live-still f id (find_face f s.rows)
 
-  pub unheld-open : Fits cmp matching (CloseFace f) s → Fits cmp matching (CloseFace f) (acted cmp matching (DropHeld f id) s)
+  pub unheld-open : Fits cmp (CloseFace f) s → Fits cmp (CloseFace f) (acted cmp (DropHeld f id) s)
   unfolding fits
   unheld-open fit = ap is_some (face-acted cmp matching f (DropHeld f id) s) ∙ changed-open f (unheld id) (find_face f s.rows) ∙ fit
 
-  pub unheld-closed : acted cmp matching (CloseFace f) (acted cmp matching (DropHeld f id) s) ≡ acted cmp matching (CloseFace f) s
+  pub unheld-closed : acted cmp (CloseFace f) (acted cmp (DropHeld f id) s) ≡ acted cmp (CloseFace f) s
   unfolding acted with_face
   unheld-closed =
       ap (λ (faces : List (Face K)). record { rows = record s.rows { faces = faces }; asks_made = s.asks_made; numbers = filter (λ row. not (f == row.1.0)) s.numbers; outboxes = without_id f s.outboxes })

@@ -60,14 +60,14 @@ module _ {K : Type 0} (regions : List Region) where
       changed-listed true all (if m == n then option_map change o else o) kept.1 (changed-listed (m == n) change o kept.0 were) y is
 
 module _ {K : Type 0} (cmp : K → K → Ordering) (matching : K → K → Bool) where
-  touch-listed : (act : Act K) (s : Store K) → Fits cmp matching act s → KeepsListed s.rows.regions (touch cmp matching act s)
+  touch-listed : (act : Act K) (s : Store K) → Fits cmp act s → KeepsListed s.rows.regions (touch cmp matching act s)
   unfolding fits
   touch-listed (OpenFace zid whatami region bound first) s fit = and_first _ _ fit
   touch-listed (CloseFace n) s fit = tt
   touch-listed (AddPending n id ask pending) s fit = (λ x. refl, λ x. refl)
   touch-listed act s fit = λ x. refl
 
-  listed-acted : (act : Act K) (s : Store K) → Fits cmp matching act s → IsListed s → IsListed (acted cmp matching act s)
+  listed-acted : (act : Act K) (s : Store K) → Fits cmp act s → IsListed s → IsListed (acted cmp act s)
   listed-acted act s fit listed = record {
     at = λ n y is.
         let there = touched-listed s.rows.regions n (touch cmp matching act s) (touch-listed act s fit) (find_face n s.rows) (listed.at n) y (sym (face-acted cmp matching n act s) ∙ is) in
@@ -78,7 +78,7 @@ module _ {K : Type 0} (cmp : K → K → Ordering) (matching : K → K → Bool)
   abbrev Counts : Type 0
   Counts = List (Region × List (K × ℕ))
 
-  pub kept-silent : (act : Act K) (s : Store K) (counts : Counts) → IsKept cmp s counts → Fits cmp matching act s → ((e : K) (test : Region → Bool) → is_silent cmp e test matching act ≡ true) → IsKept cmp (acted cmp matching act s) counts
+  pub kept-silent : (act : Act K) (s : Store K) (counts : Counts) → IsKept cmp s counts → Fits cmp act s → ((e : K) (test : Region → Bool) → is_silent cmp e test matching act ≡ true) → IsKept cmp (acted cmp act s) counts
   kept-silent act s counts kept fit silent = record {
     numbered = numbered-acted cmp matching act s kept.numbered fit;
     listed = listed-acted act s fit kept.listed;
@@ -99,7 +99,7 @@ module _ {K : Type 0} (cmp : K → K → Ordering) (matching : K → K → Bool)
 
   module _ (o : IsTotalOrder cmp) (s : Store K) (old new : Counts) (kept : IsKept cmp s old) (orderly : IsOrderly s) where
     module _ (f id : ℕ) (e : K) (x : Face K) (there : find_face f s.rows ≡ Some x) where
-      pub kept-added : Fits cmp matching (AddLive f id e) s → CountsOneMore region_cmp cmp x.region e old new → IsKept cmp (acted cmp matching (AddLive f id e) s) new
+      pub kept-added : Fits cmp (AddLive f id e) s → CountsOneMore region_cmp cmp x.region e old new → IsKept cmp (acted cmp (AddLive f id e) s) new
       kept-added fit more = record {
         numbered = numbered-acted cmp matching (AddLive f id e) s kept.numbered fit;
         listed = listed-acted (AddLive f id e) s fit kept.listed;
@@ -111,7 +111,7 @@ module _ {K : Type 0} (cmp : K → K → Ordering) (matching : K → K → Bool)
         };
       }
 
-      pub kept-dropped : Fits cmp matching (DropLive f id) s → is_sorted nat_cmp x.live ≡ true → at_id id x.live ≡ Some e → CountsOneMore region_cmp cmp x.region e new old → IsKept cmp (acted cmp matching (DropLive f id) s) new
+      pub kept-dropped : Fits cmp (DropLive f id) s → is_sorted nat_cmp x.live ≡ true → at_id id x.live ≡ Some e → CountsOneMore region_cmp cmp x.region e new old → IsKept cmp (acted cmp (DropLive f id) s) new
       kept-dropped fit in_order found less = record {
         numbered = numbered-acted cmp matching (DropLive f id) s kept.numbered fit;
         listed = listed-acted (DropLive f id) s fit kept.listed;
@@ -139,7 +139,7 @@ module _ {K : Type 0} (cmp : K → K → Ordering) (matching : K → K → Bool)
       less-routed false true false count after before now other less is next = omega (arith, less, is, next)
       less-routed false false false count after before now other less is next = omega (arith, less, is, next)
 
-      pub kept-routed : Fits cmp matching (AddRouted r z e) s → zid_eq z s.rows.zid ≡ false → CountsOneMore region_cmp cmp r e old new → IsKept cmp (acted cmp matching (AddRouted r z e) s) new
+      pub kept-routed : Fits cmp (AddRouted r z e) s → zid_eq z s.rows.zid ≡ false → CountsOneMore region_cmp cmp r e old new → IsKept cmp (acted cmp (AddRouted r z e) s) new
       kept-routed fit other more = record {
         numbered = numbered-acted cmp matching (AddRouted r z e) s kept.numbered fit;
         listed = listed-acted (AddRouted r z e) s fit kept.listed;
@@ -151,7 +151,7 @@ module _ {K : Type 0} (cmp : K → K → Ordering) (matching : K → K → Bool)
         };
       }
 
-      pub kept-unrouted : Fits cmp matching (DropRouted r z e) s → AreRising (routed_order cmp matching) s.rows.routed → zid_eq z s.rows.zid ≡ false → CountsOneMore region_cmp cmp r e new old → IsKept cmp (acted cmp matching (DropRouted r z e) s) new
+      pub kept-unrouted : Fits cmp (DropRouted r z e) s → AreRising (routed_order cmp) s.rows.routed → zid_eq z s.rows.zid ≡ false → CountsOneMore region_cmp cmp r e new old → IsKept cmp (acted cmp (DropRouted r z e) s) new
       kept-unrouted fit rising other less = record {
         numbered = numbered-acted cmp matching (DropRouted r z e) s kept.numbered fit;
         listed = listed-acted (DropRouted r z e) s fit kept.listed;
@@ -172,7 +172,7 @@ module _ {K : Type 0} (cmp : K → K → Ordering) (matching : K → K → Bool)
     as-many false true true count before now changed same_zid is next = is ∙ sym next
     as-many false false true count before now changed same_zid is next = is ∙ sym next
 
-    pub kept-own : Fits cmp matching (AddRouted r z e) s → IsKept cmp (acted cmp matching (AddRouted r z e) s) counts
+    pub kept-own : Fits cmp (AddRouted r z e) s → IsKept cmp (acted cmp (AddRouted r z e) s) counts
     kept-own fit = record {
       numbered = numbered-acted cmp matching (AddRouted r z e) s kept.numbered fit;
       listed = listed-acted (AddRouted r z e) s fit kept.listed;
@@ -183,7 +183,7 @@ module _ {K : Type 0} (cmp : K → K → Ordering) (matching : K → K → Bool)
       };
     }
 
-    pub kept-unowned : Fits cmp matching (DropRouted r z e) s → AreRising (routed_order cmp matching) s.rows.routed → IsKept cmp (acted cmp matching (DropRouted r z e) s) counts
+    pub kept-unowned : Fits cmp (DropRouted r z e) s → AreRising (routed_order cmp) s.rows.routed → IsKept cmp (acted cmp (DropRouted r z e) s) counts
     kept-unowned fit rising = record {
       numbered = numbered-acted cmp matching (DropRouted r z e) s kept.numbered fit;
       listed = listed-acted (DropRouted r z e) s fit kept.listed;
@@ -198,7 +198,7 @@ module _ {K : Type 0} (cmp : K → K → Ordering) (matching : K → K → Bool)
   same-where true n m h = omega (arith, h)
   same-where false n m h = omega (arith, h)
 
-  pub kept-closed : IsTotalOrder cmp → (f : ℕ) (s : Store K) (counts : Counts) → IsKept cmp s counts → IsOrderly s → Fits cmp matching (CloseFace f) s → list_of_face (λ y. y.live) (find_face f s.rows) ≡ [] → IsKept cmp (acted cmp matching (CloseFace f) s) counts
+  pub kept-closed : IsTotalOrder cmp → (f : ℕ) (s : Store K) (counts : Counts) → IsKept cmp s counts → IsOrderly s → Fits cmp (CloseFace f) s → list_of_face (λ y. y.live) (find_face f s.rows) ≡ [] → IsKept cmp (acted cmp (CloseFace f) s) counts
   kept-closed o f s counts kept orderly fit none = record {
     numbered = numbered-acted cmp matching (CloseFace f) s kept.numbered fit;
     listed = listed-acted (CloseFace f) s fit kept.listed;

@@ -82,8 +82,8 @@ module _ {K : Type 0} (cmp : K → K → Ordering) (o : IsTotalOrder cmp) (e : K
       (λ t. let rest = counts-there test f x id ys (rw t at there) passes found in omega (arith, first, rest))
 
 -- a row of another router that stands counts
-pub routed-there : {K : Type 0} (cmp : K → K → Ordering) (matching : K → K → Bool) → IsTotalOrder cmp → (r : Region) (z : Zid) (e : K) (s : Store K) → Fits cmp matching (DropRouted r z e) s → IsOrderly s
-    → AreRising (routed_order cmp matching) s.rows.routed → zid_eq z s.rows.zid ≡ false → 0 < live_count cmp e (λ q. region_eq q r) s.rows
+pub routed-there : {K : Type 0} (cmp : K → K → Ordering) (matching : K → K → Bool) → IsTotalOrder cmp → (r : Region) (z : Zid) (e : K) (s : Store K) → Fits cmp (DropRouted r z e) s → IsOrderly s
+    → AreRising (routed_order cmp) s.rows.routed → zid_eq z s.rows.zid ≡ false → 0 < live_count cmp e (λ q. region_eq q r) s.rows
 routed-there cmp matching o r z e s fit orderly rising other =
     let own : same_key cmp e e ≡ true = ap is_eq (tied_itself o e) in
     let one : one_where (same_key cmp e e && (region_eq r r && not (zid_eq z s.rows.zid))) ≡ 1 = rw (own, region_eq-refl r, other) refl in
@@ -127,16 +127,16 @@ module _ {K : Type 0} where
 
 module _ {K : Type 0} (cmp : K → K → Ordering) (matching : K → K → Bool) (f id : ℕ) (s : Store K) where
   pub dropped-less : Some id ≡ from_face (λ x. next_id None x.live) (find_face f s.rows)
-      → length (list_of_face (λ x. x.live) (find_face f (acted cmp matching (DropLive f id) s).rows)) < length (list_of_face (λ x. x.live) (find_face f s.rows))
+      → length (list_of_face (λ x. x.live) (find_face f (acted cmp (DropLive f id) s).rows)) < length (list_of_face (λ x. x.live) (find_face f s.rows))
   dropped-less h =
       subst (λ (o : Option (Face K)). length (list_of_face (λ x. x.live) o) < length (list_of_face (λ x. x.live) (find_face f s.rows)))
       (sym (face-acted cmp matching f (DropLive f id) s)) (live-less f id (find_face f s.rows) h)
 
-  pub dropped-open : Fits cmp matching (CloseFace f) s → Fits cmp matching (CloseFace f) (acted cmp matching (DropLive f id) s)
+  pub dropped-open : Fits cmp (CloseFace f) s → Fits cmp (CloseFace f) (acted cmp (DropLive f id) s)
   unfolding fits
   dropped-open fit = ap is_some (face-acted cmp matching f (DropLive f id) s) ∙ changed-open f (unregistered id) (find_face f s.rows) ∙ fit
 
-  pub dropped-closed : acted cmp matching (CloseFace f) (acted cmp matching (DropLive f id) s) ≡ acted cmp matching (CloseFace f) s
+  pub dropped-closed : acted cmp (CloseFace f) (acted cmp (DropLive f id) s) ≡ acted cmp (CloseFace f) s
   unfolding acted with_face
   dropped-closed =
       ap (λ (faces : List (Face K)). record { rows = record s.rows { faces = faces }; asks_made = s.asks_made; numbers = filter (λ row. not (f == row.1.0)) s.numbers; outboxes = without_id f s.outboxes })

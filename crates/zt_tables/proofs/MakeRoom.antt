@@ -57,32 +57,32 @@ module _ {K : Type 0} (cmp : K → K → Ordering) (matching : K → K → Bool)
   row-room : (act : Act K) (f : ℕ) (kind : Kind) → is_open f s ≡ true → (need_of act).faces.rows f kind ≡ 1 → HasRoom anchored (act ∷ []) s rooms → 0 < face_room f kind rooms.faces
   row-room act f kind there one h = let all = h.rows f kind there in omega (arith, all, one)
 
-  pub live-room : (f id : ℕ) (e : K) → Fits cmp matching (AddLive f id e) s → HasRoom anchored (AddLive f id e ∷ []) s rooms → 0 < face_room f LiveRows rooms.faces
+  pub live-room : (f id : ℕ) (e : K) → Fits cmp (AddLive f id e) s → HasRoom anchored (AddLive f id e ∷ []) s rooms → 0 < face_room f LiveRows rooms.faces
   unfolding fits
   live-room f id e fit h = row-room (AddLive f id e) f LiveRows (passing-open _ (find_face f s.rows) fit) (own-one f) h
 
-  pub told-room : (f id : ℕ) (e : K) → Fits cmp matching (Tell f id e) s → HasRoom anchored (Tell f id e ∷ []) s rooms → 0 < face_room f ToldRows rooms.faces
+  pub told-room : (f id : ℕ) (e : K) → Fits cmp (Tell f id e) s → HasRoom anchored (Tell f id e ∷ []) s rooms → 0 < face_room f ToldRows rooms.faces
   unfolding fits
   told-room f id e fit h = row-room (Tell f id e) f ToldRows (passing-open _ (find_face f s.rows) fit) (own-one f) h
 
-  pub held-room : (f id : ℕ) (interest : InterestRow K) → Fits cmp matching (AddHeld f id interest) s → HasRoom anchored (AddHeld f id interest ∷ []) s rooms → 0 < face_room f HeldRows rooms.faces
+  pub held-room : (f id : ℕ) (interest : InterestRow K) → Fits cmp (AddHeld f id interest) s → HasRoom anchored (AddHeld f id interest ∷ []) s rooms → 0 < face_room f HeldRows rooms.faces
   unfolding fits
   held-room f id interest fit h = row-room (AddHeld f id interest) f HeldRows (passing-open _ (find_face f s.rows) fit) (own-one f) h
 
-  pub local-room : (f id : ℕ) (interest : InterestRow K) → Fits cmp matching (AddLocal f id interest) s → HasRoom anchored (AddLocal f id interest ∷ []) s rooms → 0 < face_room f LocalRows rooms.faces
+  pub local-room : (f id : ℕ) (interest : InterestRow K) → Fits cmp (AddLocal f id interest) s → HasRoom anchored (AddLocal f id interest ∷ []) s rooms → 0 < face_room f LocalRows rooms.faces
   unfolding fits
   local-room f id interest fit h = row-room (AddLocal f id interest) f LocalRows (passing-open _ (find_face f s.rows) fit) (own-one f) h
 
-  pub pending-room : (f id : ℕ) (ask : Option ℕ) (pending : Pending) → Fits cmp matching (AddPending f id ask pending) s → HasRoom anchored (AddPending f id ask pending ∷ []) s rooms → 0 < face_room f PendingRows rooms.faces
+  pub pending-room : (f id : ℕ) (ask : Option ℕ) (pending : Pending) → Fits cmp (AddPending f id ask pending) s → HasRoom anchored (AddPending f id ask pending ∷ []) s rooms → 0 < face_room f PendingRows rooms.faces
   unfolding fits
   pending-room f id ask pending fit h = row-room (AddPending f id ask pending) f PendingRows (passing-open _ (find_face f s.rows) (and_first _ _ fit)) (own-one f) h
 
-  pub listed-room : (f id : ℕ) (ask : Option ℕ) (pending : Pending) → Fits cmp matching (AddPending f id ask pending) s → HasRoom anchored (AddPending f id ask pending ∷ []) s rooms → IfSome ask (λ n. 0 < listing_room n rooms.faces)
+  pub listed-room : (f id : ℕ) (ask : Option ℕ) (pending : Pending) → Fits cmp (AddPending f id ask pending) s → HasRoom anchored (AddPending f id ask pending ∷ []) s rooms → IfSome ask (λ n. 0 < listing_room n rooms.faces)
   unfolding fits
   listed-room f id None pending fit h = tt
   listed-room f id (Some n) pending fit h = let all = h.listings n (passing-some _ (at_id n s.numbers) (and_second _ _ fit)) in let one = itself-one n in omega (arith, all, one)
 
-  pub asked-room : (f id : ℕ) (interest : InterestRow K) → Fits cmp matching (AddAsk f id interest) s → HasRoom anchored (AddAsk f id interest ∷ []) s rooms → 0 < face_room f AskedRows rooms.faces
+  pub asked-room : (f id : ℕ) (interest : InterestRow K) → Fits cmp (AddAsk f id interest) s → HasRoom anchored (AddAsk f id interest ∷ []) s rooms → 0 < face_room f AskedRows rooms.faces
   unfolding fits
   asked-room f id interest fit h = row-room (AddAsk f id interest) f AskedRows (passing-open _ (find_face f s.rows) fit) (own-one f) h
 
@@ -95,11 +95,11 @@ module _ {K : Type 0} (cmp : K → K → Ordering) (matching : K → K → Bool)
   pub ask-spare : (f id : ℕ) (interest : InterestRow K) → HasRoom anchored (AddAsk f id interest ∷ []) s rooms → 0 < length rooms.spare_asks
   ask-spare f id interest h = let all = h.ask_spares in omega (arith, all)
 
-  pub answer-room : (n : ℕ) (e : K) → Fits cmp matching (Answered n e) s → HasRoom anchored (Answered n e ∷ []) s rooms → 0 < answer_room n rooms.faces
+  pub answer-room : (n : ℕ) (e : K) → Fits cmp (Answered n e) s → HasRoom anchored (Answered n e ∷ []) s rooms → 0 < answer_room n rooms.faces
   unfolding fits
   answer-room n e fit h = let all = h.answers n (passing-some _ (at_id n s.numbers) fit) in let one = itself-one n in omega (arith, all, one)
 
-  pub message-room : (f : ℕ) (m : Message K) → Fits cmp matching (Send f m) s → HasRoom anchored (Send f m ∷ []) s rooms → 0 < room_of nat_cmp f rooms.outboxes
+  pub message-room : (f : ℕ) (m : Message K) → Fits cmp (Send f m) s → HasRoom anchored (Send f m ∷ []) s rooms → 0 < room_of nat_cmp f rooms.outboxes
   unfolding fits
   message-room f m fit h = let all = h.outboxes f (open-stays f s fit) in let one = tied-one f in omega (arith, all, one)
 

@@ -118,8 +118,8 @@ module _ {K : Type 0} where
 module _ {K : Type 0} (cmp : K → K → Ordering) (matching : K → K → Bool) (anchored : Anchor → K → Option ℕ) where
   -- a change leaves which faces are open, and how many were made
   record Leaves (act : Act K) (s : Store K) : Type 0 where
-    still : (n : ℕ) → is_open n (acted cmp matching act s) ≡ is_open n s
-    made : (acted cmp matching act s).rows.made ≡ s.rows.made
+    still : (n : ℕ) → is_open n (acted cmp act s) ≡ is_open n s
+    made : (acted cmp act s).rows.made ≡ s.rows.made
 
   leaves-faces : (act : Act K) (s : Store K) → is_mild (touch cmp matching act s) ≡ true → made_by cmp matching act s.rows.made ≡ s.rows.made → Leaves act s
   leaves-faces act s mild made_same = record {
@@ -133,7 +133,7 @@ module _ {K : Type 0} (cmp : K → K → Ordering) (matching : K → K → Bool)
   plain-leaves (CloseFace n) s h = cc
   plain-leaves act s h = leaves-faces act s refl refl
 
-  gone-same : (act : Act K) (s : Store K) → Leaves act s → (n : ℕ) → is_gone n (acted cmp matching act s) ≡ is_gone n s
+  gone-same : (act : Act K) (s : Store K) → Leaves act s → (n : ℕ) → is_gone n (acted cmp act s) ≡ is_gone n s
   gone-same act s leaves n = λ i. nat_le n (leaves.made i) && not (leaves.still n i)
 
   plain-asks : (act : Act K) (s : Store K) → is_plain act ≡ true → asks_in act ≡ 0
@@ -146,20 +146,20 @@ module _ {K : Type 0} (cmp : K → K → Ordering) (matching : K → K → Bool)
   plain-numbers n made (DropAsk m) o h = cc
   plain-numbers n made act o h = refl
 
-  made-plain : (act : Act K) (s : Store K) → is_plain act ≡ true → (acted cmp matching act s).asks_made ≡ s.asks_made
+  made-plain : (act : Act K) (s : Store K) → is_plain act ≡ true → (acted cmp act s).asks_made ≡ s.asks_made
   made-plain act s h = let made = asks_made-acted cmp matching act s in let none = plain-asks act s h in omega (arith, made, none)
 
-  standing-was : (n : ℕ) (act : Act K) (s : Store K) → AreAsksNumbered s → at_step cmp matching s.asks_made n act (at_id n s.numbers) ≡ at_id n s.numbers → IsSome (at_id n (acted cmp matching act s).numbers) → IsSome (at_id n s.numbers)
+  standing-was : (n : ℕ) (act : Act K) (s : Store K) → AreAsksNumbered s → at_step cmp matching s.asks_made n act (at_id n s.numbers) ≡ at_id n s.numbers → IsSome (at_id n (acted cmp act s).numbers) → IsSome (at_id n s.numbers)
   standing-was n act s numbered is standing = subst (λ o. IsSome o) (at-acted cmp matching n act s numbered ∙ is) standing
 
-  listed-was : (act : Act K) (s : Store K) (region : Region) → is_region_of (acted cmp matching act s).rows.regions region ≡ true → is_region_of s.rows.regions region ≡ true
+  listed-was : (act : Act K) (s : Store K) (region : Region) → is_region_of (acted cmp act s).rows.regions region ≡ true → is_region_of s.rows.regions region ≡ true
   listed-was act s region listed = subst (λ (rs : List Region). is_region_of rs region ≡ true) (acted-same cmp matching act s).regions listed
 
   -- ---- after a change
 
   module _ (act : Act K) (acts : List (Act K)) (s : Store K) (rooms left : Rooms) (numbered : AreAsksNumbered s) (h : HasRoom anchored (act ∷ acts) s rooms) where
     module _ (k : KeepsTablesFor (tokens_in (token_of act)) (bucket_added anchored act) (need_of act) rooms left) where
-      pub after-plain : is_plain act ≡ true → HasRoom anchored acts (acted cmp matching act s) left
+      pub after-plain : is_plain act ≡ true → HasRoom anchored acts (acted cmp act s) left
       after-plain plain =
           let spare_faces = k.spare_faces in
           let spare_asks = k.spare_asks in
@@ -190,20 +190,20 @@ module _ {K : Type 0} (cmp : K → K → Ordering) (matching : K → K → Bool)
   kept-was test (Some p) there = refl
 
   module _ (f : ℕ) (acts : List (Act K)) (s : Store K) (rooms left : Rooms) (numbered : AreAsksNumbered s) (h : HasRoom anchored (CloseFace f ∷ acts) s rooms) where
-    still-other : (n : ℕ) → (f == n) ≡ false → is_open n (acted cmp matching (CloseFace f) s) ≡ is_open n s
+    still-other : (n : ℕ) → (f == n) ≡ false → is_open n (acted cmp (CloseFace f) s) ≡ is_open n s
     still-other n other = ap is_some (face-acted cmp matching n (CloseFace f) s) ∙ closed-other n f (find_face n s.rows) other
 
-    closed-now : (n : ℕ) → (f == n) ≡ true → is_open n (acted cmp matching (CloseFace f) s) ≡ false
+    closed-now : (n : ℕ) → (f == n) ≡ true → is_open n (acted cmp (CloseFace f) s) ≡ false
     closed-now n own = ap is_some (face-acted cmp matching n (CloseFace f) s) ∙ closed-own n f (find_face n s.rows) own
 
-    is-other : (n : ℕ) → is_open n (acted cmp matching (CloseFace f) s) ≡ true → (f == n) ≡ false
+    is-other : (n : ℕ) → is_open n (acted cmp (CloseFace f) s) ≡ true → (f == n) ≡ false
     is-other n open_now = by_test (f == n) (λ t. absurd (false≢true (sym (closed-now n t) ∙ open_now))) (λ t. t)
 
-    pub after-close : f ≤ s.rows.made → KeepsOthers f (acted cmp matching (CloseFace f) s).numbers rooms left → HasRoom anchored acts (acted cmp matching (CloseFace f) s) left
+    pub after-close : f ≤ s.rows.made → KeepsOthers f (acted cmp (CloseFace f) s).numbers rooms left → HasRoom anchored acts (acted cmp (CloseFace f) s) left
     after-close given k =
         let spare_faces = k.spare_faces in
         let spare_asks = k.spare_asks in
-        let t = acted cmp matching (CloseFace f) s in
+        let t = acted cmp (CloseFace f) s in
         let made : t.rows.made ≡ s.rows.made = made-acted cmp matching (CloseFace f) s in
         let asked : t.asks_made ≡ s.asks_made = let more = asks_made-acted cmp matching (CloseFace f) s in omega (arith, more) in
         let stood = λ (n : ℕ) (standing : IsSome (at_id n t.numbers)). kept-was (λ p. not (f == p.0)) (at_id n s.numbers) (subst (λ o. IsSome o) (at-acted cmp matching n (CloseFace f) s numbered) standing) in
@@ -243,24 +243,24 @@ module _ {K : Type 0} (cmp : K → K → Ordering) (matching : K → K → Bool)
 
   -- ---- after an ask is dropped
   module _ (m : ℕ) (acts : List (Act K)) (s : Store K) (rooms left : Rooms) (numbered : AreAsksNumbered s) (h : HasRoom anchored (DropAsk m ∷ acts) s rooms) where
-    dropped-other : (n : ℕ) → IsSome (at_id n (acted cmp matching (DropAsk m) s).numbers) → (n == m) ≡ false
+    dropped-other : (n : ℕ) → IsSome (at_id n (acted cmp (DropAsk m) s).numbers) → (n == m) ≡ false
     dropped-other n standing =
         by_test (n == m)
         (λ own.
         let gone : (if n == m then None else at_id n s.numbers) ≡ None = rw own refl in
-        absurd (none-there (at_id n (acted cmp matching (DropAsk m) s).numbers) (at-acted cmp matching n (DropAsk m) s numbered ∙ gone) standing))
+        absurd (none-there (at_id n (acted cmp (DropAsk m) s).numbers) (at-acted cmp matching n (DropAsk m) s numbered ∙ gone) standing))
         (λ other. other)
       where
         none-there : (o : Option (ℕ × ℕ)) → o ≡ None → IsSome o → ⊥
         none-there None h there = cc there
         none-there (Some x) h there = cc h
 
-    pub after-drop : KeepsTables (of_faces (all_of_ask m rooms.faces)) rooms left → HasRoom anchored acts (acted cmp matching (DropAsk m) s) left
+    pub after-drop : KeepsTables (of_faces (all_of_ask m rooms.faces)) rooms left → HasRoom anchored acts (acted cmp (DropAsk m) s) left
     unfolding is_mild
     after-drop k =
         let spare_faces = k.spare_faces in
         let spare_asks = k.spare_asks in
-        let t = acted cmp matching (DropAsk m) s in
+        let t = acted cmp (DropAsk m) s in
         let leaves = leaves-drop in
         let asked : t.asks_made ≡ s.asks_made = let more = asks_made-acted cmp matching (DropAsk m) s in omega (arith, more) in
         let stood = λ (n : ℕ) (standing : IsSome (at_id n t.numbers)).
@@ -304,14 +304,14 @@ module _ {K : Type 0} (cmp : K → K → Ordering) (matching : K → K → Bool)
     abbrev opening : Act K
     opening = OpenFace zid whatami region bound first
 
-    opened-still : (n : ℕ) → (n == s.rows.made + 1) ≡ false → is_open n (acted cmp matching opening s) ≡ is_open n s
+    opened-still : (n : ℕ) → (n == s.rows.made + 1) ≡ false → is_open n (acted cmp opening s) ≡ is_open n s
     opened-still n other = ap is_some (face-acted cmp matching n opening s) ∙ opened-other n _ (find_face n s.rows) other
 
-    pub after-open : (spare : FaceRoom) (spares : List FaceRoom) → rooms.spare_faces ≡ spare ∷ spares → KeepsTables (of_faces one_face) (record rooms { spare_faces = spares }) left → OpensRoom spare (s.rows.made + 1) left.faces → HasRoom anchored acts (acted cmp matching opening s) left
+    pub after-open : (spare : FaceRoom) (spares : List FaceRoom) → rooms.spare_faces ≡ spare ∷ spares → KeepsTables (of_faces one_face) (record rooms { spare_faces = spares }) left → OpensRoom spare (s.rows.made + 1) left.faces → HasRoom anchored acts (acted cmp opening s) left
     after-open spare spares were k own =
         let spare_faces = k.spare_faces in
         let spare_asks = k.spare_asks in
-        let t = acted cmp matching opening s in
+        let t = acted cmp opening s in
         let made : t.rows.made ≡ s.rows.made + 1 = made-acted cmp matching opening s in
         let asked : t.asks_made ≡ s.asks_made = let more = asks_made-acted cmp matching opening s in omega (arith, more) in
         let suit = subst (SuitFaces (opening ∷ acts) (s.rows.made + 1)) were h.faces_suit in
@@ -361,17 +361,17 @@ module _ {K : Type 0} (cmp : K → K → Ordering) (matching : K → K → Bool)
     abbrev asking : Act K
     asking = AddAsk f id interest
 
-    asked-other : (n : ℕ) → (n == s.asks_made + 1) ≡ false → IsSome (at_id n (acted cmp matching asking s).numbers) → IsSome (at_id n s.numbers)
+    asked-other : (n : ℕ) → (n == s.asks_made + 1) ≡ false → IsSome (at_id n (acted cmp asking s).numbers) → IsSome (at_id n s.numbers)
     asked-other n other standing =
         let same_place : (if n == s.asks_made + 1 then Some (f, id) else at_id n s.numbers) ≡ at_id n s.numbers = rw other refl in standing-was n asking s numbered same_place standing
 
     pub after-ask : (spare : AskRoom) (spares : List AskRoom) → rooms.spare_asks ≡ spare ∷ spares → KeepsTables (of_faces (one_ask f)) (record rooms { spare_asks = spares }) left
-        → spare.pendings ≤ listing_room (s.asks_made + 1) left.faces → spare.answers ≤ answer_room (s.asks_made + 1) left.faces → HasRoom anchored acts (acted cmp matching asking s) left
+        → spare.pendings ≤ listing_room (s.asks_made + 1) left.faces → spare.answers ≤ answer_room (s.asks_made + 1) left.faces → HasRoom anchored acts (acted cmp asking s) left
     unfolding is_mild
     after-ask spare spares were k own_listings own_answers =
         let spare_faces = k.spare_faces in
         let spare_asks = k.spare_asks in
-        let t = acted cmp matching asking s in
+        let t = acted cmp asking s in
         let leaves = leaves-ask in
         let asked : t.asks_made ≡ s.asks_made + 1 = asks_made-acted cmp matching asking s in
         let suit = subst (SuitAsks (asking ∷ acts) (s.asks_made + 1)) were h.asks_suit in
@@ -420,7 +420,7 @@ module _ {K : Type 0} (cmp : K → K → Ordering) (matching : K → K → Bool)
     pub plain-leaves-room : (act : Act K) → KeepsTablesFor (tokens_in (token_of act)) (bucket_added anchored act) (need_of act) old new → is_plain act ≡ true → LeavesRoom cmp matching anchored act s old new
     plain-leaves-room act k plain = record { behind = λ acts h. after-plain act acts s old new numbered h k plain }
 
-    pub close-leaves-room : (f : ℕ) → f ≤ s.rows.made → KeepsOthers f (acted cmp matching (CloseFace f) s).numbers old new → LeavesRoom cmp matching anchored (CloseFace f) s old new
+    pub close-leaves-room : (f : ℕ) → f ≤ s.rows.made → KeepsOthers f (acted cmp (CloseFace f) s).numbers old new → LeavesRoom cmp matching anchored (CloseFace f) s old new
     close-leaves-room f given k = record { behind = λ acts h. after-close f acts s old new numbered h given k }
 
     pub drop-leaves-room : (m : ℕ) → KeepsTables (of_faces (all_of_ask m old.faces)) old new → LeavesRoom cmp matching anchored (DropAsk m) s old new

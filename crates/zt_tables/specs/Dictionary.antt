@@ -17,7 +17,7 @@ IsCounted i (row ∷ rows) = (row.0 ≡ i) × IsCounted (i + 1) rows
 module _ {K : Type 0} (cmp : K → K → Ordering) (matching : K → K → Bool) where
   -- the id of a key is its number
   pub counted-number : (e : K) (i : ℕ) (rows : List (ℕ × K)) → IsCounted i rows
-      → told_id cmp e rows ≡ (if is_among cmp e (keys_by_id rows) then Some (number_in cmp matching i e (keys_by_id rows)) else None)
+      → told_id cmp e rows ≡ (if is_among cmp e (keys_by_id rows) then Some (number_in cmp i e (keys_by_id rows)) else None)
   unfolding told_id
   counted-number e i [] h = refl
   counted-number e i (row ∷ rows) h =
@@ -48,6 +48,6 @@ length-more x [] = refl
 length-more x (y ∷ ys) = let rest = length-more x ys in omega (arith, rest)
 
 -- an expression that isn't there comes last
-pub numbered-new : {K : Type 0} (cmp : K → K → Ordering) (matching : K → K → Bool) (e : K) (known : List K) → is_among cmp e known ≡ false → numbered_with cmp matching (e ∷ []) known ≡ known ++ e ∷ []
+pub numbered-new : {K : Type 0} (cmp : K → K → Ordering) (matching : K → K → Bool) (e : K) (known : List K) → is_among cmp e known ≡ false → numbered_with cmp (e ∷ []) known ≡ known ++ e ∷ []
 unfolding numbered_with
 numbered-new cmp matching e known none = rw none refl

@@ -47,7 +47,7 @@ dropped-place s n None = refl
 dropped-place s n (Some p) = refl
 
 pub dropped-store : {K : Type 0} (cmp : K → K → Ordering) (matching : K → K → Bool) (n : ℕ) (s : Store K)
-    → record s { rows = record s.rows { faces = change_at (at_id n s.numbers) ask_dropped s.rows.faces }; numbers = without_id n s.numbers } ≡ acted cmp matching (DropAsk n) s
+    → record s { rows = record s.rows { faces = change_at (at_id n s.numbers) ask_dropped s.rows.faces }; numbers = without_id n s.numbers } ≡ acted cmp (DropAsk n) s
 unfolding acted
 dropped-store cmp matching n s = dropped-place s n (at_id n s.numbers)
 
@@ -82,9 +82,9 @@ answered-place change s None = refl
 answered-place change s (Some p) = refl
 
 pub answered-store : {K : Type 0} (cmp : K → K → Ordering) (matching : K → K → Bool) (n : ℕ) (e : K) (s : Store K)
-    → record s { rows = record s.rows { faces = change_at (at_id n s.numbers) (answered_with cmp matching e) s.rows.faces } } ≡ acted cmp matching (Answered n e) s
+    → record s { rows = record s.rows { faces = change_at (at_id n s.numbers) (answered_with cmp e) s.rows.faces } } ≡ acted cmp (Answered n e) s
 unfolding acted
-answered-store cmp matching n e s = answered-place (answered_with cmp matching e) s (at_id n s.numbers)
+answered-store cmp matching n e s = answered-place (answered_with cmp e) s (at_id n s.numbers)
 
 -- ---- where a pending's ask stands
 pub place-named : {K : Type 0} (ask : Option ℕ) (s : Store K) → place_of ask s.numbers ≡ place_of_ask s ask

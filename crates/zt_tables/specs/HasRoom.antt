@@ -65,4 +65,4 @@ pub record HasRoom {K : Type 0} (anchored : Anchor → K → Option ℕ) (acts :
 
 -- once the change is made there is room for those behind it
 pub record LeavesRoom {K : Type 0} (cmp : K → K → Ordering) (matching : K → K → Bool) (anchored : Anchor → K → Option ℕ) (act : Act K) (s : Store K) (old new : Rooms) : Type 0 where
-  pub behind : (acts : List (Act K)) → HasRoom anchored (act ∷ acts) s old → HasRoom anchored acts (acted cmp matching act s) new
+  pub behind : (acts : List (Act K)) → HasRoom anchored (act ∷ acts) s old → HasRoom anchored acts (acted cmp act s) new

@@ -102,4 +102,4 @@ module _ {K : Type 0} (cmp : K → K → Ordering) (matching : K → K → Bool)
   by_regions acts [] s = []
   by_regions acts (region ∷ regions) s =
       let first = acts (strategy_of s.rows.mode region) region s in
-      first ++ by_regions acts regions (acted_all cmp matching first s)
+      first ++ by_regions acts regions (acted_all cmp first s)

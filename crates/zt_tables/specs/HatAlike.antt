@@ -80,23 +80,23 @@ module _ {K : Type 0} (cmp : K → K → Ordering) (matching : K → K → Bool)
     pub faces : faces_in region g ≡ faces_in region h
     pub places : map placed g.faces ≡ map placed h.faces
     pub live : live_rows g ≡ live_rows h
-    pub own : is_own_row cmp matching g region e ≡ is_own_row cmp matching h region e
+    pub own : is_own_row cmp g region e ≡ is_own_row cmp h region e
 
   -- ---- along trees
 
   passed-placed : (g : Rows K) (region : Region) (source : Zid) (e : K)
-      → pass_on cmp matching region source e g ≡ pass_all (map placed g.faces) (table_of g region) region (λ node. message.DeclareToken 0 e None node) source
+      → pass_on cmp region source e g ≡ pass_all (map placed g.faces) (table_of g region) region (λ node. message.DeclareToken 0 e None node) source
   unfolding pass_to
   passed-placed g region source e =
-      each-alike (pass_to cmp matching g region source e) (λ f. pass_at (map placed g.faces) (table_of g region) region (λ node. message.DeclareToken 0 e None node) source (placed f))
+      each-alike (pass_to cmp g region source e) (λ f. pass_at (map placed g.faces) (table_of g region) region (λ node. message.DeclareToken 0 e None node) source (placed f))
       (λ f. ap (λ (b : Bool). if region_eq f.region region && b then message.DeclareToken 0 e None (node_of source (table_of g region)) ∷ [] else []) (child-placed g (table_of g region) source f)) g.faces
       ∙ each-placed (pass_at (map placed g.faces) (table_of g region) region (λ node. message.DeclareToken 0 e None node) source) g.faces
 
   unpassed-placed : (g : Rows K) (region : Region) (source : Zid) (e : K)
-      → unpass cmp matching region source e g ≡ pass_all (map placed g.faces) (table_of g region) region (λ node. message.UndeclareToken 0 (Some e) node) source
+      → unpass cmp region source e g ≡ pass_all (map placed g.faces) (table_of g region) region (λ node. message.UndeclareToken 0 (Some e) node) source
   unfolding unpass_to
   unpassed-placed g region source e =
-      each-alike (unpass_to cmp matching g region source e) (λ f. pass_at (map placed g.faces) (table_of g region) region (λ node. message.UndeclareToken 0 (Some e) node) source (placed f))
+      each-alike (unpass_to cmp g region source e) (λ f. pass_at (map placed g.faces) (table_of g region) region (λ node. message.UndeclareToken 0 (Some e) node) source (placed f))
       (λ f. ap (λ (b : Bool). if region_eq f.region region && b then message.UndeclareToken 0 (Some e) (node_of source (table_of g region)) ∷ [] else []) (child-placed g (table_of g region) source f)) g.faces
       ∙ each-placed (pass_at (map placed g.faces) (table_of g region) region (λ node. message.UndeclareToken 0 (Some e) node) source) g.faces
 
@@ -104,10 +104,10 @@ module _ {K : Type 0} (cmp : K → K → Ordering) (matching : K → K → Bool)
       → pass_all (map placed g.faces) (table_of g region) region passed g.zid ≡ pass_all (map placed h.faces) (table_of h region) region passed h.zid
   all-alike g h region e passed alike = λ i. pass_all (alike.places i) (table-alike g h region alike.trees i) region passed (alike.zid i)
 
-  pass_on-alike : (g h : Rows K) (region : Region) (e : K) → IsAlikeIn region e g h → pass_on cmp matching region g.zid e g ≡ pass_on cmp matching region h.zid e h
+  pass_on-alike : (g h : Rows K) (region : Region) (e : K) → IsAlikeIn region e g h → pass_on cmp region g.zid e g ≡ pass_on cmp region h.zid e h
   pass_on-alike g h region e alike = passed-placed g region g.zid e ∙ all-alike g h region e (λ node. message.DeclareToken 0 e None node) alike ∙ sym (passed-placed h region h.zid e)
 
-  unpass-alike : (g h : Rows K) (region : Region) (e : K) → IsAlikeIn region e g h → unpass cmp matching region g.zid e g ≡ unpass cmp matching region h.zid e h
+  unpass-alike : (g h : Rows K) (region : Region) (e : K) → IsAlikeIn region e g h → unpass cmp region g.zid e g ≡ unpass cmp region h.zid e h
   unpass-alike g h region e alike = unpassed-placed g region g.zid e ∙ all-alike g h region e (λ node. message.UndeclareToken 0 (Some e) node) alike ∙ sym (unpassed-placed h region h.zid e)
 
   -- ---- what is told, shown, forgotten and hidden
@@ -126,12 +126,12 @@ module _ {K : Type 0} (cmp : K → K → Ordering) (matching : K → K → Bool)
       λ i. if is_router_hat (strategy_of (mode i) f.region) || visible-alike g h f.region e live i then []
       else elim (told_id cmp e f.told) as (λ _. List (Message K)) [ None ↦ forget_untold cmp matching (record g { mode = mode i }) source e f | Some id ↦ message.UndeclareToken id None 0 ∷ [] ]
 
-  shown-alike : (g h : Rows K) (region source : Region) (e : K) → IsAlikeIn region e g h → is_newly_shown cmp matching g source e region ≡ is_newly_shown cmp matching h source e region
+  shown-alike : (g h : Rows K) (region source : Region) (e : K) → IsAlikeIn region e g h → is_newly_shown cmp g source e region ≡ is_newly_shown cmp h source e region
   unfolding is_newly_shown
   shown-alike g h region source e alike =
       λ i. is_router_hat (strategy_of (alike.mode i) region) && (not (region_eq region source) && (admits (alike.refused i) source region && not (alike.own i)))
 
-  hidden-alike : (g h : Rows K) (region source : Region) (e : K) → IsAlikeIn region e g h → is_hidden cmp matching g source e region ≡ is_hidden cmp matching h source e region
+  hidden-alike : (g h : Rows K) (region source : Region) (e : K) → IsAlikeIn region e g h → is_hidden cmp g source e region ≡ is_hidden cmp h source e region
   unfolding is_hidden
   hidden-alike g h region source e alike =
       λ i. is_router_hat (strategy_of (alike.mode i) region) && (not (region_eq region source) && not (visible-alike g h region e alike.live i))
@@ -157,8 +157,8 @@ module _ {K : Type 0} (cmp : K → K → Ordering) (matching : K → K → Bool)
       → propagate_token_acts cmp matching hat region s source e ≡ propagate_token_acts cmp matching hat region t source e
   unfolding propagate_token_acts
   propagate-alike hat region s t source e alike =
-      let shown : (if is_newly_shown cmp matching s.rows source e region then AddRouted region s.rows.zid e ∷ sending_all (pass_on cmp matching region s.rows.zid e s.rows) else [])
-      ≡ (if is_newly_shown cmp matching t.rows source e region then AddRouted region t.rows.zid e ∷ sending_all (pass_on cmp matching region t.rows.zid e t.rows) else []) =
+      let shown : (if is_newly_shown cmp s.rows source e region then AddRouted region s.rows.zid e ∷ sending_all (pass_on cmp region s.rows.zid e s.rows) else [])
+      ≡ (if is_newly_shown cmp t.rows source e region then AddRouted region t.rows.zid e ∷ sending_all (pass_on cmp region t.rows.zid e t.rows) else []) =
       λ i. if shown-alike s.rows t.rows region source e alike i then AddRouted region (alike.zid i) e ∷ sending_all (pass_on-alike s.rows t.rows region e alike i) else [] in
       let told : flat_map (λ f. flat_map (tell_acts f.number) (tell_to cmp matching s.rows source e f)) (faces_in region s.rows)
       ≡ flat_map (λ f. flat_map (tell_acts f.number) (tell_to cmp matching t.rows source e f)) (faces_in region t.rows) =
@@ -169,8 +169,8 @@ module _ {K : Type 0} (cmp : K → K → Ordering) (matching : K → K → Bool)
       → unpropagate_token_acts cmp matching hat region s source e ≡ unpropagate_token_acts cmp matching hat region t source e
   unfolding unpropagate_token_acts
   unpropagate-alike hat region s t source e alike =
-      let hidden : (if is_hidden cmp matching s.rows source e region then drop_routed_acts cmp matching region s.rows.zid e s.rows ++ sending_all (unpass cmp matching region s.rows.zid e s.rows) else [])
-      ≡ (if is_hidden cmp matching t.rows source e region then drop_routed_acts cmp matching region t.rows.zid e t.rows ++ sending_all (unpass cmp matching region t.rows.zid e t.rows) else []) =
+      let hidden : (if is_hidden cmp s.rows source e region then drop_routed_acts cmp matching region s.rows.zid e s.rows ++ sending_all (unpass cmp region s.rows.zid e s.rows) else [])
+      ≡ (if is_hidden cmp t.rows source e region then drop_routed_acts cmp matching region t.rows.zid e t.rows ++ sending_all (unpass cmp region t.rows.zid e t.rows) else []) =
       λ i. if hidden-alike s.rows t.rows region source e alike i then own_dropped-alike s.rows t.rows region e alike i ++ sending_all (unpass-alike s.rows t.rows region e alike i) else [] in
       let forgotten : flat_map (λ f. flat_map (forget_acts f.number e) (forget_to cmp matching s.rows source e f)) (faces_in region s.rows)
       ≡ flat_map (λ f. flat_map (forget_acts f.number e) (forget_to cmp matching t.rows source e f)) (faces_in region t.rows) =

@@ -83,7 +83,7 @@ module _ {K : Type 0} (cmp : K → K → Ordering) (matching : K → K → Bool)
   -- After Ok the plan has the changes of the call more, as the rows that it left so far give them, and all changes fit.
   -- After want of memory it is as it was.
   abbrev pub Plans : {A : Type 0} → Result A Memory → List (Act K) → List (Act K) → (Store K → List (Act K)) → Store K → Type 0
-  Plans result before after acts s = MatchResult result (λ _. (after ≡ before ++ acts (acted_all cmp matching before s)) × Fit cmp matching after s) (λ _. after ≡ before)
+  Plans result before after acts s = MatchResult result (λ _. (after ≡ before ++ acts (acted_all cmp before s)) × Fit cmp after s) (λ _. after ≡ before)
 
   -- the expressions that have a live row in the region, in key order
   abbrev pub live_in : Region → Rows K → List K

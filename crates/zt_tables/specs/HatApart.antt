@@ -127,19 +127,19 @@ module _ {K : Type 0} (cmp : K → K → Ordering) (matching : K → K → Bool)
       }
 
   -- two rows are one where their regions, sources and expressions are
-  routed-parts : (a b : RoutedRow K) → is_routed_row cmp matching a b ≡ (region_eq a.region b.region && ((a.source.0 == b.source.0) && same cmp a.expr b.expr))
+  routed-parts : (a b : RoutedRow K) → is_routed_row cmp a b ≡ (region_eq a.region b.region && ((a.source.0 == b.source.0) && same cmp a.expr b.expr))
   routed-parts a b =
       is_eq-then (region_order a.region b.region) (ordering_then (nat_cmp a.source.0 b.source.0) (cmp a.expr b.expr))
       ∙ (λ i. region_order-eq a.region b.region i && (is_eq-then (nat_cmp a.source.0 b.source.0) (cmp a.expr b.expr) ∙ (λ j. is_eq-nat a.source.0 b.source.0 j && same cmp a.expr b.expr)) i)
 
   -- an own row of another region is none of this one, and no live row
-  not_own : (region other : Region) (own : Zid) (e x : K) → region_eq region other ≡ false → is_routed_row cmp matching (row_at cmp matching region own e) (row_at cmp matching other own x) ≡ false
-  not_own region other own e x apart = routed-parts (row_at cmp matching region own e) (row_at cmp matching other own x) ∙ rw apart refl
+  not_own : (region other : Region) (own : Zid) (e x : K) → region_eq region other ≡ false → is_routed_row cmp (row_at cmp region own e) (row_at cmp other own x) ≡ false
+  not_own region other own e x apart = routed-parts (row_at cmp region own e) (row_at cmp other own x) ∙ rw apart refl
 
   is_own : (own : Zid) → not (zid_eq own own) ≡ false
   is_own own = ap not (zid_eq-refl own)
 
-  added-alike : (region other : Region) (e x : K) (g : Rows K) → region_eq region other ≡ false → IsAlikeIn cmp matching region e g (with_routed cmp matching other g.zid x g)
+  added-alike : (region other : Region) (e x : K) (g : Rows K) → region_eq region other ≡ false → IsAlikeIn cmp matching region e g (with_routed cmp other g.zid x g)
   unfolding with_routed
   added-alike region other e x g apart =
       record {
@@ -149,27 +149,27 @@ module _ {K : Type 0} (cmp : K → K → Ordering) (matching : K → K → Bool)
         trees = refl;
         faces = refl;
         places = refl;
-        live = ap (λ rows. flat_map rows_of_face g.faces ++ map (λ row. (row.region, row.expr)) rows) (filter-added (routed_order cmp matching) (λ row. not (zid_eq row.source g.zid)) (row_at cmp matching other g.zid x) g.routed (is_own g.zid));
-        own = any-added (routed_order cmp matching) (is_routed_row cmp matching (row_at cmp matching region g.zid e)) (row_at cmp matching other g.zid x) g.routed (not_own region other g.zid e x apart);
+        live = ap (λ rows. flat_map rows_of_face g.faces ++ map (λ row. (row.region, row.expr)) rows) (filter-added (routed_order cmp) (λ row. not (zid_eq row.source g.zid)) (row_at cmp other g.zid x) g.routed (is_own g.zid));
+        own = any-added (routed_order cmp) (is_routed_row cmp (row_at cmp region g.zid e)) (row_at cmp other g.zid x) g.routed (not_own region other g.zid e x apart);
       }
 
   -- a row that is one of another region's own rows is none of this one's, and no live row
-  gone_elsewhere : (region other : Region) (own : Zid) (e x : K) (row : RoutedRow K) → region_eq region other ≡ false → is_routed_row cmp matching (row_at cmp matching other own x) row ≡ true
-      → is_routed_row cmp matching (row_at cmp matching region own e) row ≡ false
+  gone_elsewhere : (region other : Region) (own : Zid) (e x : K) (row : RoutedRow K) → region_eq region other ≡ false → is_routed_row cmp (row_at cmp other own x) row ≡ true
+      → is_routed_row cmp (row_at cmp region own e) row ≡ false
   gone_elsewhere region other own e x row apart gone =
-      let parts : (region_eq other row.region && ((own.0 == row.source.0) && same cmp x row.expr)) ≡ true = sym (routed-parts (row_at cmp matching other own x) row) ∙ gone in
+      let parts : (region_eq other row.region && ((own.0 == row.source.0) && same cmp x row.expr)) ≡ true = sym (routed-parts (row_at cmp other own x) row) ∙ gone in
       let there : other ≡ row.region = region_eq-same other row.region (and_first (region_eq other row.region) ((own.0 == row.source.0) && same cmp x row.expr) parts) in
       let here : region_eq region row.region ≡ false = ap (region_eq region) (sym there) ∙ apart in
-      routed-parts (row_at cmp matching region own e) row ∙ rw here refl
+      routed-parts (row_at cmp region own e) row ∙ rw here refl
 
-  gone_own : (other : Region) (own : Zid) (x : K) (row : RoutedRow K) → is_routed_row cmp matching (row_at cmp matching other own x) row ≡ true → not (zid_eq row.source own) ≡ false
+  gone_own : (other : Region) (own : Zid) (x : K) (row : RoutedRow K) → is_routed_row cmp (row_at cmp other own x) row ≡ true → not (zid_eq row.source own) ≡ false
   gone_own other own x row gone =
-      let parts : (region_eq other row.region && ((own.0 == row.source.0) && same cmp x row.expr)) ≡ true = sym (routed-parts (row_at cmp matching other own x) row) ∙ gone in
+      let parts : (region_eq other row.region && ((own.0 == row.source.0) && same cmp x row.expr)) ≡ true = sym (routed-parts (row_at cmp other own x) row) ∙ gone in
       let tail : ((own.0 == row.source.0) && same cmp x row.expr) ≡ true = and_second (region_eq other row.region) ((own.0 == row.source.0) && same cmp x row.expr) parts in
       let there : own.0 ≡ row.source.0 = eqb-true own.0 row.source.0 (and_first (own.0 == row.source.0) (same cmp x row.expr) tail) in
       ap not (eq-eqb row.source.0 own.0 (sym there))
 
-  dropped-alike : (region other : Region) (e x : K) (g : Rows K) → region_eq region other ≡ false → IsAlikeIn cmp matching region e g (without_routed cmp matching other g.zid x g)
+  dropped-alike : (region other : Region) (e x : K) (g : Rows K) → region_eq region other ≡ false → IsAlikeIn cmp matching region e g (without_routed cmp other g.zid x g)
   unfolding without_routed
   dropped-alike region other e x g apart =
       record {
@@ -179,31 +179,31 @@ module _ {K : Type 0} (cmp : K → K → Ordering) (matching : K → K → Bool)
         trees = refl;
         faces = refl;
         places = refl;
-        live = ap (λ rows. flat_map rows_of_face g.faces ++ map (λ row. (row.region, row.expr)) rows) (filter-left (λ row. not (zid_eq row.source g.zid)) (is_routed_row cmp matching (row_at cmp matching other g.zid x)) (λ row gone. gone_own other g.zid x row gone) g.routed);
-        own = any-left (is_routed_row cmp matching (row_at cmp matching region g.zid e)) (is_routed_row cmp matching (row_at cmp matching other g.zid x)) (λ row gone. gone_elsewhere region other g.zid e x row apart gone) g.routed;
+        live = ap (λ rows. flat_map rows_of_face g.faces ++ map (λ row. (row.region, row.expr)) rows) (filter-left (λ row. not (zid_eq row.source g.zid)) (is_routed_row cmp (row_at cmp other g.zid x)) (λ row gone. gone_own other g.zid x row gone) g.routed);
+        own = any-left (is_routed_row cmp (row_at cmp region g.zid e)) (is_routed_row cmp (row_at cmp other g.zid x)) (λ row gone. gone_elsewhere region other g.zid e x row apart gone) g.routed;
       }
 
   -- ---- after acts
 
-  act-alike : (region : Region) (e : K) (act : Act K) (s : Store K) → IsAwayFrom region (map placed s.rows.faces) s.rows.zid act → IsAlikeIn cmp matching region e s.rows (acted cmp matching act s).rows
+  act-alike : (region : Region) (e : K) (act : Act K) (s : Store K) → IsAwayFrom region (map placed s.rows.faces) s.rows.zid act → IsAlikeIn cmp matching region e s.rows (acted cmp act s).rows
   unfolding acted
   act-alike region e (Tell n id x) s away = face-alike n (told_under id x) (λ f. refl) (λ f. refl) region e s.rows away
-  act-alike region e (Untell n x) s away = face-alike n (told_ended cmp matching x) (λ f. refl) (λ f. refl) region e s.rows away
+  act-alike region e (Untell n x) s away = face-alike n (told_ended cmp x) (λ f. refl) (λ f. refl) region e s.rows away
   act-alike region e (AddRouted other source x) s away =
-      subst (λ (z : Zid). IsAlikeIn cmp matching region e s.rows (with_routed cmp matching other z x s.rows)) (sym away.1) (added-alike region other e x s.rows away.0)
+      subst (λ (z : Zid). IsAlikeIn cmp matching region e s.rows (with_routed cmp other z x s.rows)) (sym away.1) (added-alike region other e x s.rows away.0)
   act-alike region e (DropRouted other source x) s away =
-      subst (λ (z : Zid). IsAlikeIn cmp matching region e s.rows (without_routed cmp matching other z x s.rows)) (sym away.1) (dropped-alike region other e x s.rows away.0)
+      subst (λ (z : Zid). IsAlikeIn cmp matching region e s.rows (without_routed cmp other z x s.rows)) (sym away.1) (dropped-alike region other e x s.rows away.0)
   act-alike region e (Send n m) s away = alike-itself region e s.rows
   act-alike region e _ s away = absurd away
 
   -- Acts that are away from a region leave what its strategy reads.
   pub away-alike : (region : Region) (e : K) (acts : List (Act K)) (s : Store K) → Each (IsAwayFrom region (map placed s.rows.faces) s.rows.zid) acts
-      → IsAlikeIn cmp matching region e s.rows (acted_all cmp matching acts s).rows
+      → IsAlikeIn cmp matching region e s.rows (acted_all cmp acts s).rows
   unfolding acted_all
   away-alike region e [] s away = alike-itself region e s.rows
   away-alike region e (act ∷ acts) s away =
-      let next = acted cmp matching act s in
+      let next = acted cmp act s in
       let one = act-alike region e act s away.0 in
       let rest : Each (IsAwayFrom region (map placed next.rows.faces) next.rows.zid) acts =
       subst (λ (z : Zid). Each (IsAwayFrom region (map placed next.rows.faces) z) acts) one.zid (subst (λ (ps : List Placed). Each (IsAwayFrom region ps s.rows.zid) acts) one.places away.1) in
-      alike-then region e s.rows next.rows (acted_all cmp matching acts next).rows one (away-alike region e acts next rest)
+      alike-then region e s.rows next.rows (acted_all cmp acts next).rows one (away-alike region e acts next rest)

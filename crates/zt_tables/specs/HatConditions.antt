@@ -28,7 +28,7 @@ pub record IsRun {K : Type 0} (hat : Strategy) (region : Region) (g : Rows K) : 
 
 -- what each call that takes a plan is asked with
 pub record IsReady {K : Type 0} (cmp : K → K → Ordering) (matching : K → K → Bool) (hat : Strategy) (region : Region) (plan : List (Act K)) (s : Store K) : Type 0 where
-  pub changes_fit : Fit cmp matching plan s
+  pub changes_fit : Fit cmp plan s
   pub strategy_run : IsRun hat region s.rows
 
 abbrev pub IsOpen : {K : Type 0} → ℕ → Store K → Type 0
@@ -43,7 +43,7 @@ IsAskedIn region n s = IsTrue (is_ask n s && is_some_and (at_id n s.numbers) (λ
 
 -- for each face at least as many ids are left, after the plan so far, as the changes of a call draw
 abbrev pub IdsSuffice : {K : Type 0} → (K → K → Ordering) → (K → K → Bool) → List (Act K) → (Store K → List (Act K)) → Store K → Type 0
-IdsSuffice cmp matching plan acts s = (n : ℕ) → count_drawn n (acts (acted_all cmp matching plan s)) ≤ ids_left (find_face n (acted_all cmp matching plan s).rows)
+IdsSuffice cmp matching plan acts s = (n : ℕ) → count_drawn n (acts (acted_all cmp plan s)) ≤ ids_left (find_face n (acted_all cmp plan s).rows)
 
 -- no cause holds for which the call would be refused, but that ids may be lacking
 abbrev pub IsAccepted : {K : Type 0} → (K → K → Ordering) → (K → K → Bool) → PlainCall K → Store K → Type 0

@@ -252,7 +252,7 @@ module _ {K : Type 0} (cmp : K → K → Ordering) (matching : K → K → Bool)
       → count_drawn n (propagate_token_acts cmp matching (strategy_of s.rows.mode region) region s source e) ≡ 0
   unfolding propagate_token_acts
   show-undrawn region s source e n routed =
-      rw routed (by_test (is_newly_shown cmp matching s.rows source e region) (λ t. rw t (let rest = sending-undrawn n (pass_on cmp matching region s.rows.zid e s.rows) in omega (arith, rest))) (λ t. rw t refl))
+      rw routed (by_test (is_newly_shown cmp s.rows source e region) (λ t. rw t (let rest = sending-undrawn n (pass_on cmp region s.rows.zid e s.rows) in omega (arith, rest))) (λ t. rw t refl))
 
   routed_undrawn : (n : ℕ) (region : Region) (source : Zid) (e : K) (g : Rows K) → count_drawn n (drop_routed_acts cmp matching region source e g) ≡ 0
   routed_undrawn n region source e g = by_test (has_routed cmp matching region source e g) (λ t. rw t refl) (λ t. rw t refl)
@@ -268,9 +268,9 @@ module _ {K : Type 0} (cmp : K → K → Ordering) (matching : K → K → Bool)
   unpropagate-undrawn region s source e n =
       by_test (is_router_hat (strategy_of s.rows.mode region))
       (λ routed. rw routed
-      (by_test (is_hidden cmp matching s.rows source e region)
+      (by_test (is_hidden cmp s.rows source e region)
       (λ t. rw t
-      (count_drawn-append n (drop_routed_acts cmp matching region s.rows.zid e s.rows) (sending_all (unpass cmp matching region s.rows.zid e s.rows))
-      ∙ (λ i. routed_undrawn n region s.rows.zid e s.rows i + sending-undrawn n (unpass cmp matching region s.rows.zid e s.rows) i)))
+      (count_drawn-append n (drop_routed_acts cmp matching region s.rows.zid e s.rows) (sending_all (unpass cmp region s.rows.zid e s.rows))
+      ∙ (λ i. routed_undrawn n region s.rows.zid e s.rows i + sending-undrawn n (unpass cmp region s.rows.zid e s.rows) i)))
       (λ t. rw t refl)))
       (λ plain. rw plain (forget_each n e (forget_to cmp matching s.rows source e) (faces_in region s.rows)))

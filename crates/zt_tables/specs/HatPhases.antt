@@ -144,8 +144,8 @@ module _ {K : Type 0} (cmp : K → K → Ordering) (matching : K → K → Bool)
       let ps = map placed s.rows.faces in
       by_test (is_router_hat hat)
       (λ routed. rw routed
-      (by_test (is_newly_shown cmp matching s.rows source e other)
-      (λ t. rw t ((apart, refl), sending-away region ps s.rows.zid (pass_on cmp matching other s.rows.zid e s.rows)))
+      (by_test (is_newly_shown cmp s.rows source e other)
+      (λ t. rw t ((apart, refl), sending-away region ps s.rows.zid (pass_on cmp other s.rows.zid e s.rows)))
       (λ t. rw t tt)))
       (λ plain. rw plain
       (each-flat (IsAwayFrom region ps s.rows.zid) (λ f. flat_map (tell_acts f.number) (tell_to cmp matching s.rows source e f)) (faces_in other s.rows)
@@ -160,11 +160,11 @@ module _ {K : Type 0} (cmp : K → K → Ordering) (matching : K → K → Bool)
       let ps = map placed s.rows.faces in
       by_test (is_router_hat hat)
       (λ routed. rw routed
-      (by_test (is_hidden cmp matching s.rows source e other)
+      (by_test (is_hidden cmp s.rows source e other)
       (λ t. rw t
-      (each-append (IsAwayFrom region ps s.rows.zid) (drop_routed_acts cmp matching other s.rows.zid e s.rows) (sending_all (unpass cmp matching other s.rows.zid e s.rows))
+      (each-append (IsAwayFrom region ps s.rows.zid) (drop_routed_acts cmp matching other s.rows.zid e s.rows) (sending_all (unpass cmp other s.rows.zid e s.rows))
       (by_test (has_routed cmp matching other s.rows.zid e s.rows) (λ u. rw u ((apart, refl), tt)) (λ u. rw u tt))
-      (sending-away region ps s.rows.zid (unpass cmp matching other s.rows.zid e s.rows))))
+      (sending-away region ps s.rows.zid (unpass cmp other s.rows.zid e s.rows))))
       (λ t. rw t tt)))
       (λ plain. rw plain
       (each-flat (IsAwayFrom region ps s.rows.zid) (λ f. flat_map (forget_acts f.number e) (forget_to cmp matching s.rows source e f)) (faces_in other s.rows)
@@ -194,7 +194,7 @@ module _ {K : Type 0} (cmp : K → K → Ordering) (matching : K → K → Bool)
   undisturbed e acts alike away (r ∷ []) s apart rising = refl
   undisturbed e acts alike away (r ∷ q ∷ regions) s apart rising =
       let first = acts (strategy_of s.rows.mode r) r s in
-      let after = acted_all cmp matching first s in
+      let after = acted_all cmp first s in
       let left : (p : Region) → region_eq p r ≡ false → IsAlikeIn cmp matching p e s.rows after.rows =
       λ p other. away-alike cmp matching p e first s (away (strategy_of s.rows.mode r) r p s rising other) in
       let rest = undisturbed e acts alike away (q ∷ regions) after apart.1 (rising-alike q e s.rows after.rows (left q apart.0.0) rising) in
@@ -224,7 +224,7 @@ module _ {K : Type 0} (cmp : K → K → Ordering) (matching : K → K → Bool)
   pub propagated-by-regions : (n : ℕ) (regions : List Region) (s : Store K) (source : Region) (e : K)
       → AreApart regions → is_rising (numbers_of s.rows.faces) ≡ true → Each (λ f. IsAmong regions f.region) s.rows.faces
       → messages_for n (sends_of (by_regions cmp matching (λ hat r t. propagate_token_acts cmp matching hat r t source e) regions s))
-      ≡ messages_for n (said_by cmp matching (Say (tell cmp matching source e) ∷ showing cmp matching source e) s.rows)
+      ≡ messages_for n (said_by cmp matching (Say (tell cmp matching source e) ∷ showing cmp source e) s.rows)
   propagated-by-regions n regions s source e apart rising among =
       let once = each-weaker (λ f. IsAmong regions f.region) (λ f. StandsOnce regions f.region) (λ f there. stands-once regions f.region apart there) s.rows.faces among in
       ap (λ acts. messages_for n (sends_of acts)) (propagate-by-regions regions s source e apart rising)
@@ -235,7 +235,7 @@ module _ {K : Type 0} (cmp : K → K → Ordering) (matching : K → K → Bool)
   pub unpropagated-by-regions : (n : ℕ) (regions : List Region) (s : Store K) (source : Region) (e : K)
       → AreApart regions → is_rising (numbers_of s.rows.faces) ≡ true → Each (λ f. IsAmong regions f.region) s.rows.faces
       → messages_for n (sends_of (by_regions cmp matching (λ hat r t. unpropagate_token_acts cmp matching hat r t source e) regions s))
-      ≡ messages_for n (said_by cmp matching (Say (forget cmp matching source e) ∷ hiding cmp matching source e) s.rows)
+      ≡ messages_for n (said_by cmp matching (Say (forget cmp matching source e) ∷ hiding cmp source e) s.rows)
   unpropagated-by-regions n regions s source e apart rising among =
       let once = each-weaker (λ f. IsAmong regions f.region) (λ f. StandsOnce regions f.region) (λ f there. stands-once regions f.region apart there) s.rows.faces among in
       ap (λ acts. messages_for n (sends_of acts)) (unpropagate-by-regions regions s source e apart rising)

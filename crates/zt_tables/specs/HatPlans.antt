@@ -67,28 +67,28 @@ run-same hat region g h same run =
     record { region_listed = subst Listed (sym same.regions) run.region_listed; strategy_same = subst Runs (sym same.mode) run.strategy_same }
 
 module _ {K : Type 0} (cmp : K → K → Ordering) (matching : K → K → Bool) where
-  pub acted_all-append : (before more : List (Act K)) (s : Store K) → acted_all cmp matching (before ++ more) s ≡ acted_all cmp matching more (acted_all cmp matching before s)
+  pub acted_all-append : (before more : List (Act K)) (s : Store K) → acted_all cmp (before ++ more) s ≡ acted_all cmp more (acted_all cmp before s)
   unfolding acted_all
   acted_all-append [] more s = refl
-  acted_all-append (act ∷ before) more s = acted_all-append before more (acted cmp matching act s)
+  acted_all-append (act ∷ before) more s = acted_all-append before more (acted cmp act s)
 
-  pub fit-append : (before more : List (Act K)) (s : Store K) → Fit cmp matching before s → Fit cmp matching more (acted_all cmp matching before s) → Fit cmp matching (before ++ more) s
+  pub fit-append : (before more : List (Act K)) (s : Store K) → Fit cmp before s → Fit cmp more (acted_all cmp before s) → Fit cmp (before ++ more) s
   unfolding acted_all Fit
   fit-append [] more s fits then = then
-  fit-append (act ∷ before) more s fits then = (fits.0, fit-append before more (acted cmp matching act s) fits.1 then)
+  fit-append (act ∷ before) more s fits then = (fits.0, fit-append before more (acted cmp act s) fits.1 then)
 
-  pub plans-added : {A : Type 0} (result : Result A Memory) (before after : List (Act K)) (acts : Store K → List (Act K)) (s : Store K) → Fit cmp matching before s
-      → Fit cmp matching (acts (acted_all cmp matching before s)) (acted_all cmp matching before s) → OnOk result (after ≡ before ++ acts (acted_all cmp matching before s)) → OnErr result (after ≡ before)
+  pub plans-added : {A : Type 0} (result : Result A Memory) (before after : List (Act K)) (acts : Store K → List (Act K)) (s : Store K) → Fit cmp before s
+      → Fit cmp (acts (acted_all cmp before s)) (acted_all cmp before s) → OnOk result (after ≡ before ++ acts (acted_all cmp before s)) → OnErr result (after ≡ before)
       → Plans cmp matching result before after acts s
   plans-added (Ok value) before after acts s fits then added stayed =
-      let Fitting : List (Act K) → Type 0 = λ changes. Fit cmp matching changes s in (added, subst Fitting (sym added) (fit-append before (acts (acted_all cmp matching before s)) s fits then))
+      let Fitting : List (Act K) → Type 0 = λ changes. Fit cmp changes s in (added, subst Fitting (sym added) (fit-append before (acts (acted_all cmp before s)) s fits then))
   plans-added (Err error) before after acts s fits then added stayed = stayed
 
-  routed-same : (region : Region) (source : Zid) (e : K) (g : Rows K) → IsSameGateway g (with_routed cmp matching region source e g)
+  routed-same : (region : Region) (source : Zid) (e : K) (g : Rows K) → IsSameGateway g (with_routed cmp region source e g)
   unfolding with_routed
   routed-same region source e g = record { mode = refl; zid = refl; regions = refl; refused = refl; timeout = refl }
 
-  unrouted-same : (region : Region) (source : Zid) (e : K) (g : Rows K) → IsSameGateway g (without_routed cmp matching region source e g)
+  unrouted-same : (region : Region) (source : Zid) (e : K) (g : Rows K) → IsSameGateway g (without_routed cmp region source e g)
   unfolding without_routed
   unrouted-same region source e g = record { mode = refl; zid = refl; regions = refl; refused = refl; timeout = refl }
 
@@ -96,7 +96,7 @@ module _ {K : Type 0} (cmp : K → K → Ordering) (matching : K → K → Bool)
   unfolding with_face
   pended-same n id ask pending s = record { mode = refl; zid = refl; regions = refl; refused = refl; timeout = refl }
 
-  pub acted-same : (act : Act K) (s : Store K) → IsSameGateway s.rows (acted cmp matching act s).rows
+  pub acted-same : (act : Act K) (s : Store K) → IsSameGateway s.rows (acted cmp act s).rows
   unfolding acted
   acted-same (OpenFace zid whatami region bound first) s = record { mode = refl; zid = refl; regions = refl; refused = refl; timeout = refl }
   acted-same (CloseFace n) s = record { mode = refl; zid = refl; regions = refl; refused = refl; timeout = refl }
@@ -105,7 +105,7 @@ module _ {K : Type 0} (cmp : K → K → Ordering) (matching : K → K → Bool)
   acted-same (AddRouted region source e) s = routed-same region source e s.rows
   acted-same (DropRouted region source e) s = unrouted-same region source e s.rows
   acted-same (Tell n id e) s = face-same n (told_under id e) s.rows
-  acted-same (Untell n e) s = face-same n (told_ended cmp matching e) s.rows
+  acted-same (Untell n e) s = face-same n (told_ended cmp e) s.rows
   acted-same (AddHeld n id interest) s = face-same n (held_added id interest) s.rows
   acted-same (DropHeld n id) s = face-same n (unheld id) s.rows
   acted-same (AddLocal n id interest) s = face-same n (local_added id interest) s.rows
@@ -114,7 +114,7 @@ module _ {K : Type 0} (cmp : K → K → Ordering) (matching : K → K → Bool)
   acted-same (AddPending n id ask pending) s = pended-same n id ask pending s
   acted-same (DropPending n id) s = face-same n (ended id) s.rows
   acted-same (AddAsk n id interest) s = face-same n (ask_added id interest) s.rows
-  acted-same (Answered n e) s = ask-same n (answered_with cmp matching e) s
+  acted-same (Answered n e) s = ask-same n (answered_with cmp e) s
   acted-same (DropAsk n) s = ask-same n ask_dropped s
   acted-same (Send n m) s = same-itself s.rows
   acted-same (SetMoment now) s = record { mode = refl; zid = refl; regions = refl; refused = refl; timeout = refl }
@@ -122,11 +122,11 @@ module _ {K : Type 0} (cmp : K → K → Ordering) (matching : K → K → Bool)
   acted-same (SetEntities n subscribers queryables) s = face-same n (entities_set subscribers queryables) s.rows
   acted-same (Number e) s = record { mode = refl; zid = refl; regions = refl; refused = refl; timeout = refl }
 
-  pub acted_all-same : (acts : List (Act K)) (s : Store K) → IsSameGateway s.rows (acted_all cmp matching acts s).rows
+  pub acted_all-same : (acts : List (Act K)) (s : Store K) → IsSameGateway s.rows (acted_all cmp acts s).rows
   unfolding acted_all
   acted_all-same [] s = same-itself s.rows
   acted_all-same (act ∷ acts) s =
-      let next = acted cmp matching act s in same-then s.rows next.rows (acted_all cmp matching acts next).rows (acted-same act s) (acted_all-same acts next)
+      let next = acted cmp act s in same-then s.rows next.rows (acted_all cmp acts next).rows (acted-same act s) (acted_all-same acts next)
 
-  pub run-after : (hat : Strategy) (region : Region) (acts : List (Act K)) (s : Store K) → IsRun hat region s.rows → IsRun hat region (acted_all cmp matching acts s).rows
-  run-after hat region acts s run = run-same hat region s.rows (acted_all cmp matching acts s).rows (acted_all-same acts s) run
+  pub run-after : (hat : Strategy) (region : Region) (acts : List (Act K)) (s : Store K) → IsRun hat region s.rows → IsRun hat region (acted_all cmp acts s).rows
+  run-after hat region acts s run = run-same hat region s.rows (acted_all cmp acts s).rows (acted_all-same acts s) run

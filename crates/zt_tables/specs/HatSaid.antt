@@ -70,43 +70,43 @@ module _ {K : Type 0} (cmp : K → K → Ordering) (matching : K → K → Bool)
   passes g shown passed ps = flat_map (λ p. sends_to p.0 (if shown p.1 then pass_at ps (table_of g p.1) p.1 passed g.zid p else [])) ps
 
   shown-placed : (g : Rows K) (source : Region) (e : K)
-      → to_each (show_to cmp matching g source e) g.faces ≡ passes g (is_newly_shown cmp matching g source e) (λ node. DeclareToken 0 e None node) (map placed g.faces)
+      → to_each (show_to cmp g source e) g.faces ≡ passes g (is_newly_shown cmp g source e) (λ node. DeclareToken 0 e None node) (map placed g.faces)
   unfolding passes show_to pass_to
   shown-placed g source e =
-      each-alike (show_to cmp matching g source e)
-      (λ f. if is_newly_shown cmp matching g source e f.region then pass_at (map placed g.faces) (table_of g f.region) f.region (λ node. DeclareToken 0 e None node) g.zid (placed f) else [])
-      (λ f. ap (λ (b : Bool). if is_newly_shown cmp matching g source e f.region then (if region_eq f.region f.region && b then DeclareToken 0 e None (node_of g.zid (table_of g f.region)) ∷ [] else []) else [])
+      each-alike (show_to cmp g source e)
+      (λ f. if is_newly_shown cmp g source e f.region then pass_at (map placed g.faces) (table_of g f.region) f.region (λ node. DeclareToken 0 e None node) g.zid (placed f) else [])
+      (λ f. ap (λ (b : Bool). if is_newly_shown cmp g source e f.region then (if region_eq f.region f.region && b then DeclareToken 0 e None (node_of g.zid (table_of g f.region)) ∷ [] else []) else [])
       (child-placed g (table_of g f.region) g.zid f)) g.faces
-      ∙ each-placed (λ p. if is_newly_shown cmp matching g source e p.1 then pass_at (map placed g.faces) (table_of g p.1) p.1 (λ node. DeclareToken 0 e None node) g.zid p else []) g.faces
+      ∙ each-placed (λ p. if is_newly_shown cmp g source e p.1 then pass_at (map placed g.faces) (table_of g p.1) p.1 (λ node. DeclareToken 0 e None node) g.zid p else []) g.faces
 
   hidden-placed : (g : Rows K) (source : Region) (e : K)
-      → to_each (hide_to cmp matching g source e) g.faces ≡ passes g (is_hidden cmp matching g source e) (λ node. UndeclareToken 0 (Some e) node) (map placed g.faces)
+      → to_each (hide_to cmp g source e) g.faces ≡ passes g (is_hidden cmp g source e) (λ node. UndeclareToken 0 (Some e) node) (map placed g.faces)
   unfolding passes hide_to unpass_to
   hidden-placed g source e =
-      each-alike (hide_to cmp matching g source e)
-      (λ f. if is_hidden cmp matching g source e f.region then pass_at (map placed g.faces) (table_of g f.region) f.region (λ node. UndeclareToken 0 (Some e) node) g.zid (placed f) else [])
-      (λ f. ap (λ (b : Bool). if is_hidden cmp matching g source e f.region then (if region_eq f.region f.region && b then UndeclareToken 0 (Some e) (node_of g.zid (table_of g f.region)) ∷ [] else []) else [])
+      each-alike (hide_to cmp g source e)
+      (λ f. if is_hidden cmp g source e f.region then pass_at (map placed g.faces) (table_of g f.region) f.region (λ node. UndeclareToken 0 (Some e) node) g.zid (placed f) else [])
+      (λ f. ap (λ (b : Bool). if is_hidden cmp g source e f.region then (if region_eq f.region f.region && b then UndeclareToken 0 (Some e) (node_of g.zid (table_of g f.region)) ∷ [] else []) else [])
       (child-placed g (table_of g f.region) g.zid f)) g.faces
-      ∙ each-placed (λ p. if is_hidden cmp matching g source e p.1 then pass_at (map placed g.faces) (table_of g p.1) p.1 (λ node. UndeclareToken 0 (Some e) node) g.zid p else []) g.faces
+      ∙ each-placed (λ p. if is_hidden cmp g source e p.1 then pass_at (map placed g.faces) (table_of g p.1) p.1 (λ node. UndeclareToken 0 (Some e) node) g.zid p else []) g.faces
 
   shown-heard : (ss : Sends K) (g : Rows K) (source : Region) (e : K)
-      → to_each (show_to cmp matching (rows_heard cmp ss g) source e) (rows_heard cmp ss g).faces ≡ to_each (show_to cmp matching g source e) g.faces
+      → to_each (show_to cmp (rows_heard cmp ss g) source e) (rows_heard cmp ss g).faces ≡ to_each (show_to cmp g source e) g.faces
   unfolding rows_heard passes is_newly_shown table_of
   shown-heard ss g source e =
       shown-placed (rows_heard cmp ss g) source e
-      ∙ ap (passes g (is_newly_shown cmp matching g source e) (λ node. DeclareToken 0 e None node)) (all-placed cmp g.moment ss g.faces)
+      ∙ ap (passes g (is_newly_shown cmp g source e) (λ node. DeclareToken 0 e None node)) (all-placed cmp g.moment ss g.faces)
       ∙ sym (shown-placed g source e)
 
   -- A token that was registered in a region: the faces are told, and the router regions are shown it.
   pub said-telling : (source : Region) (e : K) (g : Rows K)
-      → said_by cmp matching (Say (tell cmp matching source e) ∷ showing cmp matching source e) g ≡ tell cmp matching source e g ++ to_each (show_to cmp matching g source e) g.faces
+      → said_by cmp matching (Say (tell cmp matching source e) ∷ showing cmp source e) g ≡ tell cmp matching source e g ++ to_each (show_to cmp g source e) g.faces
   unfolding said_by
   said-telling source e g =
       let told = tell cmp matching source e g in
-      ap (λ ss. told ++ ss) (append-nil (to_each (show_to cmp matching (rows_heard cmp told g) source e) (rows_heard cmp told g).faces) ∙ shown-heard told g source e)
+      ap (λ ss. told ++ ss) (append-nil (to_each (show_to cmp (rows_heard cmp told g) source e) (rows_heard cmp told g).faces) ∙ shown-heard told g source e)
 
   hidden-heard : (ss : Sends K) (g : Rows K) (source : Region) (e : K)
-      → to_each (hide_to cmp matching (rows_heard cmp ss g) source e) (rows_heard cmp ss g).faces ≡ to_each (hide_to cmp matching g source e) g.faces
+      → to_each (hide_to cmp (rows_heard cmp ss g) source e) (rows_heard cmp ss g).faces ≡ to_each (hide_to cmp g source e) g.faces
   unfolding rows_heard passes is_hidden table_of
   hidden-heard ss g source e =
       hidden-placed (rows_heard cmp ss g) source e
@@ -115,8 +115,8 @@ module _ {K : Type 0} (cmp : K → K → Ordering) (matching : K → K → Bool)
 
   -- An expression that is gone from a region: the faces that can't see it are told, and the router regions hide it.
   pub said-forgetting : (source : Region) (e : K) (g : Rows K)
-      → said_by cmp matching (Say (forget cmp matching source e) ∷ hiding cmp matching source e) g ≡ forget cmp matching source e g ++ to_each (hide_to cmp matching g source e) g.faces
+      → said_by cmp matching (Say (forget cmp matching source e) ∷ hiding cmp source e) g ≡ forget cmp matching source e g ++ to_each (hide_to cmp g source e) g.faces
   unfolding said_by
   said-forgetting source e g =
       let told = forget cmp matching source e g in
-      ap (λ ss. told ++ ss) (append-nil (to_each (hide_to cmp matching (rows_heard cmp told g) source e) (rows_heard cmp told g).faces) ∙ hidden-heard told g source e)
+      ap (λ ss. told ++ ss) (append-nil (to_each (hide_to cmp (rows_heard cmp told g) source e) (rows_heard cmp told g).faces) ∙ hidden-heard told g source e)

@@ -16,7 +16,7 @@ module _ {K : Type 0} (cmp : K → K → Ordering) (matching : K → K → Bool)
   -- ---- rows of routers
 
   abbrev pub has_routed : Region → Zid → K → Rows K → Bool
-  has_routed region source e g = list_any (is_routed_row cmp matching (row_at cmp matching region source e)) g.routed
+  has_routed region source e g = list_any (is_routed_row cmp (row_at cmp region source e)) g.routed
 
   -- a row is there then, and isn't
   abbrev pub add_routed_acts : Region → Zid → K → Rows K → List (Act K)
@@ -28,11 +28,11 @@ module _ {K : Type 0} (cmp : K → K → Ordering) (matching : K → K → Bool)
   -- a token of a router goes on along its tree, but to the face that it comes from
   abbrev pub register_routed_acts : Region → ℕ → K → Rows K → Option Zid → List (Act K)
   register_routed_acts region n e g None = []
-  register_routed_acts region n e g (Some source) = add_routed_acts region source e g ++ sending_all (but_for cmp matching n (pass_on cmp matching region source e g))
+  register_routed_acts region n e g (Some source) = add_routed_acts region source e g ++ sending_all (but_for cmp n (pass_on cmp region source e g))
 
   -- and so does that it is gone
   abbrev pub unregister_routed_acts : Region → ℕ → Rows K → Option Zid → Option K → List (Act K)
-  unregister_routed_acts region n g (Some source) (Some e) = drop_routed_acts region source e g ++ sending_all (but_for cmp matching n (unpass cmp matching region source e g))
+  unregister_routed_acts region n g (Some source) (Some e) = drop_routed_acts region source e g ++ sending_all (but_for cmp n (unpass cmp region source e g))
   unregister_routed_acts region n g _ _ = []
 
   module _ (hat : Strategy) (region : Region) where
@@ -63,15 +63,15 @@ module _ {K : Type 0} (cmp : K → K → Ordering) (matching : K → K → Bool)
     -- the own row of an expression that a router region is newly shown, and what its own tree hears
     abbrev pub show_acts : Region → K → Rows K → List (Act K)
     show_acts source e g =
-        if is_newly_shown cmp matching g source e region
-        then AddRouted region g.zid e ∷ sending_all (pass_on cmp matching region g.zid e g)
+        if is_newly_shown cmp g source e region
+        then AddRouted region g.zid e ∷ sending_all (pass_on cmp region g.zid e g)
         else []
 
     -- the own row of an expression that a router region can't see any more goes, and its own tree hears of it
     abbrev pub hide_acts : Region → K → Rows K → List (Act K)
     hide_acts source e g =
-        if is_hidden cmp matching g source e region
-        then drop_routed_acts region g.zid e g ++ sending_all (unpass cmp matching region g.zid e g)
+        if is_hidden cmp g source e region
+        then drop_routed_acts region g.zid e g ++ sending_all (unpass cmp region g.zid e g)
         else []
 
     -- The faces of the region are told of an expression that was registered in a region. A router region shows it on its

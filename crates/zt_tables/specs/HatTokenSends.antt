@@ -30,11 +30,11 @@ module _ {K : Type 0} (cmp : K → K → Ordering) (matching : K → K → Bool)
 
   -- a token that was registered in a region
   abbrev pub propagate_to : Rows K → Region → K → Face K → List (Message K)
-  propagate_to g source e f = tell_to cmp matching g source e f ++ show_to cmp matching g source e f
+  propagate_to g source e f = tell_to cmp matching g source e f ++ show_to cmp g source e f
 
   -- an expression that is gone from a region
   abbrev pub unpropagate_to : Rows K → Region → K → Face K → List (Message K)
-  unpropagate_to g source e f = forget_to cmp matching g source e f ++ hide_to cmp matching g source e f
+  unpropagate_to g source e f = forget_to cmp matching g source e f ++ hide_to cmp g source e f
 
   -- ---- which of two rules gives something, by the strategy of the face's region
 
@@ -46,31 +46,31 @@ module _ {K : Type 0} (cmp : K → K → Ordering) (matching : K → K → Bool)
   unfolding forget_to
   not_forgotten g source e f routed = rw routed refl
 
-  not_shown : (g : Rows K) (source : Region) (e : K) (f : Face K) → is_router_hat (strategy_of g.mode f.region) ≡ false → show_to cmp matching g source e f ≡ []
+  not_shown : (g : Rows K) (source : Region) (e : K) (f : Face K) → is_router_hat (strategy_of g.mode f.region) ≡ false → show_to cmp g source e f ≡ []
   unfolding show_to is_newly_shown
   not_shown g source e f plain = rw plain refl
 
-  not_hidden : (g : Rows K) (source : Region) (e : K) (f : Face K) → is_router_hat (strategy_of g.mode f.region) ≡ false → hide_to cmp matching g source e f ≡ []
+  not_hidden : (g : Rows K) (source : Region) (e : K) (f : Face K) → is_router_hat (strategy_of g.mode f.region) ≡ false → hide_to cmp g source e f ≡ []
   unfolding hide_to is_hidden
   not_hidden g source e f plain = rw plain refl
 
   -- ---- along the own tree of a router region
 
-  not_passed : (g : Rows K) (region : Region) (source : Zid) (e : K) (f : Face K) → region_eq f.region region ≡ false → pass_to cmp matching g region source e f ≡ []
+  not_passed : (g : Rows K) (region : Region) (source : Zid) (e : K) (f : Face K) → region_eq f.region region ≡ false → pass_to cmp g region source e f ≡ []
   unfolding pass_to
   not_passed g region source e f other = rw other refl
 
-  not_unpassed : (g : Rows K) (region : Region) (source : Zid) (e : K) (f : Face K) → region_eq f.region region ≡ false → unpass_to cmp matching g region source e f ≡ []
+  not_unpassed : (g : Rows K) (region : Region) (source : Zid) (e : K) (f : Face K) → region_eq f.region region ≡ false → unpass_to cmp g region source e f ≡ []
   unfolding unpass_to
   not_unpassed g region source e f other = rw other refl
 
-  show_to-in : (g : Rows K) (source : Region) (e : K) (f : Face K) (region : Region) → f.region ≡ region → show_to cmp matching g source e f ≡ (if is_newly_shown cmp matching g source e region then pass_to cmp matching g region g.zid e f else [])
+  show_to-in : (g : Rows K) (source : Region) (e : K) (f : Face K) (region : Region) → f.region ≡ region → show_to cmp g source e f ≡ (if is_newly_shown cmp g source e region then pass_to cmp g region g.zid e f else [])
   unfolding show_to
-  show_to-in g source e f region there = ap (λ r. if is_newly_shown cmp matching g source e r then pass_to cmp matching g r g.zid e f else []) there
+  show_to-in g source e f region there = ap (λ r. if is_newly_shown cmp g source e r then pass_to cmp g r g.zid e f else []) there
 
-  hide_to-in : (g : Rows K) (source : Region) (e : K) (f : Face K) (region : Region) → f.region ≡ region → hide_to cmp matching g source e f ≡ (if is_hidden cmp matching g source e region then unpass_to cmp matching g region g.zid e f else [])
+  hide_to-in : (g : Rows K) (source : Region) (e : K) (f : Face K) (region : Region) → f.region ≡ region → hide_to cmp g source e f ≡ (if is_hidden cmp g source e region then unpass_to cmp g region g.zid e f else [])
   unfolding hide_to
-  hide_to-in g source e f region there = ap (λ r. if is_hidden cmp matching g source e r then unpass_to cmp matching g r g.zid e f else []) there
+  hide_to-in g source e f region there = ap (λ r. if is_hidden cmp g source e r then unpass_to cmp g r g.zid e f else []) there
 
   -- a rule that holds for a region or doesn't
   cond_each : (b : Bool) (rule : Face K → List (Message K)) (fs : List (Face K)) → to_each (λ f. if b then rule f else []) fs ≡ (if b then to_each rule fs else [])
@@ -100,11 +100,11 @@ module _ {K : Type 0} (cmp : K → K → Ordering) (matching : K → K → Bool)
   propagate-sends region s source e =
       by_test (is_router_hat (strategy_of s.rows.mode region))
       (λ routed. rw routed
-      (cond_shown (is_newly_shown cmp matching s.rows source e region) (AddRouted region s.rows.zid e) (pass_on cmp matching region s.rows.zid e s.rows) refl
-      ∙ ap (λ ss. if is_newly_shown cmp matching s.rows source e region then ss else []) (in-region-alone region (pass_to cmp matching s.rows region s.rows.zid e) (not_passed s.rows region s.rows.zid e) s.rows.faces)
-      ∙ sym (cond_each (is_newly_shown cmp matching s.rows source e region) (pass_to cmp matching s.rows region s.rows.zid e) (faces_in region s.rows))
-      ∙ in-region-alike region (λ f. if is_newly_shown cmp matching s.rows source e region then pass_to cmp matching s.rows region s.rows.zid e f else []) (propagate_to s.rows source e)
-      (λ f there. sym (show_to-in s.rows source e f region there) ∙ sym (ap (λ ms. ms ++ show_to cmp matching s.rows source e f) (not_told s.rows source e f (ap (λ r. is_router_hat (strategy_of s.rows.mode r)) there ∙ routed)))) s.rows.faces))
+      (cond_shown (is_newly_shown cmp s.rows source e region) (AddRouted region s.rows.zid e) (pass_on cmp region s.rows.zid e s.rows) refl
+      ∙ ap (λ ss. if is_newly_shown cmp s.rows source e region then ss else []) (in-region-alone region (pass_to cmp s.rows region s.rows.zid e) (not_passed s.rows region s.rows.zid e) s.rows.faces)
+      ∙ sym (cond_each (is_newly_shown cmp s.rows source e region) (pass_to cmp s.rows region s.rows.zid e) (faces_in region s.rows))
+      ∙ in-region-alike region (λ f. if is_newly_shown cmp s.rows source e region then pass_to cmp s.rows region s.rows.zid e f else []) (propagate_to s.rows source e)
+      (λ f there. sym (show_to-in s.rows source e f region there) ∙ sym (ap (λ ms. ms ++ show_to cmp s.rows source e f) (not_told s.rows source e f (ap (λ r. is_router_hat (strategy_of s.rows.mode r)) there ∙ routed)))) s.rows.faces))
       (λ plain. rw plain
       (faces-send (λ f. flat_map (tell_acts f.number) (tell_to cmp matching s.rows source e f)) (tell_to cmp matching s.rows source e)
       (λ f. each-sends f.number (tell_acts f.number) (tell-sends f.number) (tell_to cmp matching s.rows source e f)) (faces_in region s.rows)
@@ -117,11 +117,11 @@ module _ {K : Type 0} (cmp : K → K → Ordering) (matching : K → K → Bool)
   unpropagate-sends region s source e =
       by_test (is_router_hat (strategy_of s.rows.mode region))
       (λ routed. rw routed
-      (cond_hidden (is_hidden cmp matching s.rows source e region) (drop_routed_acts cmp matching region s.rows.zid e s.rows) (unpass cmp matching region s.rows.zid e s.rows) (routed_silent region s.rows.zid e s.rows)
-      ∙ ap (λ ss. if is_hidden cmp matching s.rows source e region then ss else []) (in-region-alone region (unpass_to cmp matching s.rows region s.rows.zid e) (not_unpassed s.rows region s.rows.zid e) s.rows.faces)
-      ∙ sym (cond_each (is_hidden cmp matching s.rows source e region) (unpass_to cmp matching s.rows region s.rows.zid e) (faces_in region s.rows))
-      ∙ in-region-alike region (λ f. if is_hidden cmp matching s.rows source e region then unpass_to cmp matching s.rows region s.rows.zid e f else []) (unpropagate_to s.rows source e)
-      (λ f there. sym (hide_to-in s.rows source e f region there) ∙ sym (ap (λ ms. ms ++ hide_to cmp matching s.rows source e f) (not_forgotten s.rows source e f (ap (λ r. is_router_hat (strategy_of s.rows.mode r)) there ∙ routed)))) s.rows.faces))
+      (cond_hidden (is_hidden cmp s.rows source e region) (drop_routed_acts cmp matching region s.rows.zid e s.rows) (unpass cmp region s.rows.zid e s.rows) (routed_silent region s.rows.zid e s.rows)
+      ∙ ap (λ ss. if is_hidden cmp s.rows source e region then ss else []) (in-region-alone region (unpass_to cmp s.rows region s.rows.zid e) (not_unpassed s.rows region s.rows.zid e) s.rows.faces)
+      ∙ sym (cond_each (is_hidden cmp s.rows source e region) (unpass_to cmp s.rows region s.rows.zid e) (faces_in region s.rows))
+      ∙ in-region-alike region (λ f. if is_hidden cmp s.rows source e region then unpass_to cmp s.rows region s.rows.zid e f else []) (unpropagate_to s.rows source e)
+      (λ f there. sym (hide_to-in s.rows source e f region there) ∙ sym (ap (λ ms. ms ++ hide_to cmp s.rows source e f) (not_forgotten s.rows source e f (ap (λ r. is_router_hat (strategy_of s.rows.mode r)) there ∙ routed)))) s.rows.faces))
       (λ plain. rw plain
       (faces-send (λ f. flat_map (forget_acts f.number e) (forget_to cmp matching s.rows source e f)) (forget_to cmp matching s.rows source e)
       (λ f. each-sends f.number (forget_acts f.number e) (forget-sends f.number e) (forget_to cmp matching s.rows source e f)) (faces_in region s.rows)
@@ -135,19 +135,19 @@ module _ {K : Type 0} (cmp : K → K → Ordering) (matching : K → K → Bool)
   pub propagated-together : (n : ℕ) (regions : List Region) (s : Store K) (source : Region) (e : K)
       → is_rising (numbers_of s.rows.faces) ≡ true → Each (λ f. StandsOnce regions f.region) s.rows.faces
       → messages_for n (sends_of (flat_map (λ r. propagate_token_acts cmp matching (strategy_of s.rows.mode r) r s source e) regions))
-      ≡ messages_for n (tell cmp matching source e s.rows ++ to_each (show_to cmp matching s.rows source e) s.rows.faces)
+      ≡ messages_for n (tell cmp matching source e s.rows ++ to_each (show_to cmp s.rows source e) s.rows.faces)
   propagated-together n regions s source e rising once =
       ap (messages_for n) (regions-send (λ r. propagate_token_acts cmp matching (strategy_of s.rows.mode r) r s source e) (λ r. to_each (propagate_to s.rows source e) (faces_in r s.rows)) (λ r. propagate-sends r s source e) regions)
       ∙ sent-by-regions n (propagate_to s.rows source e) s.rows.faces regions rising once
-      ∙ sent-together n (tell_to cmp matching s.rows source e) (show_to cmp matching s.rows source e) s.rows.faces rising
+      ∙ sent-together n (tell_to cmp matching s.rows source e) (show_to cmp s.rows source e) s.rows.faces rising
 
   -- The same where an expression is gone from a region: the faces that can't see it are told, and then the router regions
   -- hide it.
   pub unpropagated-together : (n : ℕ) (regions : List Region) (s : Store K) (source : Region) (e : K)
       → is_rising (numbers_of s.rows.faces) ≡ true → Each (λ f. StandsOnce regions f.region) s.rows.faces
       → messages_for n (sends_of (flat_map (λ r. unpropagate_token_acts cmp matching (strategy_of s.rows.mode r) r s source e) regions))
-      ≡ messages_for n (forget cmp matching source e s.rows ++ to_each (hide_to cmp matching s.rows source e) s.rows.faces)
+      ≡ messages_for n (forget cmp matching source e s.rows ++ to_each (hide_to cmp s.rows source e) s.rows.faces)
   unpropagated-together n regions s source e rising once =
       ap (messages_for n) (regions-send (λ r. unpropagate_token_acts cmp matching (strategy_of s.rows.mode r) r s source e) (λ r. to_each (unpropagate_to s.rows source e) (faces_in r s.rows)) (λ r. unpropagate-sends r s source e) regions)
       ∙ sent-by-regions n (unpropagate_to s.rows source e) s.rows.faces regions rising once
-      ∙ sent-together n (forget_to cmp matching s.rows source e) (hide_to cmp matching s.rows source e) s.rows.faces rising
+      ∙ sent-together n (forget_to cmp matching s.rows source e) (hide_to cmp s.rows source e) s.rows.faces rising

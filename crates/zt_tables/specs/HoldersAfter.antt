@@ -66,10 +66,10 @@ module _ {K : Type 0} (cmp : K → K → Ordering) (matching : K → K → Bool)
   other-closed true o other = cc
   other-closed false o other = refl
 
-  still-by : (n : ℕ) (act : Act K) (s : Store K) → is_still act ≡ true → held_by (find_face n (acted cmp matching act s).rows) ≡ held_by (find_face n s.rows)
+  still-by : (n : ℕ) (act : Act K) (s : Store K) → is_still act ≡ true → held_by (find_face n (acted cmp act s).rows) ≡ held_by (find_face n s.rows)
   still-by n act s still = ap held_by (face-acted cmp matching n act s) ∙ touched-list n (touch cmp matching act s) (touch-still cmp matching act s still) (find_face n s.rows)
 
-  untouched : (n : ℕ) (act : Act K) (s : Store K) → touches n act ≡ false → held_by (find_face n (acted cmp matching act s).rows) ≡ held_by (find_face n s.rows)
+  untouched : (n : ℕ) (act : Act K) (s : Store K) → touches n act ≡ false → held_by (find_face n (acted cmp act s).rows) ≡ held_by (find_face n s.rows)
   untouched n (CloseFace m) s other = ap held_by (face-acted cmp matching n (CloseFace m) s) ∙ other-closed (m == n) (find_face n s.rows) other
   untouched n (AddHeld m id interest) s other = ap held_by (face-acted cmp matching n (AddHeld m id interest) s) ∙ other-changed (m == n) (held_added id interest) (find_face n s.rows) other
   untouched n (DropHeld m id) s other = ap held_by (face-acted cmp matching n (DropHeld m id) s) ∙ other-changed (m == n) (unheld id) (find_face n s.rows) other
@@ -79,12 +79,12 @@ module _ {K : Type 0} (cmp : K → K → Ordering) (matching : K → K → Bool)
   or-false true b h = cc
   or-false false b h = (refl, h)
 
-  untouched-all : (n : ℕ) (acts : List (Act K)) (s : Store K) → list_any (touches n) acts ≡ false → held_by (find_face n (acted_all cmp matching acts s).rows) ≡ held_by (find_face n s.rows)
+  untouched-all : (n : ℕ) (acts : List (Act K)) (s : Store K) → list_any (touches n) acts ≡ false → held_by (find_face n (acted_all cmp acts s).rows) ≡ held_by (find_face n s.rows)
   unfolding acted_all
   untouched-all n [] s none = refl
   untouched-all n (act ∷ acts) s none =
       let both = or-false (touches n act) (list_any (touches n) acts) (split-any n act acts none) in
-      untouched-all n acts (acted cmp matching act s) both.1 ∙ untouched n act s both.0
+      untouched-all n acts (acted cmp act s) both.1 ∙ untouched n act s both.0
     where
       split-any : (n : ℕ) (act : Act K) (acts : List (Act K)) → list_any (touches n) (act ∷ acts) ≡ false → (touches n act || list_any (touches n) acts) ≡ false
       split-any n act acts h = by_test (touches n act) (λ t. cc (rw t at h)) (λ t. rw t (rw t at h))
@@ -94,9 +94,9 @@ module _ {K : Type 0} (cmp : K → K → Ordering) (matching : K → K → Bool)
   wanted-by e None = refl
   wanted-by e (Some x) = refl
 
-  pub wanted-still : (e : K) (n : ℕ) (acts : List (Act K)) (s : Store K) → list_any (touches n) acts ≡ false → wanted matching e (find_face n (acted_all cmp matching acts s).rows) ≡ wanted matching e (find_face n s.rows)
+  pub wanted-still : (e : K) (n : ℕ) (acts : List (Act K)) (s : Store K) → list_any (touches n) acts ≡ false → wanted matching e (find_face n (acted_all cmp acts s).rows) ≡ wanted matching e (find_face n s.rows)
   wanted-still e n acts s none =
-      wanted-by e (find_face n (acted_all cmp matching acts s).rows) ∙ ap (list_any (λ row. asks_token matching row.1 e)) (untouched-all n acts s none) ∙ sym (wanted-by e (find_face n s.rows))
+      wanted-by e (find_face n (acted_all cmp acts s).rows) ∙ ap (list_any (λ row. asks_token matching row.1 e)) (untouched-all n acts s none) ∙ sym (wanted-by e (find_face n s.rows))
 
 -- ---- one change more
 module _ (after before : ℕ → Bool) where
@@ -147,22 +147,22 @@ module _ {K : Type 0} where
 -- ---- the faces that want an expression after changes
 module _ {K : Type 0} (cmp : K → K → Ordering) (matching : K → K → Bool) (e : K) (acts : List (Act K)) (s : Store K) (orderly : IsOrderly s) where
   abbrev after : ℕ → Bool
-  after n = wanted matching e (find_face n (acted_all cmp matching acts s).rows)
+  after n = wanted matching e (find_face n (acted_all cmp acts s).rows)
 
   abbrev before : ℕ → Bool
   before n = wanted matching e (find_face n s.rows)
 
-  pub holders-same : list_any (λ act. is_some (face_held act)) acts ≡ false → holders matching e s.rows.faces ≡ holders matching e (acted_all cmp matching acts s).rows.faces
+  pub holders-same : list_any (λ act. is_some (face_held act)) acts ≡ false → holders matching e s.rows.faces ≡ holders matching e (acted_all cmp acts s).rows.faces
   holders-same none =
-      listed-alike (λ x. wants matching x e) s.rows.faces (acted_all cmp matching acts s).rows.faces orderly.rising (orderly-after cmp matching acts s orderly).rising
+      listed-alike (λ x. wants matching x e) s.rows.faces (acted_all cmp acts s).rows.faces orderly.rising (orderly-after cmp matching acts s orderly).rising
       (λ n. sym (wanted-still cmp matching e n acts s (none-touched n acts none)))
 
   pub before-listed : (numbers : List ℕ) → numbers ≡ holders matching e s.rows.faces → (found : List (ℕ × Unit {0})) → HasEach (λ n. list_any (λ m. n == m) numbers) found → HasEach before found
   before-listed numbers is found has = record { at = λ n. has.at n ∙ ap (list_any (λ m. n == m)) is ∙ among-listed (λ x. wants matching x e) n s.rows.faces orderly.rising }
 
-  pub after-listed : (found : List (ℕ × Unit {0})) → is_sorted nat_cmp found ≡ true → HasEach (corrected after (λ n. list_any (touches n) acts) before) found → keys_of found ≡ holders matching e (acted_all cmp matching acts s).rows.faces
+  pub after-listed : (found : List (ℕ × Unit {0})) → is_sorted nat_cmp found ≡ true → HasEach (corrected after (λ n. list_any (touches n) acts) before) found → keys_of found ≡ holders matching e (acted_all cmp acts s).rows.faces
   after-listed found sorted has =
-      keys-listed (λ x. wants matching x e) (acted_all cmp matching acts s).rows.faces found (orderly-after cmp matching acts s orderly).rising sorted
+      keys-listed (λ x. wants matching x e) (acted_all cmp acts s).rows.faces found (orderly-after cmp matching acts s orderly).rising sorted
       (λ n. has.at n ∙ by_test (list_any (touches n) acts) (λ t. rw t refl) (λ t. rw t (sym (wanted-still cmp matching e n acts s t))))
 
 -- ---- a list that is gone over

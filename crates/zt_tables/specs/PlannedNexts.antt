@@ -45,12 +45,12 @@ module _ {K : Type 0} (cmp : K → K → Ordering) (o : IsTotalOrder cmp) (one :
   pub told-falls : (f : ℕ) (after : Option K) (acts : List (Act K)) (s : Store K) (c : K) → told_candidate cmp f after acts s ≡ Some c → told_left cmp f (Some c) acts s < told_left cmp f after acts s
   told-falls f after acts s = let face = find_face f s.rows in key-falls cmp o one (told_keys face) (map (told_key f) acts) after (told_next cmp after face) (told-next after face)
 
-  module _ (matching : K → K → Bool) (f : ℕ) (after : Option K) (acts : List (Act K)) (s : Store K) (fit : Fit cmp matching acts s) where
+  module _ (matching : K → K → Bool) (f : ℕ) (after : Option K) (acts : List (Act K)) (s : Store K) (fit : Fit cmp acts s) where
     abbrev before : Option (Face K)
     before = find_face f s.rows
 
     abbrev later : Option (Face K)
-    later = find_face f (acted_all cmp matching acts s).rows
+    later = find_face f (acted_all cmp acts s).rows
 
     pub told-none : told_candidate cmp f after acts s ≡ None → told_next cmp after later ≡ None
     told-none =
@@ -83,9 +83,9 @@ abbrev pub source_left : {K : Type 0} → Region → Option Zid → List (Act K)
 source_left region after acts s = count_above zid_cmp after (given_on (map (source_added region) acts) (sources_in region s.rows.routed))
 
 module _ {K : Type 0} (cmp : K → K → Ordering) (o : IsTotalOrder cmp) (one : (a b : K) → cmp a b ≡ Equal → a ≡ b) (matching : K → K → Bool) where
-  module _ (region : Region) (source : Zid) (after : Option K) (acts : List (Act K)) (s : Store K) (rising : AreRising (routed_order cmp matching) s.rows.routed) where
+  module _ (region : Region) (source : Zid) (after : Option K) (acts : List (Act K)) (s : Store K) (rising : AreRising (routed_order cmp) s.rows.routed) where
     abbrev rows_later : List (RoutedRow K)
-    rows_later = (acted_all cmp matching acts s).rows.routed
+    rows_later = (acted_all cmp acts s).rows.routed
 
     next-before : IsNext cmp (expressions_of region source s.rows.routed) after (expression_after cmp region source after s.rows.routed)
     next-before = expressions-next cmp matching o one region source after s.rows.routed rising
@@ -102,23 +102,23 @@ module _ {K : Type 0} (cmp : K → K → Ordering) (o : IsTotalOrder cmp) (one :
         key-none cmp o one (expressions_of region source s.rows.routed) (map (expression_added region source) acts) after (expression_after cmp region source after s.rows.routed) next-before
         (expressions_of region source rows_later) (λ k. expressions-later cmp matching region source k acts s) (λ a. expression_after cmp region source a rows_later) next-later
 
-    pub routed-stands : (c : K) → routed_candidate cmp region source after acts s ≡ Some c → list_any (is_routed_row cmp matching (row_at cmp matching region source c)) rows_later ≡ true
+    pub routed-stands : (c : K) → routed_candidate cmp region source after acts s ≡ Some c → list_any (is_routed_row cmp (row_at cmp region source c)) rows_later ≡ true
         → expression_after cmp region source after rows_later ≡ Some c
     routed-stands c is there =
         key-stands cmp o one (expressions_of region source s.rows.routed) (map (expression_added region source) acts) after (expression_after cmp region source after s.rows.routed) next-before
         (expressions_of region source rows_later) (λ k. expressions-later cmp matching region source k acts s) (λ a. expression_after cmp region source a rows_later) next-later
         c is (sym (expression-stands cmp matching region source c rows_later) ∙ there)
 
-    pub routed-gone : (c : K) → routed_candidate cmp region source after acts s ≡ Some c → list_any (is_routed_row cmp matching (row_at cmp matching region source c)) rows_later ≡ false
+    pub routed-gone : (c : K) → routed_candidate cmp region source after acts s ≡ Some c → list_any (is_routed_row cmp (row_at cmp region source c)) rows_later ≡ false
         → expression_after cmp region source after rows_later ≡ expression_after cmp region source (Some c) rows_later
     routed-gone c is gone =
         key-gone cmp o one (expressions_of region source s.rows.routed) (map (expression_added region source) acts) after (expression_after cmp region source after s.rows.routed) next-before
         (expressions_of region source rows_later) (λ k. expressions-later cmp matching region source k acts s) (λ a. expression_after cmp region source a rows_later) next-later
         c is (sym (expression-stands cmp matching region source c rows_later) ∙ gone)
 
-  module _ (region : Region) (after : Option Zid) (acts : List (Act K)) (s : Store K) (rising : AreRising (routed_order cmp matching) s.rows.routed) where
+  module _ (region : Region) (after : Option Zid) (acts : List (Act K)) (s : Store K) (rising : AreRising (routed_order cmp) s.rows.routed) where
     abbrev rows_after : List (RoutedRow K)
-    rows_after = (acted_all cmp matching acts s).rows.routed
+    rows_after = (acted_all cmp acts s).rows.routed
 
     source-before : IsNext zid_cmp (sources_in region s.rows.routed) after (source_after region after s.rows.routed)
     source-before = sources-next cmp matching region after s.rows.routed rising

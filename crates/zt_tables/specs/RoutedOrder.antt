@@ -24,13 +24,13 @@ then-assoc Equal y z = refl
 then-assoc Greater y z = refl
 
 module _ {K : Type 0} (cmp : K → K → Ordering) (matching : K → K → Bool) where
-  pub routed-order : (a b : (Region × Zid) × K) → pair_order group_order cmp a b ≡ routed_order cmp matching (routed_row a) (routed_row b)
+  pub routed-order : (a b : (Region × Zid) × K) → pair_order group_order cmp a b ≡ routed_order cmp (routed_row a) (routed_row b)
   routed-order a b =
       then-assoc (ghosts.cmp a.0.0 b.0.0) (nat_cmp a.0.1.0 b.0.1.0) (cmp a.1 b.1)
       ∙ ap (λ r. ordering_then r (ordering_then (nat_cmp a.0.1.0 b.0.1.0) (cmp a.1 b.1))) (region_cmp-order a.0.0 b.0.0)
 
   pub any-routed : (region : Region) (source : Zid) (e : K) (pairs : List ((Region × Zid) × K))
-      → list_any (λ x. is_eq (pair_order group_order cmp ((region, source), e) x)) pairs ≡ list_any (is_routed_row cmp matching (row_at cmp matching region source e)) (map routed_row pairs)
+      → list_any (λ x. is_eq (pair_order group_order cmp ((region, source), e) x)) pairs ≡ list_any (is_routed_row cmp (row_at cmp region source e)) (map routed_row pairs)
   any-routed region source e [] = refl
   any-routed region source e (x ∷ xs) = λ i. is_eq (routed-order ((region, source), e) x i) || any-routed region source e xs i
 
@@ -46,22 +46,22 @@ module _ {A B : Type 0} (f : A → B) where
 
 module _ {K : Type 0} (cmp : K → K → Ordering) (matching : K → K → Bool) where
   pub routed-added : (region : Region) (source : Zid) (e : K) (pairs : List ((Region × Zid) × K))
-      → map routed_row (with_key (pair_order group_order cmp) ((region, source), e) pairs) ≡ with_key (routed_order cmp matching) (row_at cmp matching region source e) (map routed_row pairs)
+      → map routed_row (with_key (pair_order group_order cmp) ((region, source), e) pairs) ≡ with_key (routed_order cmp) (row_at cmp region source e) (map routed_row pairs)
   routed-added region source e pairs =
       (λ i. map routed_row (with_key (λ a b. routed-order cmp matching a b i) ((region, source), e) pairs))
-      ∙ map-with_key routed_row (routed_order cmp matching) ((region, source), e) pairs
+      ∙ map-with_key routed_row (routed_order cmp) ((region, source), e) pairs
 
   pub routed-dropped : (region : Region) (source : Zid) (e : K) (pairs : List ((Region × Zid) × K))
-      → map routed_row (filter (λ x. not (is_eq (pair_order group_order cmp ((region, source), e) x))) pairs) ≡ filter (λ row. not (is_routed_row cmp matching (row_at cmp matching region source e) row)) (map routed_row pairs)
+      → map routed_row (filter (λ x. not (is_eq (pair_order group_order cmp ((region, source), e) x))) pairs) ≡ filter (λ row. not (is_routed_row cmp (row_at cmp region source e) row)) (map routed_row pairs)
   routed-dropped region source e pairs =
       (λ i. map routed_row (filter (λ x. not (is_eq (routed-order cmp matching ((region, source), e) x i))) pairs))
-      ∙ map-filter routed_row (λ row. not (is_routed_row cmp matching (row_at cmp matching region source e) row)) pairs
+      ∙ map-filter routed_row (λ row. not (is_routed_row cmp (row_at cmp region source e) row)) pairs
 
   -- rows in order are read as rows in order
-  pub routed-rises : (pairs : List ((Region × Zid) × K)) → AreRising (pair_order group_order cmp) pairs → AreRising (routed_order cmp matching) (map routed_row pairs)
+  pub routed-rises : (pairs : List ((Region × Zid) × K)) → AreRising (pair_order group_order cmp) pairs → AreRising (routed_order cmp) (map routed_row pairs)
   routed-rises [] rising = tt
   routed-rises (x ∷ xs) rising = (below xs rising.0, routed-rises xs rising.1)
     where
-      below : (ys : List ((Region × Zid) × K)) → AllByRecursion (λ y. pair_order group_order cmp x y ≡ Less) ys → AllByRecursion (λ row. routed_order cmp matching (routed_row x) row ≡ Less) (map routed_row ys)
+      below : (ys : List ((Region × Zid) × K)) → AllByRecursion (λ y. pair_order group_order cmp x y ≡ Less) ys → AllByRecursion (λ row. routed_order cmp (routed_row x) row ≡ Less) (map routed_row ys)
       below [] all = tt
       below (y ∷ ys) all = (sym (routed-order cmp matching x y) ∙ all.0, below ys all.1)

@@ -18,19 +18,19 @@ use Rattle.zt_faces.specs.Words.{face_at}
 abbrev pub AreServed : {K : Type 0} → Store K → Served → Type 0
 AreServed s served = (pending : ℕ × ℕ) → IfSome (served_at pending served) (Serves pending s)
 
-module _ {K : Type 0} (cmp : K → K → Ordering) (matching : K → K → Bool) (act : Act K) (s : Store K) (ok : AreAsksNumbered s) (fit : Fits cmp matching act s) (served : Served) (are : AreServed s served) where
+module _ {K : Type 0} (cmp : K → K → Ordering) (matching : K → K → Bool) (act : Act K) (s : Store K) (ok : AreAsksNumbered s) (fit : Fits cmp act s) (served : Served) (are : AreServed s served) where
   -- where what is named after the act is what the act makes of it
-  pub served-acted : (after : Served) → ((p : ℕ × ℕ) → served_at p after ≡ served_step p.0 p.1 act (served_at p served)) → AreServed (acted cmp matching act s) after
-  served-acted after is = λ p. subst (λ o. IfSome o (Serves p (acted cmp matching act s))) (sym (is p)) (serving-acted cmp matching p act s ok fit (served_at p served) (are p))
+  pub served-acted : (after : Served) → ((p : ℕ × ℕ) → served_at p after ≡ served_step p.0 p.1 act (served_at p served)) → AreServed (acted cmp act s) after
+  served-acted after is = λ p. subst (λ o. IfSome o (Serves p (acted cmp act s))) (sym (is p)) (serving-acted cmp matching p act s ok fit (served_at p served) (are p))
 
   -- where no row of a pending changes
-  pub served-same : ((p : ℕ × ℕ) (o : Option (Option ℕ)) → served_step p.0 p.1 act o ≡ o) → AreServed (acted cmp matching act s) served
+  pub served-same : ((p : ℕ × ℕ) (o : Option (Option ℕ)) → served_step p.0 p.1 act o ≡ o) → AreServed (acted cmp act s) served
   served-same kept = served-acted served (λ p. sym (kept p (served_at p served)))
 
   -- where a face opens too
-  pub served-opened : (f : ℕ) → ((p : ℕ × ℕ) (o : Option (Option ℕ)) → served_step p.0 p.1 act o ≡ o) → AreServed (acted cmp matching act s) (put nat_cmp f [] served)
+  pub served-opened : (f : ℕ) → ((p : ℕ × ℕ) (o : Option (Option ℕ)) → served_step p.0 p.1 act o ≡ o) → AreServed (acted cmp act s) (put nat_cmp f [] served)
   served-opened f kept = λ p.
-      subst (λ o. IfSome o (Serves p (acted cmp matching act s))) (sym (served_at-opened p f served))
+      subst (λ o. IfSome o (Serves p (acted cmp act s))) (sym (served_at-opened p f served))
       (by_test (f == p.0) (λ t. rw t tt) (λ t. rw t (served-same kept p)))
 
 -- ---- a store with the same faces and asks

@@ -55,9 +55,9 @@ impl<K: Key> Tables<K> {
 
     // A face opens under the next number, with the room of a spare.
     fn open_next(&mut self, row: FaceRow)
-        requires fits { Fits K.cmp K.matching (OpenFace row.zid row.whatami row.region row.remote_bound row.first) self.old.store }
+        requires fits { Fits K.cmp (OpenFace row.zid row.whatami row.region row.remote_bound row.first) self.old.store }
         requires room { HasRoom K.anchored (OpenFace row.zid row.whatami row.region row.remote_bound row.first ∷ []) self.old.store self.old.rooms }
-        ensures store { self.new.store ≡ acted K.cmp K.matching (OpenFace row.zid row.whatami row.region row.remote_bound row.first) self.old.store }
+        ensures store { self.new.store ≡ acted K.cmp (OpenFace row.zid row.whatami row.region row.remote_bound row.first) self.old.store }
         ensures room { LeavesRoom K.cmp K.matching K.anchored (OpenFace row.zid row.whatami row.region row.remote_bound row.first) self.old.store self.old.rooms self.new.rooms }
     {
         let number = self.faces.made() + 1;
@@ -73,9 +73,9 @@ impl<K: Key> Tables<K> {
 
     // The face asks, under the next number, with the room of a spare.
     fn ask_next(&mut self, row: AskRow<K>)
-        requires fits { Fits K.cmp K.matching (AddAsk row.face row.id (plain_interest row.interest)) self.old.store }
+        requires fits { Fits K.cmp (AddAsk row.face row.id (plain_interest row.interest)) self.old.store }
         requires room { HasRoom K.anchored (AddAsk row.face row.id (plain_interest row.interest) ∷ []) self.old.store self.old.rooms }
-        ensures store { self.new.store ≡ acted K.cmp K.matching (AddAsk row.face row.id (plain_interest row.interest)) self.old.store }
+        ensures store { self.new.store ≡ acted K.cmp (AddAsk row.face row.id (plain_interest row.interest)) self.old.store }
         ensures room { LeavesRoom K.cmp K.matching K.anchored (AddAsk row.face row.id (plain_interest row.interest)) self.old.store self.old.rooms self.new.rooms }
     {
         let number = self.next_ask();
@@ -87,10 +87,10 @@ impl<K: Key> Tables<K> {
 
     // One change is made. The token is the expression that the change brings, a second time.
     fn make(&mut self, change: Change<K>, token: Option<K>)
-        requires fits { Fits K.cmp K.matching (plain_change change) self.old.store }
+        requires fits { Fits K.cmp (plain_change change) self.old.store }
         requires room { HasRoom K.anchored (plain_change change ∷ []) self.old.store self.old.rooms }
         requires token { token ≡ token_of (plain_change change) }
-        ensures store { self.new.store ≡ acted K.cmp K.matching (plain_change change) self.old.store }
+        ensures store { self.new.store ≡ acted K.cmp (plain_change change) self.old.store }
         ensures room { LeavesRoom K.cmp K.matching K.anchored (plain_change change) self.old.store self.old.rooms self.new.rooms }
     {
         let _numbered = self.next_ask();
@@ -141,9 +141,9 @@ impl<K: Key> Tables<K> {
 
     /// Makes the plan's changes, the first first, which `reserve` has made room for. It takes no memory and can't fail.
     pub fn apply(&mut self, plan: Plan<K>)
-        requires fits { Fit K.cmp K.matching plan self.old.store }
+        requires fits { Fit K.cmp plan self.old.store }
         requires room { HasRoom K.anchored plan self.old.store self.old.rooms }
-        ensures { self.new.store ≡ acted_all K.cmp K.matching plan self.old.store }
+        ensures { self.new.store ≡ acted_all K.cmp plan self.old.store }
     {
         let (changes, tokens) = plan.into_parts();
         let mut rest = changes.into_iter();

@@ -38,11 +38,11 @@ impl<K: Key> Tables<K> {
 
     // The face declared the expression under the id. The token is the expression a second time.
     pub(crate) fn add_live(&mut self, f: u32, id: u32, expr: K, token: K)
-        requires fits { Fits K.cmp K.matching (AddLive f id expr) self.old.store }
+        requires fits { Fits K.cmp (AddLive f id expr) self.old.store }
         requires room { 0 < face_room f LiveRows self.old.rooms.faces }
         requires token_room { (region : Region) → is_region_of self.old.store.rows.regions region ≡ true → 0 < room_of region_cmp region self.old.rooms.tokens }
         requires token { token ≡ expr }
-        ensures store { self.new.store ≡ acted K.cmp K.matching (AddLive f id expr) self.old.store }
+        ensures store { self.new.store ≡ acted K.cmp (AddLive f id expr) self.old.store }
         ensures rooms { KeepsTablesFor 1 None (of_faces (one_row f LiveRows)) self.old.rooms self.new.rooms }
     {
         self.orderly();
@@ -57,8 +57,8 @@ impl<K: Key> Tables<K> {
 
     // What the face declared under the id goes.
     pub(crate) fn drop_live(&mut self, f: u32, id: u32)
-        requires { Fits K.cmp K.matching (DropLive f id) self.old.store }
-        ensures store { self.new.store ≡ acted K.cmp K.matching (DropLive f id) self.old.store }
+        requires { Fits K.cmp (DropLive f id) self.old.store }
+        ensures store { self.new.store ≡ acted K.cmp (DropLive f id) self.old.store }
         ensures rooms { KeepsTables (of_faces nothing) self.old.rooms self.new.rooms }
     {
         self.orderly();
@@ -79,9 +79,9 @@ impl<K: Key> Tables<K> {
 
     // The face is told the expression under its next id.
     pub(crate) fn tell(&mut self, f: u32, id: u32, expr: K)
-        requires fits { Fits K.cmp K.matching (Tell f id expr) self.old.store }
+        requires fits { Fits K.cmp (Tell f id expr) self.old.store }
         requires room { 0 < face_room f ToldRows self.old.rooms.faces }
-        ensures store { self.new.store ≡ acted K.cmp K.matching (Tell f id expr) self.old.store }
+        ensures store { self.new.store ≡ acted K.cmp (Tell f id expr) self.old.store }
         ensures rooms { KeepsTables (of_faces (one_row f ToldRows)) self.old.rooms self.new.rooms }
     {
         self.faces.tell(f, id, expr);
@@ -89,8 +89,8 @@ impl<K: Key> Tables<K> {
 
     // What the face was told of the expression goes.
     pub(crate) fn untell(&mut self, f: u32, expr: &K)
-        requires { Fits K.cmp K.matching (Untell f expr.now) self.old.store }
-        ensures store { self.new.store ≡ acted K.cmp K.matching (Untell f expr.now) self.old.store }
+        requires { Fits K.cmp (Untell f expr.now) self.old.store }
+        ensures store { self.new.store ≡ acted K.cmp (Untell f expr.now) self.old.store }
         ensures rooms { KeepsTables (of_faces nothing) self.old.rooms self.new.rooms }
     {
         self.faces.untell(f, expr);
@@ -98,11 +98,11 @@ impl<K: Key> Tables<K> {
 
     // The face holds an interest, whose expression is given a second time for the index.
     pub(crate) fn add_held(&mut self, f: u32, row: HeldRow<K>, about: Option<K>)
-        requires fits { Fits K.cmp K.matching (AddHeld f row.id (interest_held row)) self.old.store }
+        requires fits { Fits K.cmp (AddHeld f row.id (interest_held row)) self.old.store }
         requires room { 0 < face_room f HeldRows self.old.rooms.faces }
         requires bucket_room { IfSome (bucket_of K.anchored (interest_held row)) (λ b. 0 < room_of bucket_cmp b self.old.rooms.holders) }
         requires about { about ≡ row.interest.expr }
-        ensures store { self.new.store ≡ acted K.cmp K.matching (AddHeld f row.id (interest_held row)) self.old.store }
+        ensures store { self.new.store ≡ acted K.cmp (AddHeld f row.id (interest_held row)) self.old.store }
         ensures rooms { KeepsTablesFor (tokens_in row.interest.expr) (bucket_of K.anchored (interest_held row)) (of_faces (one_row f HeldRows)) self.old.rooms self.new.rooms }
     {
         keep_holder(
@@ -126,8 +126,8 @@ impl<K: Key> Tables<K> {
 
     // The interest of the id is held no more.
     pub(crate) fn drop_held(&mut self, f: u32, id: u32)
-        requires { Fits K.cmp K.matching (DropHeld f id) self.old.store }
-        ensures store { self.new.store ≡ acted K.cmp K.matching (DropHeld f id) self.old.store }
+        requires { Fits K.cmp (DropHeld f id) self.old.store }
+        ensures store { self.new.store ≡ acted K.cmp (DropHeld f id) self.old.store }
         ensures rooms { KeepsTables (of_faces nothing) self.old.rooms self.new.rooms }
     {
         let bucket = self.bucket_held(f, id);
@@ -138,9 +138,9 @@ impl<K: Key> Tables<K> {
 
     // A future-mode interest was sent to the face.
     pub(crate) fn add_local(&mut self, f: u32, row: UpstreamRow<K>)
-        requires fits { Fits K.cmp K.matching (AddLocal f row.id (interest_sent row)) self.old.store }
+        requires fits { Fits K.cmp (AddLocal f row.id (interest_sent row)) self.old.store }
         requires room { 0 < face_room f LocalRows self.old.rooms.faces }
-        ensures store { self.new.store ≡ acted K.cmp K.matching (AddLocal f row.id (interest_sent row)) self.old.store }
+        ensures store { self.new.store ≡ acted K.cmp (AddLocal f row.id (interest_sent row)) self.old.store }
         ensures rooms { KeepsTables (of_faces (one_row f LocalRows)) self.old.rooms self.new.rooms }
     {
         self.faces.add_local(f, row);
@@ -148,8 +148,8 @@ impl<K: Key> Tables<K> {
 
     // The future-mode interest of the id ends.
     pub(crate) fn drop_local(&mut self, f: u32, id: u32)
-        requires { Fits K.cmp K.matching (DropLocal f id) self.old.store }
-        ensures store { self.new.store ≡ acted K.cmp K.matching (DropLocal f id) self.old.store }
+        requires { Fits K.cmp (DropLocal f id) self.old.store }
+        ensures store { self.new.store ≡ acted K.cmp (DropLocal f id) self.old.store }
         ensures rooms { KeepsTables (of_faces nothing) self.old.rooms self.new.rooms }
     {
         self.faces.drop_local(f, id);
@@ -157,8 +157,8 @@ impl<K: Key> Tables<K> {
 
     // The initial interest of the face is finalised.
     pub(crate) fn finalise(&mut self, f: u32)
-        requires { Fits K.cmp K.matching (FinaliseInitial f) self.old.store }
-        ensures store { self.new.store ≡ acted K.cmp K.matching (FinaliseInitial f) self.old.store }
+        requires { Fits K.cmp (FinaliseInitial f) self.old.store }
+        ensures store { self.new.store ≡ acted K.cmp (FinaliseInitial f) self.old.store }
         ensures rooms { KeepsTables (of_faces nothing) self.old.rooms self.new.rooms }
     {
         self.faces.finalise(f);
@@ -166,8 +166,8 @@ impl<K: Key> Tables<K> {
 
     // The pending of the id ends.
     pub(crate) fn drop_pending(&mut self, f: u32, id: u32)
-        requires { Fits K.cmp K.matching (DropPending f id) self.old.store }
-        ensures store { self.new.store ≡ acted K.cmp K.matching (DropPending f id) self.old.store }
+        requires { Fits K.cmp (DropPending f id) self.old.store }
+        ensures store { self.new.store ≡ acted K.cmp (DropPending f id) self.old.store }
         ensures rooms { KeepsTables (of_faces nothing) self.old.rooms self.new.rooms }
     {
         self.faces.drop_pending(f, id);
@@ -180,8 +180,8 @@ impl<K: Key> Tables<K> {
         subscribers: Vec<K>,
         queryables: Vec<(K, QueryableInfo)>,
     )
-        requires { Fits K.cmp K.matching (SetEntities f subscribers.items queryables.items) self.old.store }
-        ensures store { self.new.store ≡ acted K.cmp K.matching (SetEntities f subscribers.items queryables.items) self.old.store }
+        requires { Fits K.cmp (SetEntities f subscribers.items queryables.items) self.old.store }
+        ensures store { self.new.store ≡ acted K.cmp (SetEntities f subscribers.items queryables.items) self.old.store }
         ensures rooms { KeepsTables (of_faces nothing) self.old.rooms self.new.rooms }
     {
         self.faces.set_entities(f, subscribers, queryables);
@@ -189,8 +189,8 @@ impl<K: Key> Tables<K> {
 
     // The moment becomes this one.
     pub(crate) fn set_moment(&mut self, now: u64)
-        requires { Fits K.cmp K.matching (SetMoment now) self.old.store }
-        ensures store { self.new.store ≡ acted K.cmp K.matching (SetMoment now) self.old.store }
+        requires { Fits K.cmp (SetMoment now) self.old.store }
+        ensures store { self.new.store ≡ acted K.cmp (SetMoment now) self.old.store }
         ensures rooms { KeepsTables (of_faces nothing) self.old.rooms self.new.rooms }
     {
         self.moment = now;
@@ -198,9 +198,9 @@ impl<K: Key> Tables<K> {
 
     // The message waits for the face.
     pub(crate) fn send(&mut self, f: u32, message: Message<K>)
-        requires fits { Fits K.cmp K.matching (Send f message) self.old.store }
+        requires fits { Fits K.cmp (Send f message) self.old.store }
         requires room { 0 < room_of nat_cmp f self.old.rooms.outboxes }
-        ensures store { self.new.store ≡ acted K.cmp K.matching (Send f message) self.old.store }
+        ensures store { self.new.store ≡ acted K.cmp (Send f message) self.old.store }
         ensures rooms { KeepsTables (one_message f) self.old.rooms self.new.rooms }
     {
         self.outboxes.push(f, message);
@@ -208,8 +208,8 @@ impl<K: Key> Tables<K> {
 
     // The ask of the number goes.
     pub(crate) fn drop_ask(&mut self, n: u64)
-        requires { Fits K.cmp K.matching (DropAsk n) self.old.store }
-        ensures store { self.new.store ≡ acted K.cmp K.matching (DropAsk n) self.old.store }
+        requires { Fits K.cmp (DropAsk n) self.old.store }
+        ensures store { self.new.store ≡ acted K.cmp (DropAsk n) self.old.store }
         ensures rooms { KeepsTables (of_faces (all_of_ask n self.old.rooms.faces)) self.old.rooms self.new.rooms }
     {
         self.faces.drop_ask(n);
@@ -217,9 +217,9 @@ impl<K: Key> Tables<K> {
 
     // The expression gets the next number of the dictionary.
     pub(crate) fn number(&mut self, expr: K)
-        requires fits { Fits K.cmp K.matching (Number expr) self.old.store }
+        requires fits { Fits K.cmp (Number expr) self.old.store }
         requires room { 0 < self.old.rooms.dictionary }
-        ensures store { self.new.store ≡ acted K.cmp K.matching (Number expr) self.old.store }
+        ensures store { self.new.store ≡ acted K.cmp (Number expr) self.old.store }
         ensures rooms { KeepsTables one_number self.old.rooms self.new.rooms }
     {
         let number = self.dictionary.len() as u64 + 1;
@@ -229,11 +229,11 @@ impl<K: Key> Tables<K> {
     // A row of a router region. The token is the expression a second time; a row that the gateway itself shows isn't
     // counted.
     pub(crate) fn add_routed(&mut self, region: Region, source: Zid, expr: K, token: K)
-        requires fits { Fits K.cmp K.matching (AddRouted region source expr) self.old.store }
+        requires fits { Fits K.cmp (AddRouted region source expr) self.old.store }
         requires room { 0 < room_of group_order (region, source) self.old.rooms.routed }
         requires token_room { (other : Region) → is_region_of self.old.store.rows.regions other ≡ true → 0 < room_of region_cmp other self.old.rooms.tokens }
         requires token { token ≡ expr }
-        ensures store { self.new.store ≡ acted K.cmp K.matching (AddRouted region source expr) self.old.store }
+        ensures store { self.new.store ≡ acted K.cmp (AddRouted region source expr) self.old.store }
         ensures rooms { KeepsTablesFor 1 None (one_routed (region, source)) self.old.rooms self.new.rooms }
     {
         self.orderly();
@@ -247,8 +247,8 @@ impl<K: Key> Tables<K> {
 
     // The row of the source and the expression goes.
     pub(crate) fn drop_routed(&mut self, region: Region, source: Zid, expr: &K)
-        requires { Fits K.cmp K.matching (DropRouted region source expr.now) self.old.store }
-        ensures store { self.new.store ≡ acted K.cmp K.matching (DropRouted region source expr.now) self.old.store }
+        requires { Fits K.cmp (DropRouted region source expr.now) self.old.store }
+        ensures store { self.new.store ≡ acted K.cmp (DropRouted region source expr.now) self.old.store }
         ensures rooms { KeepsTables (of_faces nothing) self.old.rooms self.new.rooms }
     {
         self.orderly();
@@ -263,9 +263,9 @@ impl<K: Key> Tables<K> {
 
     // The tree of a router region becomes this one.
     pub(crate) fn set_tree(&mut self, region: Region, table: TreeTable)
-        requires fits { Fits K.cmp K.matching (SetTree region (trees_of table)) self.old.store }
+        requires fits { Fits K.cmp (SetTree region (trees_of table)) self.old.store }
         requires room { 0 < self.old.rooms.trees }
-        ensures store { self.new.store ≡ acted K.cmp K.matching (SetTree region (trees_of table)) self.old.store }
+        ensures store { self.new.store ≡ acted K.cmp (SetTree region (trees_of table)) self.old.store }
         ensures rooms { KeepsTables one_tree self.old.rooms self.new.rooms }
     {
         self.trees.put(region, table);
@@ -273,8 +273,8 @@ impl<K: Key> Tables<K> {
 
     // The face goes with its rows, its asks and its outbox.
     pub(crate) fn close_face(&mut self, f: u32)
-        requires { Fits K.cmp K.matching (CloseFace f) self.old.store }
-        ensures store { self.new.store ≡ acted K.cmp K.matching (CloseFace f) self.old.store }
+        requires { Fits K.cmp (CloseFace f) self.old.store }
+        ensures store { self.new.store ≡ acted K.cmp (CloseFace f) self.old.store }
         ensures rooms { KeepsOthers f self.new.store.numbers self.old.rooms self.new.rooms }
         ensures given { f ≤ self.old.store.rows.made }
     {
@@ -285,9 +285,9 @@ impl<K: Key> Tables<K> {
 
     // Whatever the face declared goes, and it closes as before.
     fn drop_tokens(&mut self, f: u32)
-        requires { Fits K.cmp K.matching (CloseFace f) self.old.store }
-        ensures fits { Fits K.cmp K.matching (CloseFace f) self.new.store }
-        ensures left { acted K.cmp K.matching (CloseFace f) self.new.store ≡ acted K.cmp K.matching (CloseFace f) self.old.store }
+        requires { Fits K.cmp (CloseFace f) self.old.store }
+        ensures fits { Fits K.cmp (CloseFace f) self.new.store }
+        ensures left { acted K.cmp (CloseFace f) self.new.store ≡ acted K.cmp (CloseFace f) self.old.store }
         ensures silent { list_of_face (λ x. x.live) (find_face f self.new.store.rows) ≡ [] }
         ensures rooms { KeepsTables (of_faces nothing) self.old.rooms self.new.rooms }
         ensures made { self.new.store.rows.made ≡ self.old.store.rows.made }
@@ -299,9 +299,9 @@ impl<K: Key> Tables<K> {
 
     // Whatever the face holds goes, and it closes as before.
     fn drop_interests(&mut self, f: u32)
-        requires { Fits K.cmp K.matching (CloseFace f) self.old.store }
-        ensures fits { Fits K.cmp K.matching (CloseFace f) self.new.store }
-        ensures left { acted K.cmp K.matching (CloseFace f) self.new.store ≡ acted K.cmp K.matching (CloseFace f) self.old.store }
+        requires { Fits K.cmp (CloseFace f) self.old.store }
+        ensures fits { Fits K.cmp (CloseFace f) self.new.store }
+        ensures left { acted K.cmp (CloseFace f) self.new.store ≡ acted K.cmp (CloseFace f) self.old.store }
         ensures live { list_of_face (λ x. x.live) (find_face f self.new.store.rows) ≡ list_of_face (λ x. x.live) (find_face f self.old.store.rows) }
         ensures none_held { list_of_face (λ x. x.held) (find_face f self.new.store.rows) ≡ [] }
         ensures rooms { KeepsTables (of_faces nothing) self.old.rooms self.new.rooms }
@@ -314,10 +314,10 @@ impl<K: Key> Tables<K> {
 
     // The face goes, which declares no token and holds no interest any more.
     fn close_silent(&mut self, f: u32)
-        requires fits { Fits K.cmp K.matching (CloseFace f) self.old.store }
+        requires fits { Fits K.cmp (CloseFace f) self.old.store }
         requires silent { list_of_face (λ x. x.live) (find_face f self.old.store.rows) ≡ [] }
         requires none_held { list_of_face (λ x. x.held) (find_face f self.old.store.rows) ≡ [] }
-        ensures store { self.new.store ≡ acted K.cmp K.matching (CloseFace f) self.old.store }
+        ensures store { self.new.store ≡ acted K.cmp (CloseFace f) self.old.store }
         ensures rooms { KeepsOthers f self.new.store.numbers self.old.rooms self.new.rooms }
         ensures given { f ≤ self.old.store.rows.made }
     {
@@ -329,13 +329,13 @@ impl<K: Key> Tables<K> {
 
     // A face under the next number opens, with the room that was made in it.
     pub(crate) fn open_face(&mut self, face: FaceRows<K>, row: FaceRow)
-        requires fits { Fits K.cmp K.matching (OpenFace row.zid row.whatami row.region row.remote_bound row.first) self.old.store }
+        requires fits { Fits K.cmp (OpenFace row.zid row.whatami row.region row.remote_bound row.first) self.old.store }
         requires face { face.face ≡ face_opened row.zid row.whatami row.region row.remote_bound row.first self.old.store.rows }
         requires alone { face.numbers ≡ [] }
         requires served { face.served ≡ [] }
         requires none_asked { face.ask_rooms ≡ [] }
         requires room { 0 < self.old.rooms.faces.faces }
-        ensures store { self.new.store ≡ acted K.cmp K.matching (OpenFace row.zid row.whatami row.region row.remote_bound row.first) self.old.store }
+        ensures store { self.new.store ≡ acted K.cmp (OpenFace row.zid row.whatami row.region row.remote_bound row.first) self.old.store }
         ensures rooms { KeepsTables (of_faces one_face) self.old.rooms self.new.rooms }
         ensures own_rooms { OpensRoom face.room (self.old.store.rows.made + 1) self.new.rooms.faces }
     {
@@ -345,13 +345,13 @@ impl<K: Key> Tables<K> {
 
     // The face asks, under the next number, with the room that was made in the ask.
     pub(crate) fn add_ask(&mut self, ask: AskRows<K>)
-        requires fits { Fits K.cmp K.matching (AddAsk ask.face ask.id ask.ask.interest) self.old.store }
+        requires fits { Fits K.cmp (AddAsk ask.face ask.id ask.ask.interest) self.old.store }
         requires new { ask.ask ≡ record { interest = ask.ask.interest; pendings = []; answered = [] } }
         requires number { ask.number ≡ self.old.store.asks_made + 1 }
         requires more { self.old.store.asks_made + 1 < 4611686018427387904 }
         requires row_room { 0 < face_room ask.face AskedRows self.old.rooms.faces }
         requires number_room { 0 < self.old.rooms.faces.numbers }
-        ensures store { self.new.store ≡ acted K.cmp K.matching (AddAsk ask.face ask.id ask.ask.interest) self.old.store }
+        ensures store { self.new.store ≡ acted K.cmp (AddAsk ask.face ask.id ask.ask.interest) self.old.store }
         ensures rooms { KeepsTables (of_faces (one_ask ask.face)) self.old.rooms self.new.rooms }
         ensures listings { ask.pending_room ≤ listing_room (self.old.store.asks_made + 1) self.new.rooms.faces }
         ensures answers { ask.answer_room ≤ answer_room (self.old.store.asks_made + 1) self.new.rooms.faces }
@@ -361,9 +361,9 @@ impl<K: Key> Tables<K> {
 
     // The ask of the number was answered the expression.
     pub(crate) fn answer(&mut self, n: u64, expr: K)
-        requires fits { Fits K.cmp K.matching (Answered n expr) self.old.store }
+        requires fits { Fits K.cmp (Answered n expr) self.old.store }
         requires room { 0 < answer_room n self.old.rooms.faces }
-        ensures store { self.new.store ≡ acted K.cmp K.matching (Answered n expr) self.old.store }
+        ensures store { self.new.store ≡ acted K.cmp (Answered n expr) self.old.store }
         ensures rooms { KeepsTables (of_faces (one_answer n)) self.old.rooms self.new.rooms }
     {
         self.faces.answer(n, expr);
@@ -371,10 +371,10 @@ impl<K: Key> Tables<K> {
 
     // A current-mode interest was sent to the face, for the ask that the row names, if it names one.
     pub(crate) fn add_pending(&mut self, f: u32, row: PendingRow)
-        requires fits { Fits K.cmp K.matching (AddPending f row.id row.ask (plain_pending row)) self.old.store }
+        requires fits { Fits K.cmp (AddPending f row.id row.ask (plain_pending row)) self.old.store }
         requires room { 0 < face_room f PendingRows self.old.rooms.faces }
         requires listing { IfSome row.ask (λ n. 0 < listing_room n self.old.rooms.faces) }
-        ensures store { self.new.store ≡ acted K.cmp K.matching (AddPending f row.id row.ask (plain_pending row)) self.old.store }
+        ensures store { self.new.store ≡ acted K.cmp (AddPending f row.id row.ask (plain_pending row)) self.old.store }
         ensures rooms { KeepsTables (of_faces (one_pending f row.ask)) self.old.rooms self.new.rooms }
     {
         self.faces.add_pending(f, row);

@@ -23,7 +23,7 @@ impl<K: Key> Tables<K> {
 
     /// A fact alone: the rows of router regions are in order.
     pub fn routed_rise(&self)
-        ensures { AreRising (routed_order K.cmp K.matching) self.now.store.rows.routed }
+        ensures { AreRising (routed_order K.cmp) self.now.store.rows.routed }
     {
         self.routed.rising();
     }
@@ -43,14 +43,14 @@ impl<K: Key> Tables<K> {
 impl<K: Key> Plan<K> {
     /// A fact alone: the rows of router regions are in order.
     pub fn routed_rise(&self, tables: &Tables<K>)
-        ensures { AreRising (routed_order K.cmp K.matching) (acted_all K.cmp K.matching self.now tables.now.store).rows.routed }
+        ensures { AreRising (routed_order K.cmp) (acted_all K.cmp self.now tables.now.store).rows.routed }
     {
         tables.routed_rise();
     }
 
     /// A fact alone: what was drawn for the face is below its next id.
     pub fn ids_drawn(&self, tables: &Tables<K>, f: u32)
-        ensures { IfSome (find_face f (acted_all K.cmp K.matching self.now tables.now.store).rows) AreIdsBelow }
+        ensures { IfSome (find_face f (acted_all K.cmp self.now tables.now.store).rows) AreIdsBelow }
     {
         tables.ids_drawn(f);
     }

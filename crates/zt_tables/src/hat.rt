@@ -33,7 +33,7 @@ pub trait HatTrait<K: Key>: HatTokenTrait<K> + HatInterestTrait<K> {
         face: u32,
     ) -> Result<Vec<K>, Memory>
         requires ready { IsReady K.cmp K.matching (Self.hat self.now) (Self.region self.now) plan.old tables.now.store }
-        requires owned { Owns (Self.region self.now) face (acted_all K.cmp K.matching plan.old tables.now.store) }
-        ensures answer { IfOk result (λ v. v.items ≡ closing_tokens (Self.hat self.now) face (acted_all K.cmp K.matching plan.old tables.now.store).rows) }
+        requires owned { Owns (Self.region self.now) face (acted_all K.cmp plan.old tables.now.store) }
+        ensures answer { IfOk result (λ v. v.items ≡ closing_tokens (Self.hat self.now) face (acted_all K.cmp plan.old tables.now.store).rows) }
         ensures plans { Plans K.cmp K.matching result plan.old plan.new (λ s. unregister_face_entities_acts K.cmp K.matching (Self.hat self.now) (Self.region self.now) s face) tables.now.store };
 }

@@ -130,8 +130,8 @@ impl<K: Key> Plan<K> {
         change: &Change<K>,
         expr: &K,
     ) -> Result<(), AllocError>
-        ensures { OnOk result (Fit K.cmp K.matching self.now tables.now.store
-            → (n : ℕ) → has_face n found.new.rows ≡ (if touches n (plain_change change.now) then wanted K.matching expr.now (find_face n (acted_all K.cmp K.matching self.now tables.now.store).rows) else has_face n found.old.rows)) }
+        ensures { OnOk result (Fit K.cmp self.now tables.now.store
+            → (n : ℕ) → has_face n found.new.rows ≡ (if touches n (plain_change change.now) then wanted K.matching expr.now (find_face n (acted_all K.cmp self.now tables.now.store).rows) else has_face n found.old.rows)) }
     {
         let Some(f) = face_held(change) else {
             return Ok(());
@@ -149,8 +149,8 @@ impl<K: Key> Plan<K> {
         expr: &K,
     ) -> Result<Vec<u32>, AllocError>
         requires { numbers.now ≡ holders K.matching expr.now tables.now.store.rows.faces }
-        ensures { Fit K.cmp K.matching self.now tables.now.store
-            → IfOk result (λ v. v.items ≡ holders K.matching expr.now (acted_all K.cmp K.matching self.now tables.now.store).rows.faces) }
+        ensures { Fit K.cmp self.now tables.now.store
+            → IfOk result (λ v. v.items ≡ holders K.matching expr.now (acted_all K.cmp self.now tables.now.store).rows.faces) }
     {
         tables.faces_rise();
         let mut found = rows_of_numbers(alloc, numbers)?;
@@ -165,8 +165,8 @@ impl<K: Key> Plan<K> {
     /// fit. The only error is want of memory. As many steps as `Tables::holders` makes; then, for each change of an
     /// interest, a walk over the plan and over what its face holds.
     pub fn holders(&self, alloc: Global, tables: &Tables<K>, expr: &K) -> Result<Vec<u32>, Memory>
-        ensures { Fit K.cmp K.matching self.now tables.now.store
-            → IfOk result (λ v. v.items ≡ holders K.matching expr.now (acted_all K.cmp K.matching self.now tables.now.store).rows.faces) }
+        ensures { Fit K.cmp self.now tables.now.store
+            → IfOk result (λ v. v.items ≡ holders K.matching expr.now (acted_all K.cmp self.now tables.now.store).rows.faces) }
     {
         tables.faces_rise();
         let numbers = tables.holders(alloc, expr)?;

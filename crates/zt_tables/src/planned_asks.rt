@@ -30,17 +30,17 @@ fn pendings_at<K: Key>(tables: &Tables<K>, n: u64) -> &[(u32, u32)]
 impl<K: Key> Plan<K> {
     /// The number of the next ask. Numbers count from 1, and none is used twice.
     pub fn next_ask(&self, tables: &Tables<K>) -> u64
-        ensures { result ≡ next_number (acted_all K.cmp K.matching self.now tables.now.store) }
+        ensures { result ≡ next_number (acted_all K.cmp self.now tables.now.store) }
     {
         tables.next_ask() + self.asks_added()
     }
 
     /// The ask of the number.
     pub fn ask<'a>(&'a self, tables: &'a Tables<K>, n: u64) -> Option<&'a AskRow<K>>
-        ensures interest { Fit K.cmp K.matching self.now tables.now.store
-            → option_map (λ row. plain_interest row.interest) (option_copied result) ≡ option_map (λ ask. ask.interest) (ask_at n (acted_all K.cmp K.matching self.now tables.now.store)) }
-        ensures place { Fit K.cmp K.matching self.now tables.now.store
-            → IfSome (option_copied result) (λ row. at_id n (acted_all K.cmp K.matching self.now tables.now.store).numbers ≡ Some (row.face, row.id)) }
+        ensures interest { Fit K.cmp self.now tables.now.store
+            → option_map (λ row. plain_interest row.interest) (option_copied result) ≡ option_map (λ ask. ask.interest) (ask_at n (acted_all K.cmp self.now tables.now.store)) }
+        ensures place { Fit K.cmp self.now tables.now.store
+            → IfSome (option_copied result) (λ row. at_id n (acted_all K.cmp self.now tables.now.store).numbers ≡ Some (row.face, row.id)) }
     {
         let made = tables.next_ask() - 1;
         let left = n.saturating_sub(made);
@@ -50,10 +50,10 @@ impl<K: Key> Plan<K> {
 
     /// The ask of the face under the id, by its number; `None` exactly where the face has no ask under the id.
     pub fn ask_of(&self, tables: &Tables<K>, f: u32, id: u32) -> Option<u64>
-        ensures number { Fit K.cmp K.matching self.now tables.now.store
-            → result ≡ number_of_ask (f, id) (acted_all K.cmp K.matching self.now tables.now.store).numbers }
-        ensures asked { Fit K.cmp K.matching self.now tables.now.store
-            → is_some result ≡ is_some (ask_in (Some (f, id)) (acted_all K.cmp K.matching self.now tables.now.store).rows) }
+        ensures number { Fit K.cmp self.now tables.now.store
+            → result ≡ number_of_ask (f, id) (acted_all K.cmp self.now tables.now.store).numbers }
+        ensures asked { Fit K.cmp self.now tables.now.store
+            → is_some result ≡ is_some (ask_in (Some (f, id)) (acted_all K.cmp self.now tables.now.store).rows) }
     {
         let made = tables.next_ask() - 1;
         let found = tables.ask_of(f, id);
@@ -63,8 +63,8 @@ impl<K: Key> Plan<K> {
 
     /// Whether the ask was answered the expression.
     pub fn answered(&self, tables: &Tables<K>, n: u64, expr: &K) -> bool
-        ensures { Fit K.cmp K.matching self.now tables.now.store
-            → result ≡ is_some_and (ask_at n (acted_all K.cmp K.matching self.now tables.now.store)) (λ ask. is_among K.cmp expr.now ask.answered) }
+        ensures { Fit K.cmp self.now tables.now.store
+            → result ≡ is_some_and (ask_at n (acted_all K.cmp self.now tables.now.store)) (λ ask. is_among K.cmp expr.now ask.answered) }
     {
         let _made = tables.next_ask();
         match self.ask(tables, n) {
@@ -82,8 +82,8 @@ impl<K: Key> Plan<K> {
 
     /// How many of the ask's pendings stand: 0 where no ask has the number.
     pub fn pendings_of(&self, tables: &Tables<K>, n: u64) -> usize
-        ensures { Fit K.cmp K.matching self.now tables.now.store
-            → result ≡ length (filter (stands (acted_all K.cmp K.matching self.now tables.now.store).rows) (pendings_at n (acted_all K.cmp K.matching self.now tables.now.store))) }
+        ensures { Fit K.cmp self.now tables.now.store
+            → result ≡ length (filter (stands (acted_all K.cmp self.now tables.now.store).rows) (pendings_at n (acted_all K.cmp self.now tables.now.store))) }
     {
         let _made = tables.next_ask();
         match self.ask(tables, n) {
@@ -97,8 +97,8 @@ impl<K: Key> Plan<K> {
 
     // How many of these pendings, each by its face and id, the plan doesn't list anew and leaves standing.
     fn count_kept(&self, tables: &Tables<K>, pendings: &[(u32, u32)]) -> usize
-        ensures kept { Fit K.cmp K.matching self.now tables.now.store
-            → result ≡ length (filter (stays_listed (stands (acted_all K.cmp K.matching self.now tables.now.store).rows) self.now) pendings.now) }
+        ensures kept { Fit K.cmp self.now tables.now.store
+            → result ≡ length (filter (stays_listed (stands (acted_all K.cmp self.now tables.now.store).rows) self.now) pendings.now) }
         ensures small { result < 2 ^ 62 }
     {
         let mut count = 0usize;
@@ -110,8 +110,8 @@ impl<K: Key> Plan<K> {
 
     // 1 where the plan doesn't list the pending anew and leaves it standing, else 0.
     fn kept_one(&self, tables: &Tables<K>, f: u32, id: u32) -> usize
-        ensures kept { Fit K.cmp K.matching self.now tables.now.store
-            → result ≡ one_where (stays_listed (stands (acted_all K.cmp K.matching self.now tables.now.store).rows) self.now (f, id)) }
+        ensures kept { Fit K.cmp self.now tables.now.store
+            → result ≡ one_where (stays_listed (stands (acted_all K.cmp self.now tables.now.store).rows) self.now (f, id)) }
         ensures most { result ≤ 1 }
     {
         if self.keeps(tables, self.changes(), f, id) {
@@ -123,8 +123,8 @@ impl<K: Key> Plan<K> {
 
     // How many pendings the plan lists for the ask, doesn't list anew later, and leaves standing.
     fn count_added(&self, tables: &Tables<K>, n: u64) -> usize
-        ensures added { Fit K.cmp K.matching self.now tables.now.store
-            → result ≡ count_added n (stands (acted_all K.cmp K.matching self.now tables.now.store).rows) self.now }
+        ensures added { Fit K.cmp self.now tables.now.store
+            → result ≡ count_added n (stands (acted_all K.cmp self.now tables.now.store).rows) self.now }
         ensures small { result < 2 ^ 63 }
     {
         let _len = self.len();
@@ -144,8 +144,8 @@ impl<K: Key> Plan<K> {
         change: &Change<K>,
         later: &[Change<K>],
     ) -> usize
-        ensures added { Fit K.cmp K.matching self.now tables.now.store
-            → result ≡ added_one n (stands (acted_all K.cmp K.matching self.now tables.now.store).rows) (plain_change change.now) (map plain_change later.now) }
+        ensures added { Fit K.cmp self.now tables.now.store
+            → result ≡ added_one n (stands (acted_all K.cmp self.now tables.now.store).rows) (plain_change change.now) (map plain_change later.now) }
         ensures most { result ≤ 1 }
     {
         match change {
@@ -159,16 +159,16 @@ impl<K: Key> Plan<K> {
 
     // Whether the changes don't list the pending anew and the plan leaves it standing.
     fn keeps(&self, tables: &Tables<K>, changes: &[Change<K>], f: u32, id: u32) -> bool
-        ensures { Fit K.cmp K.matching self.now tables.now.store
-            → result ≡ stays_listed (stands (acted_all K.cmp K.matching self.now tables.now.store).rows) (map plain_change changes.now) (f, id) }
+        ensures { Fit K.cmp self.now tables.now.store
+            → result ≡ stays_listed (stands (acted_all K.cmp self.now tables.now.store).rows) (map plain_change changes.now) (f, id) }
     {
         !names_pending(changes, f, id) && self.pending_stands(tables, f, id)
     }
 
     // Whether the plan leaves the pending standing.
     fn pending_stands(&self, tables: &Tables<K>, f: u32, id: u32) -> bool
-        ensures { Fit K.cmp K.matching self.now tables.now.store
-            → result ≡ stands (acted_all K.cmp K.matching self.now tables.now.store).rows (f, id) }
+        ensures { Fit K.cmp self.now tables.now.store
+            → result ≡ stands (acted_all K.cmp self.now tables.now.store).rows (f, id) }
     {
         match self.pending(tables, f, id) {
             Some(_) => true,

@@ -33,8 +33,8 @@ impl<K: Key> Plan<K> {
         f: u32,
         after: Option<&K>,
     ) -> Option<&'a K>
-        ensures { Fit K.cmp K.matching self.now tables.now.store
-            → option_copied result ≡ from_face (λ face. told_after K.cmp (option_copied after.entry) face.told) (find_face f (acted_all K.cmp K.matching self.now tables.now.store).rows) }
+        ensures { Fit K.cmp self.now tables.now.store
+            → option_copied result ≡ from_face (λ face. told_after K.cmp (option_copied after.entry) face.told) (find_face f (acted_all K.cmp self.now tables.now.store).rows) }
     {
         let mut last = after;
         while let Some(key) = self.told_candidate(tables, f, last) {
@@ -69,8 +69,8 @@ impl<K: Key> Plan<K> {
         source: Zid,
         after: Option<&K>,
     ) -> Option<&'a K>
-        ensures { Fit K.cmp K.matching self.now tables.now.store
-            → option_copied result ≡ expression_after K.cmp region source (option_copied after.entry) (acted_all K.cmp K.matching self.now tables.now.store).rows.routed }
+        ensures { Fit K.cmp self.now tables.now.store
+            → option_copied result ≡ expression_after K.cmp region source (option_copied after.entry) (acted_all K.cmp self.now tables.now.store).rows.routed }
     {
         tables.routed_rise();
         let mut last = after;
@@ -85,8 +85,8 @@ impl<K: Key> Plan<K> {
 
     // Whether some row of the source stands in the router region.
     fn has_source<'a>(&'a self, tables: &'a Tables<K>, region: Region, source: Zid) -> bool
-        ensures { Fit K.cmp K.matching self.now tables.now.store
-            → result ≡ is_some (expression_after K.cmp region source None (acted_all K.cmp K.matching self.now tables.now.store).rows.routed) }
+        ensures { Fit K.cmp self.now tables.now.store
+            → result ≡ is_some (expression_after K.cmp region source None (acted_all K.cmp self.now tables.now.store).rows.routed) }
     {
         let none: Option<&'a K> = None;
         self.next_routed(tables, region, source, none).is_some()
@@ -112,8 +112,8 @@ impl<K: Key> Plan<K> {
     /// The least source that has a row in the router region, above `after` where one is given; the gateway's own rows
     /// stand under its zid.
     pub fn next_source(&self, tables: &Tables<K>, region: Region, after: Option<Zid>) -> Option<Zid>
-        ensures { Fit K.cmp K.matching self.now tables.now.store
-            → result ≡ source_after region after (acted_all K.cmp K.matching self.now tables.now.store).rows.routed }
+        ensures { Fit K.cmp self.now tables.now.store
+            → result ≡ source_after region after (acted_all K.cmp self.now tables.now.store).rows.routed }
     {
         tables.routed_rise();
         let mut last = after;

@@ -15,8 +15,8 @@ impl<K: Key> Plan<K> {
     /// Whether the source's row of the expression stands in the router region; the gateway's own rows stand under its
     /// zid.
     pub fn routed(&self, tables: &Tables<K>, region: Region, source: Zid, expr: &K) -> bool
-        ensures { Fit K.cmp K.matching self.now tables.now.store
-            → result ≡ list_any (is_routed_row K.cmp K.matching (row_at K.cmp K.matching region source expr.now)) (acted_all K.cmp K.matching self.now tables.now.store).rows.routed }
+        ensures { Fit K.cmp self.now tables.now.store
+            → result ≡ list_any (is_routed_row K.cmp (row_at K.cmp region source expr.now)) (acted_all K.cmp self.now tables.now.store).rows.routed }
     {
         let found = tables.routed(region, source, expr);
         routed_after(self.changes(), region, source, expr, found)
@@ -24,16 +24,16 @@ impl<K: Key> Plan<K> {
 
     /// Whether the gateway itself shows the expression in the router region.
     pub fn own_row(&self, tables: &Tables<K>, region: Region, expr: &K) -> bool
-        ensures { Fit K.cmp K.matching self.now tables.now.store
-            → result ≡ is_own_row K.cmp K.matching (acted_all K.cmp K.matching self.now tables.now.store).rows region expr.now }
+        ensures { Fit K.cmp self.now tables.now.store
+            → result ≡ is_own_row K.cmp (acted_all K.cmp self.now tables.now.store).rows region expr.now }
     {
         self.routed(tables, region, tables.zid(), expr)
     }
 
     /// The number of the expression in the dictionary.
     pub fn dictionary(&self, tables: &Tables<K>, expr: &K) -> Option<u32>
-        ensures { Fit K.cmp K.matching self.now tables.now.store
-            → result ≡ numbered K.cmp K.matching expr.now (acted_all K.cmp K.matching self.now tables.now.store).rows.dictionary }
+        ensures { Fit K.cmp self.now tables.now.store
+            → result ≡ numbered K.cmp K.matching expr.now (acted_all K.cmp self.now tables.now.store).rows.dictionary }
     {
         let number = tables.dictionary(expr);
         number_after(self.changes(), expr, number, tables.dictionary_len())
@@ -41,8 +41,8 @@ impl<K: Key> Plan<K> {
 
     /// How many expressions the dictionary has.
     pub fn dictionary_len(&self, tables: &Tables<K>) -> u32
-        ensures { Fit K.cmp K.matching self.now tables.now.store
-            → result ≡ length (acted_all K.cmp K.matching self.now tables.now.store).rows.dictionary }
+        ensures { Fit K.cmp self.now tables.now.store
+            → result ≡ length (acted_all K.cmp self.now tables.now.store).rows.dictionary }
     {
         dictionary_len_after(self.changes(), tables.dictionary_len())
     }

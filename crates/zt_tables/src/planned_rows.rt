@@ -71,8 +71,8 @@ impl<K: Key> Plan<K> {
 
     // Whether a row of the kind stands under the id.
     fn stands(&self, tables: &Tables<K>, kind: RowKind, f: u32, id: u32) -> bool
-        ensures { Fit K.cmp K.matching self.now tables.now.store
-            → result ≡ is_some_and (find_face f (acted_all K.cmp K.matching self.now tables.now.store).rows) (stands_under kind id) }
+        ensures { Fit K.cmp self.now tables.now.store
+            → result ≡ is_some_and (find_face f (acted_all K.cmp self.now tables.now.store).rows) (stands_under kind id) }
     {
         match kind {
             RowKind::Live => self.live(tables, f, id).is_some(),
@@ -84,8 +84,8 @@ impl<K: Key> Plan<K> {
 
     // The least id of the kind above `after`, where one is given.
     fn next_row(&self, tables: &Tables<K>, kind: RowKind, f: u32, after: Option<u32>) -> Option<u32>
-        ensures { Fit K.cmp K.matching self.now tables.now.store
-            → result ≡ from_face (next_of kind after) (find_face f (acted_all K.cmp K.matching self.now tables.now.store).rows) }
+        ensures { Fit K.cmp self.now tables.now.store
+            → result ≡ from_face (next_of kind after) (find_face f (acted_all K.cmp self.now tables.now.store).rows) }
     {
         in_order(tables, f);
         let mut last = after;
@@ -100,32 +100,32 @@ impl<K: Key> Plan<K> {
 
     /// The least id of a token that the face declared, above `after` where one is given.
     pub fn next_live(&self, tables: &Tables<K>, f: u32, after: Option<u32>) -> Option<u32>
-        ensures { Fit K.cmp K.matching self.now tables.now.store
-            → result ≡ from_face (λ face. next_id after face.live) (find_face f (acted_all K.cmp K.matching self.now tables.now.store).rows) }
+        ensures { Fit K.cmp self.now tables.now.store
+            → result ≡ from_face (λ face. next_id after face.live) (find_face f (acted_all K.cmp self.now tables.now.store).rows) }
     {
         self.next_row(tables, RowKind::Live, f, after)
     }
 
     /// The least id of an interest that the face holds, above `after` where one is given.
     pub fn next_held(&self, tables: &Tables<K>, f: u32, after: Option<u32>) -> Option<u32>
-        ensures { Fit K.cmp K.matching self.now tables.now.store
-            → result ≡ from_face (λ face. next_id after face.held) (find_face f (acted_all K.cmp K.matching self.now tables.now.store).rows) }
+        ensures { Fit K.cmp self.now tables.now.store
+            → result ≡ from_face (λ face. next_id after face.held) (find_face f (acted_all K.cmp self.now tables.now.store).rows) }
     {
         self.next_row(tables, RowKind::Held, f, after)
     }
 
     /// The least id of a local of the face, above `after` where one is given.
     pub fn next_local(&self, tables: &Tables<K>, f: u32, after: Option<u32>) -> Option<u32>
-        ensures { Fit K.cmp K.matching self.now tables.now.store
-            → result ≡ from_face (λ face. next_id after face.locals) (find_face f (acted_all K.cmp K.matching self.now tables.now.store).rows) }
+        ensures { Fit K.cmp self.now tables.now.store
+            → result ≡ from_face (λ face. next_id after face.locals) (find_face f (acted_all K.cmp self.now tables.now.store).rows) }
     {
         self.next_row(tables, RowKind::Local, f, after)
     }
 
     /// The least id of a pending of the face, above `after` where one is given.
     pub fn next_pending(&self, tables: &Tables<K>, f: u32, after: Option<u32>) -> Option<u32>
-        ensures { Fit K.cmp K.matching self.now tables.now.store
-            → result ≡ from_face (λ face. next_id after face.pendings) (find_face f (acted_all K.cmp K.matching self.now tables.now.store).rows) }
+        ensures { Fit K.cmp self.now tables.now.store
+            → result ≡ from_face (λ face. next_id after face.pendings) (find_face f (acted_all K.cmp self.now tables.now.store).rows) }
     {
         self.next_row(tables, RowKind::Pending, f, after)
     }
@@ -159,8 +159,8 @@ impl<K: Key> Plan<K> {
 
     /// Whether the face holds an interest in the expression's tokens.
     pub fn wants(&self, tables: &Tables<K>, f: u32, expr: &K) -> bool
-        ensures { Fit K.cmp K.matching self.now tables.now.store
-            → result ≡ is_some_and (find_face f (acted_all K.cmp K.matching self.now tables.now.store).rows) (λ face. wants K.matching face expr.now) }
+        ensures { Fit K.cmp self.now tables.now.store
+            → result ≡ is_some_and (find_face f (acted_all K.cmp self.now tables.now.store).rows) (λ face. wants K.matching face expr.now) }
     {
         wants_added(self.changes(), f, expr)
             || tables.wants(f, expr) && self.leaves_any_wanted(tables, f, expr)
@@ -169,7 +169,7 @@ impl<K: Key> Plan<K> {
     // The open face of the number, with all that is known of it.
     fn face_row<'a>(&'a self, tables: &'a Tables<K>, f: u32) -> Option<&'a FaceRow>
         ensures { option_map facts_opened (option_copied result)
-            ≡ option_map facts_of (find_face f (acted_all K.cmp K.matching self.now tables.now.store).rows) }
+            ≡ option_map facts_of (find_face f (acted_all K.cmp self.now tables.now.store).rows) }
     {
         face_after(
             self.changes(),
@@ -181,14 +181,14 @@ impl<K: Key> Plan<K> {
 
     /// The open face of the number.
     pub fn face<'a>(&'a self, tables: &'a Tables<K>, f: u32) -> Option<&'a FaceRow>
-        ensures region { Fit K.cmp K.matching self.now tables.now.store
-            → option_map (λ row. row.region) (option_copied result) ≡ option_map (λ x. x.region) (find_face f (acted_all K.cmp K.matching self.now tables.now.store).rows) }
-        ensures bound { Fit K.cmp K.matching self.now tables.now.store
-            → option_map (λ row. row.remote_bound) (option_copied result) ≡ option_map (λ x. x.bound) (find_face f (acted_all K.cmp K.matching self.now tables.now.store).rows) }
-        ensures mode { Fit K.cmp K.matching self.now tables.now.store
-            → option_map (λ row. row.whatami) (option_copied result) ≡ option_map (λ x. x.mode) (find_face f (acted_all K.cmp K.matching self.now tables.now.store).rows) }
-        ensures zid { Fit K.cmp K.matching self.now tables.now.store
-            → option_map (λ row. row.zid) (option_copied result) ≡ option_map (λ x. x.zid) (find_face f (acted_all K.cmp K.matching self.now tables.now.store).rows) }
+        ensures region { Fit K.cmp self.now tables.now.store
+            → option_map (λ row. row.region) (option_copied result) ≡ option_map (λ x. x.region) (find_face f (acted_all K.cmp self.now tables.now.store).rows) }
+        ensures bound { Fit K.cmp self.now tables.now.store
+            → option_map (λ row. row.remote_bound) (option_copied result) ≡ option_map (λ x. x.bound) (find_face f (acted_all K.cmp self.now tables.now.store).rows) }
+        ensures mode { Fit K.cmp self.now tables.now.store
+            → option_map (λ row. row.whatami) (option_copied result) ≡ option_map (λ x. x.mode) (find_face f (acted_all K.cmp self.now tables.now.store).rows) }
+        ensures zid { Fit K.cmp self.now tables.now.store
+            → option_map (λ row. row.zid) (option_copied result) ≡ option_map (λ x. x.zid) (find_face f (acted_all K.cmp self.now tables.now.store).rows) }
     {
         self.face_row(tables, f)
     }
@@ -210,8 +210,8 @@ impl<K: Key> Plan<K> {
 
     /// The least number of an open face above `after`.
     pub fn next_face(&self, tables: &Tables<K>, after: u32) -> Option<u32>
-        ensures { Fit K.cmp K.matching self.now tables.now.store
-            → result ≡ next_face_after after (acted_all K.cmp K.matching self.now tables.now.store).rows.faces }
+        ensures { Fit K.cmp self.now tables.now.store
+            → result ≡ next_face_after after (acted_all K.cmp self.now tables.now.store).rows.faces }
     {
         match self.next_left(tables, after) {
             Some(number) => Some(number),

@@ -48,9 +48,9 @@ fn is_token_after<K: Key>(
     expr: &K,
     adds: bool,
 ) -> bool
-    ensures { Fit K.cmp K.matching (map plain_change changes.now) tables.now.store
+    ensures { Fit K.cmp (map plain_change changes.now) tables.now.store
         → (list_any (adds_token K.cmp expr.now) (map plain_change changes.now) ≡ true → adds ≡ true)
-        → result ≡ is_token K.cmp expr.now (from_face (λ x. at_id id x.live) (find_face f (acted_all K.cmp K.matching (map plain_change changes.now) tables.now.store).rows)) }
+        → result ≡ is_token K.cmp expr.now (from_face (λ x. at_id id x.live) (find_face f (acted_all K.cmp (map plain_change changes.now) tables.now.store).rows)) }
 {
     let found = tables.live(f, id);
     if may_be_token(found, expr, adds) {
@@ -67,7 +67,7 @@ fn face_left<'a, K: Key>(
     f: u32,
 ) -> Option<&'a FaceRow>
     ensures { option_map facts_opened (option_copied result)
-        ≡ option_map facts_of (find_face f (acted_all K.cmp K.matching (map plain_change changes.now) tables.now.store).rows) }
+        ≡ option_map facts_of (find_face f (acted_all K.cmp (map plain_change changes.now) tables.now.store).rows) }
 {
     face_after(changes, f, f.saturating_sub(tables.made()), tables.face(f))
 }
@@ -79,7 +79,7 @@ fn is_tested_after<K: Key>(
     f: u32,
     test: RegionTest,
 ) -> bool
-    ensures { result ≡ is_tested (passes test) (find_face f (acted_all K.cmp K.matching (map plain_change changes.now) tables.now.store).rows) }
+    ensures { result ≡ is_tested (passes test) (find_face f (acted_all K.cmp (map plain_change changes.now) tables.now.store).rows) }
 {
     match face_left(tables, changes, f) {
         Some(row) => test.passes(row.region),
@@ -121,9 +121,9 @@ fn drops_at<K: Key>(
     expr: &K,
     adds: bool,
 ) -> bool
-    ensures { Fit K.cmp K.matching (map plain_change before.now) tables.now.store
+    ensures { Fit K.cmp (map plain_change before.now) tables.now.store
         → (list_any (adds_token K.cmp expr.now) (map plain_change before.now) ≡ true → adds ≡ true)
-        → result ≡ ((place.0 == f) && is_token K.cmp expr.now (from_face (λ x. at_id place.1 x.live) (find_face place.0 (acted_all K.cmp K.matching (map plain_change before.now) tables.now.store).rows))) }
+        → result ≡ ((place.0 == f) && is_token K.cmp expr.now (from_face (λ x. at_id place.1 x.live) (find_face place.0 (acted_all K.cmp (map plain_change before.now) tables.now.store).rows))) }
 {
     if place.0 == f {
         is_token_after(tables, before, place.0, place.1, expr, adds)
@@ -143,9 +143,9 @@ fn tokens_counted<K: Key>(
     count: u128,
 ) -> u128
     requires { count + 1 < 2 ^ 128 }
-    ensures step { Fit K.cmp K.matching (map plain_change before.now) tables.now.store
+    ensures step { Fit K.cmp (map plain_change before.now) tables.now.store
         → (list_any (adds_token K.cmp expr.now) (map plain_change before.now) ≡ true → adds ≡ true)
-        → result ≡ tokens_step K.cmp expr.now f (plain_change change.now) (acted_all K.cmp K.matching (map plain_change before.now) tables.now.store) count }
+        → result ≡ tokens_step K.cmp expr.now f (plain_change change.now) (acted_all K.cmp (map plain_change before.now) tables.now.store) count }
     ensures most { result ≤ count + 1 }
 {
     match change {
@@ -170,9 +170,9 @@ fn tokens_after<K: Key>(
     expr: &K,
     adds: bool,
 ) -> u128
-    ensures { Fit K.cmp K.matching (map plain_change changes.now) tables.now.store
+    ensures { Fit K.cmp (map plain_change changes.now) tables.now.store
         → (list_any (adds_token K.cmp expr.now) (map plain_change changes.now) ≡ true → adds ≡ true)
-        → result ≡ tokens_of K.cmp expr.now (tokens_in f (acted_all K.cmp K.matching (map plain_change changes.now) tables.now.store)) }
+        → result ≡ tokens_of K.cmp expr.now (tokens_in f (acted_all K.cmp (map plain_change changes.now) tables.now.store)) }
 {
     in_order(tables, f);
     let mut count = tables.count_tokens(f, expr);
@@ -185,8 +185,8 @@ fn tokens_after<K: Key>(
 // A fact alone: the tokens of a face stand in order where the change drops one of them, and so do the rows of router
 // regions where it drops one of those.
 pub(crate) fn in_order_at<K: Key>(tables: &Tables<K>, before: &[Change<K>], change: &Change<K>)
-    ensures { Fit K.cmp K.matching (map plain_change before.now) tables.now.store
-        → IsInOrderAt K.cmp K.matching (plain_change change.now) (acted_all K.cmp K.matching (map plain_change before.now) tables.now.store) }
+    ensures { Fit K.cmp (map plain_change before.now) tables.now.store
+        → IsInOrderAt K.cmp K.matching (plain_change change.now) (acted_all K.cmp (map plain_change before.now) tables.now.store) }
 {
     match change {
         Change::DropLive { face, .. } => in_order(tables, *face),
@@ -204,7 +204,7 @@ fn adds_declared<K: Key>(
     expr: &K,
     test: RegionTest,
 ) -> bool
-    ensures { result ≡ (same K.cmp expr.now key.now && is_tested (passes test) (find_face face (acted_all K.cmp K.matching (map plain_change before.now) tables.now.store).rows)) }
+    ensures { result ≡ (same K.cmp expr.now key.now && is_tested (passes test) (find_face face (acted_all K.cmp (map plain_change before.now) tables.now.store).rows)) }
 {
     expr == key && is_tested_after(tables, before, face, test)
 }
@@ -218,10 +218,10 @@ fn drops_declared<K: Key>(
     test: RegionTest,
     adds: bool,
 ) -> bool
-    ensures { Fit K.cmp K.matching (map plain_change before.now) tables.now.store
+    ensures { Fit K.cmp (map plain_change before.now) tables.now.store
         → (list_any (adds_token K.cmp expr.now) (map plain_change before.now) ≡ true → adds ≡ true)
-        → result ≡ (is_token K.cmp expr.now (from_face (λ x. at_id place.1 x.live) (find_face place.0 (acted_all K.cmp K.matching (map plain_change before.now) tables.now.store).rows))
-        && is_tested (passes test) (find_face place.0 (acted_all K.cmp K.matching (map plain_change before.now) tables.now.store).rows)) }
+        → result ≡ (is_token K.cmp expr.now (from_face (λ x. at_id place.1 x.live) (find_face place.0 (acted_all K.cmp (map plain_change before.now) tables.now.store).rows))
+        && is_tested (passes test) (find_face place.0 (acted_all K.cmp (map plain_change before.now) tables.now.store).rows)) }
 {
     if is_token_after(tables, before, place.0, place.1, expr, adds) {
         is_tested_after(tables, before, place.0, test)
@@ -240,9 +240,9 @@ fn closed_counted<K: Key>(
     adds: bool,
     count: u128,
 ) -> u128
-    ensures step { Fit K.cmp K.matching (map plain_change before.now) tables.now.store
+    ensures step { Fit K.cmp (map plain_change before.now) tables.now.store
         → (list_any (adds_token K.cmp expr.now) (map plain_change before.now) ≡ true → adds ≡ true)
-        → result ≡ count_step K.cmp expr.now (passes test) K.matching (CloseFace face) (acted_all K.cmp K.matching (map plain_change before.now) tables.now.store) count }
+        → result ≡ count_step K.cmp expr.now (passes test) K.matching (CloseFace face) (acted_all K.cmp (map plain_change before.now) tables.now.store) count }
     ensures most { result ≤ count }
 {
     if is_tested_after(tables, before, face, test) {
@@ -261,7 +261,7 @@ fn is_live_row<K: Key>(
     expr: &K,
     test: RegionTest,
 ) -> bool
-    ensures { result ≡ is_live_row K.cmp expr.now (passes test) own (row_at K.cmp K.matching region source key.now) }
+    ensures { result ≡ is_live_row K.cmp expr.now (passes test) own (row_at K.cmp region source key.now) }
 {
     expr == key && test.passes(region) && source != own
 }
@@ -277,9 +277,9 @@ pub(crate) fn live_counted<K: Key>(
     count: u128,
 ) -> u128
     requires { count + 1 < 2 ^ 128 }
-    ensures step { Fit K.cmp K.matching (map plain_change before.now) tables.now.store
+    ensures step { Fit K.cmp (map plain_change before.now) tables.now.store
         → (list_any (adds_token K.cmp expr.now) (map plain_change before.now) ≡ true → adds ≡ true)
-        → result ≡ count_step K.cmp expr.now (passes test) K.matching (plain_change change.now) (acted_all K.cmp K.matching (map plain_change before.now) tables.now.store) count }
+        → result ≡ count_step K.cmp expr.now (passes test) K.matching (plain_change change.now) (acted_all K.cmp (map plain_change before.now) tables.now.store) count }
     ensures most { result ≤ count + 1 }
 {
     match change {

@@ -213,14 +213,14 @@ impl<K: Key> Tables<K> {
     /// Whether the source's row of the expression stands in the router region; the gateway's own rows stand under its
     /// zid.
     pub fn routed(&self, region: Region, source: Zid, expr: &K) -> bool
-        ensures { result ≡ list_any (is_routed_row K.cmp K.matching (row_at K.cmp K.matching region source expr.now)) self.now.store.rows.routed }
+        ensures { result ≡ list_any (is_routed_row K.cmp (row_at K.cmp region source expr.now)) self.now.store.rows.routed }
     {
         self.routed.contains(&(region, source), expr)
     }
 
     /// Whether the gateway itself shows the expression in the router region.
     pub fn own_row(&self, region: Region, expr: &K) -> bool
-        ensures { result ≡ is_own_row K.cmp K.matching self.now.store.rows region expr.now }
+        ensures { result ≡ is_own_row K.cmp self.now.store.rows region expr.now }
     {
         self.routed(region, self.zid, expr)
     }

@@ -34,7 +34,7 @@ number-left made h = by_test (nat_lt made 4294967295) (λ t. grind (arith, nat_t
 
 -- a session fits while numbers of faces last
 pub session-fits : {K : Type 0} (cmp : K → K → Ordering) (matching : K → K → Bool) (zid : Zid) (mode : WhatAmI) (bound : Bound) (first : ℕ) (s : Store K) → is_some (next_number_after s.rows.made) ≡ true
-    → Fit cmp matching (OpenFace zid mode Local bound first ∷ []) s
+    → Fit cmp (OpenFace zid mode Local bound first ∷ []) s
 unfolding Fit fits
 session-fits cmp matching zid mode bound first s h = (number-left s.rows.made h, tt)
 
@@ -68,13 +68,13 @@ module _ {K : Type 0} (cmp : K → K → Ordering) (matching : K → K → Bool)
   -- what the face of a number passes once it is changed
   passes-then : (f : ℕ) (act : Act K) (change : Face K → Face K) (test : Face K → Bool) (s : Store K)
       → touched f (touch cmp matching act s) (find_face f s.rows) ≡ (if f == f then option_map change (find_face f s.rows) else find_face f s.rows)
-      → is_some_and (option_map change (find_face f s.rows)) test ≡ true → is_face_where f test (acted cmp matching act s) ≡ true
+      → is_some_and (option_map change (find_face f s.rows)) test ≡ true → is_face_where f test (acted cmp act s) ≡ true
   passes-then f act change test s is h = rw (face-acted cmp matching f act s, is, same-number f) h
 
   -- a token that is declared and told, where neither stands and an id is left
   pub declared-fits : (f id left : ℕ) (e : K) (s : Store K) → ids_left (find_face f s.rows) ≡ left → (left == 0) ≡ false
       → is_some (from_face (λ x. at_id id x.live) (find_face f s.rows)) ≡ false → is_some (from_face (λ x. told_id cmp e x.told) (find_face f s.rows)) ≡ false
-      → Fit cmp matching (AddLive f id e ∷ Tell f (4294967295 - left) e ∷ []) s
+      → Fit cmp (AddLive f id e ∷ Tell f (4294967295 - left) e ∷ []) s
   unfolding Fit fits
   declared-fits f id left e s is some live told = (
     is-new id left (find_face f s.rows) is some live,
@@ -84,7 +84,7 @@ module _ {K : Type 0} (cmp : K → K → Ordering) (matching : K → K → Bool)
   -- a token that goes with what the face was told
   pub withdrawn-fits : (f id : ℕ) (e : K) (s : Store K)
       → is_some (from_face (λ x. at_id id x.live) (find_face f s.rows)) ≡ true → is_some (from_face (λ x. told_id cmp e x.told) (find_face f s.rows)) ≡ true
-      → Fit cmp matching (DropLive f id ∷ Untell f e ∷ []) s
+      → Fit cmp (DropLive f id ∷ Untell f e ∷ []) s
   unfolding Fit fits
   withdrawn-fits f id e s live told = (
     is-live id (find_face f s.rows) live,

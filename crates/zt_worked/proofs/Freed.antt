@@ -49,34 +49,34 @@ module _ {K : Type 0} where
   }
 
 module _ {K : Type 0} (cmp : K → K → Ordering) (matching : K → K → Bool) where
-  acted-last : (acts : List (Act K)) (act : Act K) (s : Store K) → acted_all cmp matching (acts ++ act ∷ []) s ≡ acted cmp matching act (acted_all cmp matching acts s)
+  acted-last : (acts : List (Act K)) (act : Act K) (s : Store K) → acted_all cmp (acts ++ act ∷ []) s ≡ acted cmp act (acted_all cmp acts s)
   unfolding acted_all
   acted-last acts act s = acted_all-append cmp matching acts (act ∷ []) s
 
   -- an empty plan
-  pub fit-none : (s : Store K) → Fit cmp matching [] s
+  pub fit-none : (s : Store K) → Fit cmp [] s
   unfolding Fit
   fit-none s = tt
 
-  fit-last : (acts : List (Act K)) (act : Act K) (s : Store K) → Fit cmp matching acts s → Fits cmp matching act (acted_all cmp matching acts s) → Fit cmp matching (acts ++ act ∷ []) s
+  fit-last : (acts : List (Act K)) (act : Act K) (s : Store K) → Fit cmp acts s → Fits cmp act (acted_all cmp acts s) → Fit cmp (acts ++ act ∷ []) s
   unfolding Fit
   fit-last acts act s fit last = fit-append cmp matching acts (act ∷ []) s fit (last, tt)
 
-  live-frees : (f id : ℕ) (e : K) (s : Store K) → IsFreeFrom id (find_face f s.rows) → IsFreeFrom (id + 1) (find_face f (acted cmp matching (AddLive f id e) s).rows)
+  live-frees : (f id : ℕ) (e : K) (s : Store K) → IsFreeFrom id (find_face f s.rows) → IsFreeFrom (id + 1) (find_face f (acted cmp (AddLive f id e) s).rows)
   live-frees f id e s free = rw (face-acted cmp matching f (AddLive f id e) s, same-number f) (registered-free id e (find_face f s.rows) free)
 
-  module _ (acts : List (Act K)) (s : Store K) (fit : Fit cmp matching acts s) (f id : ℕ) (free : IsFreeFrom id (find_face f (acted_all cmp matching acts s).rows)) where
-    pub live-added : (e : K) → Fit cmp matching (acts ++ AddLive f id e ∷ []) s
+  module _ (acts : List (Act K)) (s : Store K) (fit : Fit cmp acts s) (f id : ℕ) (free : IsFreeFrom id (find_face f (acted_all cmp acts s).rows)) where
+    pub live-added : (e : K) → Fit cmp (acts ++ AddLive f id e ∷ []) s
     unfolding fits
-    live-added e = fit-last acts (AddLive f id e) s fit (lacks id (find_face f (acted_all cmp matching acts s).rows) free)
+    live-added e = fit-last acts (AddLive f id e) s fit (lacks id (find_face f (acted_all cmp acts s).rows) free)
 
-    pub live-free : (e : K) → IsFreeFrom (id + 1) (find_face f (acted_all cmp matching (acts ++ AddLive f id e ∷ []) s).rows)
-    live-free e = rw (acted-last acts (AddLive f id e) s) (live-frees f id e (acted_all cmp matching acts s) free)
+    pub live-free : (e : K) → IsFreeFrom (id + 1) (find_face f (acted_all cmp (acts ++ AddLive f id e ∷ []) s).rows)
+    live-free e = rw (acted-last acts (AddLive f id e) s) (live-frees f id e (acted_all cmp acts s) free)
 
-    pub sent-added : (m : Message K) → Fit cmp matching (acts ++ Send f m ∷ []) s
+    pub sent-added : (m : Message K) → Fit cmp (acts ++ Send f m ∷ []) s
     unfolding fits
     sent-added m = fit-last acts (Send f m) s fit free.there
 
-    pub sent-free : (m : Message K) → IsFreeFrom id (find_face f (acted_all cmp matching (acts ++ Send f m ∷ []) s).rows)
+    pub sent-free : (m : Message K) → IsFreeFrom id (find_face f (acted_all cmp (acts ++ Send f m ∷ []) s).rows)
     unfolding acted
     sent-free m = rw (acted-last acts (Send f m) s) free

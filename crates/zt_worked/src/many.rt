@@ -21,8 +21,8 @@ const TOKENS: u32 = 5000;
 
 // Whether the face is open and declares no token after the plan.
 fn is_bare<K: Key>(tables: &Tables<K>, plan: &Plan<K>, f: u32) -> bool
-    requires { Fit K.cmp K.matching plan.now tables.now.store }
-    ensures { result ≡ true → IsFreeFrom 0 (find_face f (acted_all K.cmp K.matching plan.now tables.now.store).rows) }
+    requires { Fit K.cmp plan.now tables.now.store }
+    ensures { result ≡ true → IsFreeFrom 0 (find_face f (acted_all K.cmp plan.now tables.now.store).rows) }
 {
     match plan.next_live(tables, f, None) {
         Some(_) => false,
@@ -38,10 +38,10 @@ fn declare<K: Key>(
     id: u32,
     expr: K,
 ) -> Result<(), Memory>
-    requires fit { Fit K.cmp K.matching plan.old tables.now.store }
-    requires free { IsFreeFrom id (find_face f (acted_all K.cmp K.matching plan.old tables.now.store).rows) }
-    ensures fit { Fit K.cmp K.matching plan.new tables.now.store }
-    ensures free { OnOk result (IsFreeFrom (id + 1) (find_face f (acted_all K.cmp K.matching plan.new tables.now.store).rows)) }
+    requires fit { Fit K.cmp plan.old tables.now.store }
+    requires free { IsFreeFrom id (find_face f (acted_all K.cmp plan.old tables.now.store).rows) }
+    ensures fit { Fit K.cmp plan.new tables.now.store }
+    ensures free { OnOk result (IsFreeFrom (id + 1) (find_face f (acted_all K.cmp plan.new tables.now.store).rows)) }
 {
     let _ = tables;
     plan.add(Change::AddLive { face: f, id, expr })?;
@@ -59,8 +59,8 @@ fn declare_each<K: Key>(
     f: u32,
     keys: Vec<K>,
 ) -> Result<(), Memory>
-    requires { Fit K.cmp K.matching plan.old tables.now.store }
-    ensures { Fit K.cmp K.matching plan.new tables.now.store }
+    requires { Fit K.cmp plan.old tables.now.store }
+    ensures { Fit K.cmp plan.new tables.now.store }
 {
     if !is_bare(tables, plan, f) {
         return Ok(());
@@ -93,8 +93,8 @@ fn declare_many<K: Key>(
     faces: u32,
     keys: &[K],
 ) -> Result<(), Memory>
-    requires { Fit K.cmp K.matching plan.old tables.now.store }
-    ensures { Fit K.cmp K.matching plan.new tables.now.store }
+    requires { Fit K.cmp plan.old tables.now.store }
+    ensures { Fit K.cmp plan.new tables.now.store }
 {
     for before in 0..faces {
         declare_each(tables, plan, before + 1, copies(alloc, keys)?)?;

@@ -52,7 +52,7 @@ pub trait HatBaseTrait<K: Key> {
         face: u32,
     ) -> Result<(), Memory>
         requires ready { IsReady K.cmp K.matching (hat self.now) (region self.now) plan.old tables.now.store }
-        requires owned { Owns (region self.now) face (acted_all K.cmp K.matching plan.old tables.now.store) }
+        requires owned { Owns (region self.now) face (acted_all K.cmp plan.old tables.now.store) }
         requires broker { hat self.now ≡ BrokerHat }
         ensures { plan.new ≡ plan.old };
 
@@ -66,9 +66,9 @@ pub trait HatBaseTrait<K: Key> {
         face: u32,
     ) -> Result<(), Memory>
         requires ready { IsReady K.cmp K.matching (hat self.now) (region self.now) plan.old tables.now.store }
-        requires owned { Owns (region self.now) face (acted_all K.cmp K.matching plan.old tables.now.store) }
+        requires owned { Owns (region self.now) face (acted_all K.cmp plan.old tables.now.store) }
         requires opened { find_face face tables.now.store.rows ≡ None }
-        requires untold { list_of_face (λ f. f.told) (find_face face (acted_all K.cmp K.matching plan.old tables.now.store).rows) ≡ [] }
+        requires untold { list_of_face (λ f. f.told) (find_face face (acted_all K.cmp plan.old tables.now.store).rows) ≡ [] }
         requires ids { IdsSuffice K.cmp K.matching plan.old (λ s. new_transport_unicast_face_acts K.cmp K.matching (hat self.now) (region self.now) s face) tables.now.store }
         ensures { Plans K.cmp K.matching result plan.old plan.new (λ s. new_transport_unicast_face_acts K.cmp K.matching (hat self.now) (region self.now) s face) tables.now.store };
 
@@ -81,7 +81,7 @@ pub trait HatBaseTrait<K: Key> {
         face: u32,
     ) -> Result<(), Memory>
         requires ready { IsReady K.cmp K.matching (hat self.now) (region self.now) plan.old tables.now.store }
-        requires owned { Owns (region self.now) face (acted_all K.cmp K.matching plan.old tables.now.store) }
+        requires owned { Owns (region self.now) face (acted_all K.cmp plan.old tables.now.store) }
         ensures { Plans K.cmp K.matching result plan.old plan.new (λ s. close_face_acts K.cmp K.matching (hat self.now) (region self.now) s face) tables.now.store };
 
     /// The router that the face means by the node id; `None` exactly where the strategy isn't that of routers, or the

@@ -36,10 +36,10 @@ pub trait HatInterestTrait<K: Key>: HatBaseTrait<K> {
     ) -> Result<RouteInterestResult, Memory>
         requires ready { IsReady K.cmp K.matching (Self.hat self.now) (Self.region self.now) plan.old tables.now.store }
         requires north { Self.region self.now ≡ North }
-        requires opened { IsOpen face (acted_all K.cmp K.matching plan.old tables.now.store) }
-        requires not_asked { IsNotAsked interest.now.mode face id (acted_all K.cmp K.matching plan.old tables.now.store) }
+        requires opened { IsOpen face (acted_all K.cmp plan.old tables.now.store) }
+        requires not_asked { IsNotAsked interest.now.mode face id (acted_all K.cmp plan.old tables.now.store) }
         requires ids { IdsSuffice K.cmp K.matching plan.old (λ s. route_interest_acts K.cmp K.matching (Self.hat self.now) (Self.region self.now) s face id (plain_interest interest.now)) tables.now.store }
-        ensures answer { IfOk result (λ answer. answer ≡ route_result (plain_interest interest.now) (route_interest_acts K.cmp K.matching (Self.hat self.now) (Self.region self.now) (acted_all K.cmp K.matching plan.old tables.now.store) face id (plain_interest interest.now))) }
+        ensures answer { IfOk result (λ answer. answer ≡ route_result (plain_interest interest.now) (route_interest_acts K.cmp K.matching (Self.hat self.now) (Self.region self.now) (acted_all K.cmp plan.old tables.now.store) face id (plain_interest interest.now))) }
         ensures plans { Plans K.cmp K.matching result plan.old plan.new (λ s. route_interest_acts K.cmp K.matching (Self.hat self.now) (Self.region self.now) s face id (plain_interest interest.now)) tables.now.store };
 
     /// The interest ends upstream, since no face of the south holds it any more: each local of its expression and options
@@ -68,9 +68,9 @@ pub trait HatInterestTrait<K: Key>: HatBaseTrait<K> {
         interest_id: InterestId,
     ) -> Result<RouteCurrentDeclareResult, Memory>
         requires ready { IsReady K.cmp K.matching (Self.hat self.now) (Self.region self.now) plan.old tables.now.store }
-        requires owned { Owns (Self.region self.now) face (acted_all K.cmp K.matching plan.old tables.now.store) }
+        requires owned { Owns (Self.region self.now) face (acted_all K.cmp plan.old tables.now.store) }
         requires north { Self.region self.now ≡ North }
-        ensures answer { IfOk result (λ answer. answer ≡ declare_result face interest_id (acted_all K.cmp K.matching plan.old tables.now.store)) }
+        ensures answer { IfOk result (λ answer. answer ≡ declare_result face interest_id (acted_all K.cmp plan.old tables.now.store)) }
         ensures plans { Plans K.cmp K.matching result plan.old plan.new (λ s. route_declare_final_acts K.cmp K.matching (Self.hat self.now) (Self.region self.now) s face interest_id) tables.now.store };
 
     /// A token comes from the face in answer to an interest. Answers as `route_declare_final` does, and changes nothing.
@@ -84,9 +84,9 @@ pub trait HatInterestTrait<K: Key>: HatBaseTrait<K> {
         interest_id: InterestId,
     ) -> Result<RouteCurrentDeclareResult, Memory>
         requires ready { IsReady K.cmp K.matching (Self.hat self.now) (Self.region self.now) plan.old tables.now.store }
-        requires owned { Owns (Self.region self.now) face (acted_all K.cmp K.matching plan.old tables.now.store) }
+        requires owned { Owns (Self.region self.now) face (acted_all K.cmp plan.old tables.now.store) }
         requires north { Self.region self.now ≡ North }
-        ensures answer { IfOk result (λ answer. answer ≡ declare_result face interest_id (acted_all K.cmp K.matching plan.old tables.now.store)) }
+        ensures answer { IfOk result (λ answer. answer ≡ declare_result face interest_id (acted_all K.cmp plan.old tables.now.store)) }
         ensures plan { plan.new ≡ plan.old };
 
     /// Answers an interest in what is there now and later the subscribers that it asks for. A router's strategy answers none,
@@ -101,7 +101,7 @@ pub trait HatInterestTrait<K: Key>: HatBaseTrait<K> {
         interest: &RemoteInterest<K>,
     ) -> Result<(), Memory>
         requires ready { IsReady K.cmp K.matching (Self.hat self.now) (Self.region self.now) plan.old tables.now.store }
-        requires owned { Owns (Self.region self.now) face (acted_all K.cmp K.matching plan.old tables.now.store) }
+        requires owned { Owns (Self.region self.now) face (acted_all K.cmp plan.old tables.now.store) }
         requires not_client { Self.hat self.now ≢ ClientHat }
         ensures { Plans K.cmp K.matching result plan.old plan.new (λ s. send_current_subscribers_acts K.cmp K.matching (Self.hat self.now) (Self.region self.now) s face id (plain_interest interest.now)) tables.now.store };
 
@@ -117,7 +117,7 @@ pub trait HatInterestTrait<K: Key>: HatBaseTrait<K> {
         interest: &RemoteInterest<K>,
     ) -> Result<(), Memory>
         requires ready { IsReady K.cmp K.matching (Self.hat self.now) (Self.region self.now) plan.old tables.now.store }
-        requires owned { Owns (Self.region self.now) face (acted_all K.cmp K.matching plan.old tables.now.store) }
+        requires owned { Owns (Self.region self.now) face (acted_all K.cmp plan.old tables.now.store) }
         requires not_client { Self.hat self.now ≢ ClientHat }
         ensures { Plans K.cmp K.matching result plan.old plan.new (λ s. send_current_queryables_acts K.cmp K.matching (Self.hat self.now) (Self.region self.now) s face id (plain_interest interest.now)) tables.now.store };
 
@@ -133,7 +133,7 @@ pub trait HatInterestTrait<K: Key>: HatBaseTrait<K> {
         interest: &RemoteInterest<K>,
     ) -> Result<(), Memory>
         requires ready { IsReady K.cmp K.matching (Self.hat self.now) (Self.region self.now) plan.old tables.now.store }
-        requires owned { Owns (Self.region self.now) face (acted_all K.cmp K.matching plan.old tables.now.store) }
+        requires owned { Owns (Self.region self.now) face (acted_all K.cmp plan.old tables.now.store) }
         requires not_client { Self.hat self.now ≢ ClientHat }
         requires ids { IdsSuffice K.cmp K.matching plan.old (λ s. send_current_tokens_acts K.cmp K.matching (Self.hat self.now) (Self.region self.now) s face id (plain_interest interest.now)) tables.now.store }
         ensures { Plans K.cmp K.matching result plan.old plan.new (λ s. send_current_tokens_acts K.cmp K.matching (Self.hat self.now) (Self.region self.now) s face id (plain_interest interest.now)) tables.now.store };
@@ -150,7 +150,7 @@ pub trait HatInterestTrait<K: Key>: HatBaseTrait<K> {
     ) -> Result<(), Memory>
         requires ready { IsReady K.cmp K.matching (Self.hat self.now) (Self.region self.now) plan.old tables.now.store }
         requires not_client { Self.hat self.now ≢ ClientHat }
-        requires asked { IsAskedIn (Self.region self.now) ask (acted_all K.cmp K.matching plan.old tables.now.store) }
+        requires asked { IsAskedIn (Self.region self.now) ask (acted_all K.cmp plan.old tables.now.store) }
         requires ids { IdsSuffice K.cmp K.matching plan.old (λ s. propagate_current_token_acts K.cmp K.matching (Self.hat self.now) (Self.region self.now) s ask expr.now) tables.now.store }
         ensures { Plans K.cmp K.matching result plan.old plan.new (λ s. propagate_current_token_acts K.cmp K.matching (Self.hat self.now) (Self.region self.now) s ask expr.now) tables.now.store };
 
@@ -164,7 +164,7 @@ pub trait HatInterestTrait<K: Key>: HatBaseTrait<K> {
         id: InterestId,
     ) -> Result<(), Memory>
         requires ready { IsReady K.cmp K.matching (Self.hat self.now) (Self.region self.now) plan.old tables.now.store }
-        requires owned { Owns (Self.region self.now) face (acted_all K.cmp K.matching plan.old tables.now.store) }
+        requires owned { Owns (Self.region self.now) face (acted_all K.cmp plan.old tables.now.store) }
         ensures { Plans K.cmp K.matching result plan.old plan.new (λ s. send_declare_final_acts K.cmp K.matching (Self.hat self.now) (Self.region self.now) s face id) tables.now.store };
 
     /// The face holds the interest until its final. Never asked of the client strategy.
@@ -178,9 +178,9 @@ pub trait HatInterestTrait<K: Key>: HatBaseTrait<K> {
         interest: &RemoteInterest<K>,
     ) -> Result<(), Memory>
         requires ready { IsReady K.cmp K.matching (Self.hat self.now) (Self.region self.now) plan.old tables.now.store }
-        requires owned { Owns (Self.region self.now) face (acted_all K.cmp K.matching plan.old tables.now.store) }
+        requires owned { Owns (Self.region self.now) face (acted_all K.cmp plan.old tables.now.store) }
         requires not_client { Self.hat self.now ≢ ClientHat }
-        requires not_held { IsNotHeld face id (acted_all K.cmp K.matching plan.old tables.now.store) }
+        requires not_held { IsNotHeld face id (acted_all K.cmp plan.old tables.now.store) }
         ensures { Plans K.cmp K.matching result plan.old plan.new (λ s. register_interest_acts K.cmp K.matching (Self.hat self.now) (Self.region self.now) s face id (plain_interest interest.now)) tables.now.store };
 
     /// The interest that the face holds under the id ends: a face of the south is told that what it doesn't want now is
@@ -195,12 +195,12 @@ pub trait HatInterestTrait<K: Key>: HatBaseTrait<K> {
         id: InterestId,
     ) -> Result<Option<RemoteInterest<K>>, Memory>
         requires ready { IsReady K.cmp K.matching (Self.hat self.now) (Self.region self.now) plan.old tables.now.store }
-        requires owned { Owns (Self.region self.now) face (acted_all K.cmp K.matching plan.old tables.now.store) }
-        requires held { IsHeld face id (acted_all K.cmp K.matching plan.old tables.now.store) }
+        requires owned { Owns (Self.region self.now) face (acted_all K.cmp plan.old tables.now.store) }
+        requires held { IsHeld face id (acted_all K.cmp plan.old tables.now.store) }
         ensures answer { IfOk result (λ answer. option_map plain_interest answer
             ≡ interest_ended K.cmp K.matching face id
-            (acted_all K.cmp K.matching plan.old tables.now.store).rows
-            (acted_all K.cmp K.matching plan.new tables.now.store).rows) }
+            (acted_all K.cmp plan.old tables.now.store).rows
+            (acted_all K.cmp plan.new tables.now.store).rows) }
         ensures plans { Plans K.cmp K.matching result plan.old plan.new (λ s. unregister_interest_acts K.cmp K.matching (Self.hat self.now) (Self.region self.now) s face id) tables.now.store };
 
     /// What south-bound faces of the strategy's region hold: each pair of expression and kept options once, asked for

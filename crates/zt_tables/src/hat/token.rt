@@ -44,8 +44,8 @@ pub trait HatTokenTrait<K: Key>: HatBaseTrait<K> {
         node_id: NodeId,
     ) -> Result<(), Memory>
         requires ready { IsReady K.cmp K.matching (Self.hat self.now) (Self.region self.now) plan.old tables.now.store }
-        requires owned { Owns (Self.region self.now) face (acted_all K.cmp K.matching plan.old tables.now.store) }
-        requires accepted { IsAccepted K.cmp K.matching (DeclareToken face id expr.now node_id None) (acted_all K.cmp K.matching plan.old tables.now.store) }
+        requires owned { Owns (Self.region self.now) face (acted_all K.cmp plan.old tables.now.store) }
+        requires accepted { IsAccepted K.cmp K.matching (DeclareToken face id expr.now node_id None) (acted_all K.cmp plan.old tables.now.store) }
         ensures { Plans K.cmp K.matching result plan.old plan.new (λ s. register_token_acts K.cmp K.matching (Self.hat self.now) (Self.region self.now) s face id expr.now node_id) tables.now.store };
 
     /// The face undeclares a token, where no refusal holds: the live row of the id goes, if it is there. In a router region
@@ -62,9 +62,9 @@ pub trait HatTokenTrait<K: Key>: HatBaseTrait<K> {
         node_id: NodeId,
     ) -> Result<K, Memory>
         requires ready { IsReady K.cmp K.matching (Self.hat self.now) (Self.region self.now) plan.old tables.now.store }
-        requires owned { Owns (Self.region self.now) face (acted_all K.cmp K.matching plan.old tables.now.store) }
-        requires accepted { IsAccepted K.cmp K.matching (UndeclareToken face id (option_copied expr) node_id) (acted_all K.cmp K.matching plan.old tables.now.store) }
-        ensures answer { IfOk result (λ forgotten. Some forgotten ≡ expression_undeclared K.cmp K.matching (Self.hat self.now) face id (option_copied expr.entry) (acted_all K.cmp K.matching plan.old tables.now.store).rows) }
+        requires owned { Owns (Self.region self.now) face (acted_all K.cmp plan.old tables.now.store) }
+        requires accepted { IsAccepted K.cmp K.matching (UndeclareToken face id (option_copied expr) node_id) (acted_all K.cmp plan.old tables.now.store) }
+        ensures answer { IfOk result (λ forgotten. Some forgotten ≡ expression_undeclared K.cmp K.matching (Self.hat self.now) face id (option_copied expr.entry) (acted_all K.cmp plan.old tables.now.store).rows) }
         ensures plans { Plans K.cmp K.matching result plan.old plan.new (λ s. unregister_token_acts K.cmp K.matching (Self.hat self.now) (Self.region self.now) s face id (option_copied expr.entry) node_id) tables.now.store };
 
     /// Tells the faces of the strategy's region of the expression, which was registered in `source`. A router's strategy adds

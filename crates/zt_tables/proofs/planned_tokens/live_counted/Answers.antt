@@ -33,8 +33,8 @@ returns-in-AddRouted-clause-step g c fit added =
     let matching = g.K.Key.matching in
     let acts = map plain_change c.args.before.now in
     let store = c.args.tables.now.store in
-    let s = acted_all cmp matching acts store in
-    let row = row_at cmp matching c.in-AddRouted.region c.in-AddRouted.source c.in-AddRouted.key in
+    let s = acted_all cmp acts store in
+    let row = row_at cmp c.in-AddRouted.region c.in-AddRouted.source c.in-AddRouted.key in
     let live = c.is_live_row.ensures ∙ ap (λ own. is_live_row cmp c.args.expr.now (passes c.args.test) own row) (c.zid.ensures ∙ sym (zid-after cmp matching acts store)) in
     c.more_where-in-AddRouted.ensures.count ∙ ap (λ (b : Bool). cond b (c.args.count + 1) c.args.count) live
     ∙ ap (λ (x : Change g.row.K.Denot). count_step cmp c.args.expr.now (passes c.args.test) matching (plain_change x) s c.args.count) (sym c.in-AddRouted.is)
@@ -45,8 +45,8 @@ returns-in-DropRouted-clause-step g c fit added =
     let matching = g.K.Key.matching in
     let acts = map plain_change c.args.before.now in
     let store = c.args.tables.now.store in
-    let s = acted_all cmp matching acts store in
-    let row = row_at cmp matching c.in-DropRouted.region c.in-DropRouted.source c.in-DropRouted.key in
+    let s = acted_all cmp acts store in
+    let row = row_at cmp c.in-DropRouted.region c.in-DropRouted.source c.in-DropRouted.key in
     let live = c.is_live_row-in-DropRouted.ensures ∙ ap (λ own. is_live_row cmp c.args.expr.now (passes c.args.test) own row) (c.zid-in-DropRouted.ensures ∙ sym (zid-after cmp matching acts store)) in
     c.less_where-in-DropRouted.ensures.count ∙ ap (λ (b : Bool). cond b (c.args.count - 1) c.args.count) live
     ∙ ap (λ (x : Change g.row.K.Denot). count_step cmp c.args.expr.now (passes c.args.test) matching (plain_change x) s c.args.count) (sym c.in-DropRouted.is)

@@ -27,7 +27,7 @@ returns g c fit =
     let matching = g.K.Key.matching in
     let store = c.args.tables.now.store in
     let changes = c.changes-changes.result.now in
-    let fits = subst (λ (acts : List (Act g.row.K.Denot)). Fit cmp matching acts store) (sym c.changes-changes.ensures) fit in
+    let fits = subst (λ (acts : List (Act g.row.K.Denot)). Fit cmp acts store) (sym c.changes-changes.ensures) fit in
     c.loop-i.invariant.counted fits
-    ∙ ap (λ (xs : List (Change g.row.K.Denot)). live_count cmp c.args.expr.now (passes c.args.test) (acted_all cmp matching (map plain_change xs) store).rows) (take_all c.loop-i.i changes (omega arith))
-    ∙ ap (λ (acts : List (Act g.row.K.Denot)). live_count cmp c.args.expr.now (passes c.args.test) (acted_all cmp matching acts store).rows) c.changes-changes.ensures
+    ∙ ap (λ (xs : List (Change g.row.K.Denot)). live_count cmp c.args.expr.now (passes c.args.test) (acted_all cmp (map plain_change xs) store).rows) (take_all c.loop-i.i changes (omega arith))
+    ∙ ap (λ (acts : List (Act g.row.K.Denot)). live_count cmp c.args.expr.now (passes c.args.test) (acted_all cmp acts store).rows) c.changes-changes.ensures

@@ -9,6 +9,6 @@ pub returns : goal.returns
 returns g c fit =
     let cmp = g.K.Ord.cmp in
     let matching = g.K.Key.matching in
-    let after = acted_all cmp matching c.args.self.now c.args.tables.now.store in
+    let after = acted_all cmp c.args.self.now c.args.tables.now.store in
     c.routed.ensures fit
-    ∙ ap (λ zid. list_any (is_routed_row cmp matching (row_at cmp matching c.args.region zid c.args.expr.now)) after.rows.routed) (c.zid.ensures ∙ sym (zid-after cmp matching c.args.self.now c.args.tables.now.store))
+    ∙ ap (λ zid. list_any (is_routed_row cmp (row_at cmp c.args.region zid c.args.expr.now)) after.rows.routed) (c.zid.ensures ∙ sym (zid-after cmp matching c.args.self.now c.args.tables.now.store))
