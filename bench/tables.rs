@@ -1,5 +1,5 @@
 //! Tokens that faces declare and are told, and how many of each expression a region has, in plain Rust, as a measure for
-//! the program `zt_trial`, which does the same on the tables of `zt_tables`. It is no part of the gate.
+//! the program `zt_trial`, which does the same on the tables of `zt_store`. It is no part of the gate.
 //!
 //!     rustc -O --edition 2021 -o tables bench/tables.rs
 //!     time ./tables one 100000 10             # on one face

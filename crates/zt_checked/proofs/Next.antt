@@ -14,7 +14,7 @@ use Rattle.zt_model.specs.Parts.{find_face}
 use Rattle.zt_model.specs.Rows.{Face, Rows}
 use Rattle.zt_changes.specs.Drawn.{count_drawn, ids_of}
 use Rattle.zt_changes.specs.Touches.{Changes, ChangesAll, Closes, Opens, Touch, face-acted, made-acted, made_by, touch, touched}
-use Rattle.zt_tables.specs.HatPlans.{acted_all-append, count_drawn-append, fit-append}
+use Rattle.zt_acts.specs.HatPlans.{acted_all-append, count_drawn-append, fit-append}
 use Rattle.zt_checked.specs.Checked.{IsChecked, IsNext, draws_next}
 
 -- ---- how many faces were made

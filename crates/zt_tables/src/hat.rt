@@ -5,19 +5,16 @@ ghost use Rattle.zt_tables.specs.HatAnswers.{Plans, closing_tokens};
 ghost use Rattle.zt_tables.specs.HatConditions.{IsReady, Owns};
 ghost use Rattle.zt_tables.specs.HatTokenActs.{unregister_face_entities_acts};
 
-use crate::plan::Plan;
-use crate::tables::Tables;
+use zt_store::{Plan, Tables};
 use std::alloc::Global;
 use zt_keys::{Key, Memory};
 
 mod base;
 mod interests;
-mod laws;
 mod token;
 
 pub use base::HatBaseTrait;
 pub use interests::HatInterestTrait;
-pub use laws::regions_tell_together;
 pub use token::HatTokenTrait;
 
 /// The strategy of a region: zenoh's `HatTrait`. It says what is told to the faces of its region, and what of theirs

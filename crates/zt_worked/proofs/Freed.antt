@@ -14,7 +14,7 @@ use Rattle.zt_rows.specs.ById.{next_id}
 use Rattle.zt_changes.specs.After.{at_id-put}
 use Rattle.zt_changes.specs.Queries.{from_face}
 use Rattle.zt_changes.specs.Touches.{face-acted}
-use Rattle.zt_tables.specs.HatPlans.{acted_all-append, fit-append}
+use Rattle.zt_acts.specs.HatPlans.{acted_all-append, fit-append}
 use Rattle.zt_worked.specs.Free.{IsFreeFrom}
 
 no-row : {A : Type 0} (rows : ById A) → None ≡ next_id None rows → rows ≡ []

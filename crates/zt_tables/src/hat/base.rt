@@ -9,9 +9,8 @@ ghost use Rattle.zt_tables.specs.HatAnswers.{Plans, is_owned, mode_of, named_sou
 ghost use Rattle.zt_tables.specs.HatConditions.{IdsSuffice, IsReady, Owns};
 ghost use Rattle.zt_tables.specs.HatInterestActs.{close_face_acts, new_transport_unicast_face_acts};
 
-use crate::plan::Plan;
-use crate::tables::Tables;
 use std::alloc::Global;
+use zt_store::{Plan, Tables};
 use zt_keys::{Key, Memory};
 use zt_region::{NodeId, Region, WhatAmI, Zid};
 

@@ -9,9 +9,8 @@ ghost use Rattle.zt_tables.specs.HatConditions.{IsNotAsked, IsHeld, IsNotHeld, I
 ghost use Rattle.zt_tables.specs.HatInterestActs.{propagate_current_token_acts, register_interest_acts, route_declare_final_acts, route_interest_acts, route_interest_final_acts, send_current_queryables_acts, send_current_subscribers_acts, send_current_tokens_acts, send_declare_final_acts, unregister_interest_acts};
 
 use crate::hat::base::HatBaseTrait;
-use crate::plan::Plan;
-use crate::tables::Tables;
 use std::alloc::Global;
+use zt_store::{Plan, Tables};
 use zt_keys::{Key, Memory};
 use zt_protocol::InterestId;
 use zt_rows::{RemoteInterest, RouteCurrentDeclareResult, RouteInterestResult};

@@ -13,9 +13,8 @@ ghost use Rattle.zt_tables.specs.HatConditions.{IdsSuffice, IsAccepted, IsReady,
 ghost use Rattle.zt_tables.specs.HatTokenActs.{propagate_token_acts, register_token_acts, unpropagate_token_acts, unregister_token_acts};
 
 use crate::hat::base::HatBaseTrait;
-use crate::plan::Plan;
-use crate::tables::Tables;
 use std::alloc::Global;
+use zt_store::{Plan, Tables};
 use zt_keys::{Key, Memory};
 use zt_protocol::TokenId;
 use zt_region::{NodeId, Region};

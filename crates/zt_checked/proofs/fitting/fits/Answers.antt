@@ -7,7 +7,7 @@ use Rattle.zt_model.specs.Rows.{Face}
 use Rattle.zt_model.specs.Strategy.{is_region_of}
 use Rattle.zt_rows.specs.Change.{plain_change}
 use Rattle.zt_rows.specs.declared.change.Change.{Change}
-use Rattle.zt_tables.specs.HatPlans.{acted_all-same}
+use Rattle.zt_acts.specs.HatPlans.{acted_all-same}
 use Rattle.zt_checked.proofs.WhatFits.{row-lacks, row-stands}
 use Rattle.zt_checked.proofs.fitting.fits.Goals as goal
 

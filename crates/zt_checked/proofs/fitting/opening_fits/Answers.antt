@@ -4,7 +4,7 @@ use Rattle.zt_region.specs.declared.region.Region.{Region}
 use Rattle.zt_ordered.specs.Test.{and_both}
 use Rattle.zt_model.specs.Acts.{acted_all, fits}
 use Rattle.zt_model.specs.Strategy.{is_region_of}
-use Rattle.zt_tables.specs.HatPlans.{acted_all-same}
+use Rattle.zt_acts.specs.HatPlans.{acted_all-same}
 use Rattle.zt_checked.proofs.Next.{made-most}
 use Rattle.zt_checked.proofs.WhatFits.{number-left}
 use Rattle.zt_checked.proofs.fitting.opening_fits.Goals as goal

@@ -3,7 +3,7 @@ use Rattle.std.proofs.Common.{◌≡◌, ◌∙◌, ap, sym}
 use Rattle.zt_region.specs.declared.region.Region.{Region}
 use Rattle.zt_model.specs.Acts.{acted_all, fits}
 use Rattle.zt_model.specs.Strategy.{is_region_of}
-use Rattle.zt_tables.specs.HatPlans.{acted_all-same}
+use Rattle.zt_acts.specs.HatPlans.{acted_all-same}
 use Rattle.zt_checked.proofs.fitting.routed_goes.Goals as goal
 
 pub returns-then-has_region : goal.returns-then-has_region

@@ -1,0 +1,10 @@
+pub mod HatPlans
+pub mod HatSends
+pub mod HatTokenSends
+pub mod HatRegions
+pub mod HatDraws
+pub mod HatAlike
+pub mod HatApart
+pub mod HatPhases
+pub mod HatInterestSends
+pub mod HatSaid

@@ -1,0 +1,10 @@
+//! Laws of what strategies plan: the acts of a call as its trait defines them, beside what the gateway says to that call.
+//!
+//! The acts that tell, forget, route, end and open send what the model says (`specs/HatTokenSends`, `HatInterestSends`,
+//! `HatPhases`), draw as many ids as their messages (`HatDraws`), and no region's strategy disturbs another's (`HatAlike`,
+//! `HatApart`). `HatPlans` says what the changes of several calls leave, draw and fit together.
+#![tactic(auto)]
+
+mod laws;
+
+pub use laws::regions_tell_together;
