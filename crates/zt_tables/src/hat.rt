@@ -5,9 +5,9 @@ ghost use Rattle.zt_tables.specs.HatAnswers.{Plans, closing_tokens};
 ghost use Rattle.zt_tables.specs.HatConditions.{IsReady, Owns};
 ghost use Rattle.zt_tables.specs.HatTokenActs.{unregister_face_entities_acts};
 
-use zt_store::{Plan, Tables};
 use std::alloc::Global;
 use zt_keys::{Key, Memory};
+use zt_store::{Plan, Tables};
 
 mod base;
 mod interests;

@@ -10,9 +10,9 @@ ghost use Rattle.zt_tables.specs.HatConditions.{IdsSuffice, IsReady, Owns};
 ghost use Rattle.zt_tables.specs.HatInterestActs.{close_face_acts, new_transport_unicast_face_acts};
 
 use std::alloc::Global;
-use zt_store::{Plan, Tables};
 use zt_keys::{Key, Memory};
 use zt_region::{NodeId, Region, WhatAmI, Zid};
+use zt_store::{Plan, Tables};
 
 /// What a strategy is, which faces are its own, and what it plans when one opens or closes: zenoh's `HatBaseTrait`.
 ///

@@ -10,10 +10,10 @@ ghost use Rattle.zt_tables.specs.HatInterestActs.{propagate_current_token_acts, 
 
 use crate::hat::base::HatBaseTrait;
 use std::alloc::Global;
-use zt_store::{Plan, Tables};
 use zt_keys::{Key, Memory};
 use zt_protocol::InterestId;
 use zt_rows::{RemoteInterest, RouteCurrentDeclareResult, RouteInterestResult};
+use zt_store::{Plan, Tables};
 
 /// A strategy's part when an interest is asked, sent on, answered or ended: zenoh's `HatInterestTrait`.
 ///

@@ -14,11 +14,11 @@ ghost use Rattle.zt_tables.specs.HatTokenActs.{propagate_token_acts, register_to
 
 use crate::hat::base::HatBaseTrait;
 use std::alloc::Global;
-use zt_store::{Plan, Tables};
 use zt_keys::{Key, Memory};
 use zt_protocol::TokenId;
 use zt_region::{NodeId, Region};
 use zt_rows::Sources;
+use zt_store::{Plan, Tables};
 
 /// A strategy's part when a token is declared or undeclared: zenoh's `HatTokenTrait`.
 ///
