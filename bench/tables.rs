@@ -1,5 +1,5 @@
 //! Tokens that faces declare and are told, and how many of each expression a region has, in plain Rust, as a measure for
-//! the program `zt_trial`, which does the same on the tables of `zt_store`. It is no part of the gate.
+//! the program `zt_tables_bench`, which does the same on the tables of `zt_store`. It is no part of the gate.
 //!
 //!     rustc -O --edition 2021 -o tables bench/tables.rs
 //!     time ./tables one 100000 10             # on one face
@@ -7,10 +7,10 @@
 //!     time ./tables held 10000 100000 10      # interests, and the holders of each key
 //!
 //! The last word is how many rounds of declaring, asking and dropping there are; the keys are made once, before them.
-//! Both programs print the same, and `zt_trial` is to take at most 1.5 times the processor time. Measured on a shared
+//! Both programs print the same, and `zt_tables_bench` is to take at most 1.5 times the processor time. Measured on a shared
 //! machine with all else stopped, milliseconds of user time with the making of the keys, the best of seven:
 //!
-//!                          HashMap    zt_trial
+//!                          HashMap    zt_tables_bench
 //!     one 100000                96          83
 //!     one 100000 10            923         766
 //!     many 10000 100000        109         114

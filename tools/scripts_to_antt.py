@@ -1,5 +1,5 @@
 #!/usr/bin/env python3
-"""Writes the crate zt_scripts: laws that the definitions give each script its transcript.
+"""Writes the crate zt_model_test: laws that the definitions give each script its transcript.
 
 usage: scripts_to_antt.py FOLDER..        the laws of every script in these folders
        scripts_to_antt.py --only BASE..   those of the scripts BASE.in with the transcripts BASE.out, to try them
@@ -14,7 +14,7 @@ from string import Template
 
 HERE = os.path.dirname(os.path.abspath(__file__))
 ROOT = os.path.join(HERE, '..')
-CRATE = os.path.join(ROOT, 'crates', 'zt_scripts')
+CRATE = os.path.join(ROOT, 'crates', 'zt_model_test')
 LINES_OF_A_PART = 640
 
 # ---- keys
@@ -243,7 +243,7 @@ use Rattle.zt_protocol.specs.Plain.{%s}
 use Rattle.zt_protocol.specs.declared.errors.Refusal.TheVariants as refusal
 use Rattle.zt_protocol.specs.declared.interests.InterestMode.TheVariants.{Current, Future, CurrentFuture}
 use Rattle.zt_protocol.specs.declared.messages.Message.TheVariants as message
-use Rattle.zt_scripts.specs.Script.{Script, options, sent, zid}
+use Rattle.zt_model_test.specs.Script.{Script, options, sent, zid}
 ''' % ', '.join([
     'DeclareToken', 'UndeclareToken', 'Interest', 'InterestFinal', 'DeclareFinal', 'CloseFace', 'SetEntities', 'Gateway', 'Session',
     'Face as FaceLine', 'Link as LinkLine', 'Unlink', 'Step', 'Speak', 'Moment', 'SetTreesAt'])
@@ -256,9 +256,9 @@ $definitions''')
 LAWS = Template('''-- The laws of these scripts, by evaluation.
 -- $made
 use Rattle.std.specs.Prelude.{refl}
-use Rattle.zt_scripts.specs.Script.{ComesOut}
-use Rattle.zt_scripts.specs.Part$n as part
-use Rattle.zt_scripts.proofs.Opened.{opened}
+use Rattle.zt_model_test.specs.Script.{ComesOut}
+use Rattle.zt_model_test.specs.Part$n as part
+use Rattle.zt_model_test.proofs.Opened.{opened}
 
 $laws''')
 
@@ -268,8 +268,8 @@ $name = (refl, refl)
 ''')
 
 ANSWERS = Template('''-- $made
-use Rattle.zt_scripts.proofs.Part$n as law
-use Rattle.zt_scripts.proofs.part_${n}_comes_out.Goals as goal
+use Rattle.zt_model_test.proofs.Part$n as law
+use Rattle.zt_model_test.proofs.part_${n}_comes_out.Goals as goal
 
 pub returns : goal.returns
 returns g = record {
@@ -302,7 +302,7 @@ LIBRARY = Template('''//! The scripts of `tests/definitions`, worked by the defi
 //! $made
 #![tactic(auto)]
 
-ghost use Rattle.zt_scripts.specs.Script.{ComesOut};
+ghost use Rattle.zt_model_test.specs.Script.{ComesOut};
 $uses$functions''')
 
 def used(names, body):
@@ -359,7 +359,7 @@ def write_crate(bases):
     write('specs/Lib.antt', 'pub mod Script\n' + modules)
     clauses = lambda n, part: ''.join('    ensures %s { ComesOut part%d.%s }\n' % (name, n, name) for name, _ in part)
     functions = ''.join(FUNCTION.substitute(n=n, clauses=clauses(n, part)) for n, part in parts)
-    uses = ''.join('ghost use Rattle.zt_scripts.specs.Part%d as part%d;\n' % (n, n) for n, _ in parts)
+    uses = ''.join('ghost use Rattle.zt_model_test.specs.Part%d as part%d;\n' % (n, n) for n, _ in parts)
     write('src/lib.rt', LIBRARY.substitute(made=MADE, uses=uses, functions=functions))
     print('%d scripts in %d parts' % (sum(len(part) for _, part in parts), len(parts)))
 

@@ -1,5 +1,0 @@
-use Rattle.zt_model.specs.Acts.{Fit}
-use Rattle.zt_worked.proofs.many.declare_many.Given as goal
-
-abbrev pub invariant-loop-before : goal.invariant-loop-before
-invariant-loop-before g l = Fit g.K.Ord.cmp g.K.Key.matching l.plan l.tables.store
