@@ -20,10 +20,10 @@ tested-none test (Some x) h = cc
 
 pub returns-in-Some : goal.returns-in-Some
 returns-in-Some g c =
-    let face = find_face c.args.f (acted_all g.K.Ord.cmp g.K.Key.matching (map plain_change c.args.changes.now) c.args.tables.now.store).rows in
+    let face = find_face c.args.f (acted_all g.K.Ord.cmp (map plain_change c.args.changes.now) c.args.tables.now.store).rows in
     c.passes.ensures ∙ tested-known (passes c.args.test) _ face c.in-Some.ensures
 
 pub returns-in-None : goal.returns-in-None
 returns-in-None g c =
-    let face = find_face c.args.f (acted_all g.K.Ord.cmp g.K.Key.matching (map plain_change c.args.changes.now) c.args.tables.now.store).rows in
+    let face = find_face c.args.f (acted_all g.K.Ord.cmp (map plain_change c.args.changes.now) c.args.tables.now.store).rows in
     tested-none (passes c.args.test) face c.in-None.ensures

@@ -24,4 +24,4 @@ loop-i-preserved g c =
 pub returns : goal.returns
 returns g c fit added =
     c.loop-i.invariant.tokens fit added
-    ∙ ap (λ (xs : List (Change g.row.K.Denot)). tokens_of g.K.Ord.cmp c.args.expr.now (tokens_in c.args.f (acted_all g.K.Ord.cmp g.K.Key.matching (map plain_change xs) c.args.tables.now.store))) (take_all c.loop-i.i c.args.changes.now (omega arith))
+    ∙ ap (λ (xs : List (Change g.row.K.Denot)). tokens_of g.K.Ord.cmp c.args.expr.now (tokens_in c.args.f (acted_all g.K.Ord.cmp (map plain_change xs) c.args.tables.now.store))) (take_all c.loop-i.i c.args.changes.now (omega arith))

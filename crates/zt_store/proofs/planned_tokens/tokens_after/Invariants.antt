@@ -8,8 +8,8 @@ use Rattle.zt_store.proofs.planned_tokens.tokens_after.Given as goal
 
 abbrev pub invariant-loop-i : goal.invariant-loop-i
 invariant-loop-i g l = record {
-  tokens : Fit g.K.Ord.cmp g.K.Key.matching (map plain_change l.changes) l.tables.store
+  tokens : Fit g.K.Ord.cmp (map plain_change l.changes) l.tables.store
       → (list_any (adds_token g.K.Ord.cmp l.expr) (map plain_change l.changes) ≡ true → l.adds ≡ true)
-      → l.count ≡ tokens_of g.K.Ord.cmp l.expr (tokens_in l.f (acted_all g.K.Ord.cmp g.K.Key.matching (map plain_change (take l.i l.changes)) l.tables.store));
+      → l.count ≡ tokens_of g.K.Ord.cmp l.expr (tokens_in l.f (acted_all g.K.Ord.cmp (map plain_change (take l.i l.changes)) l.tables.store));
   most : l.count < 18446744073709551616 + l.i;
 }

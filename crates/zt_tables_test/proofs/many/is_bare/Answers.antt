@@ -6,4 +6,4 @@ use Rattle.zt_tables_test.proofs.many.is_bare.Goals as goal
 
 pub returns-in-None : goal.returns-in-None
 returns-in-None g c there =
-    bare (find_face c.args.f (acted_all g.K.Ord.cmp g.K.Key.matching c.args.plan.now c.args.tables.now.store).rows) (c.in-None.ensures c.requires) (sym c.has_face.ensures ∙ there)
+    bare (find_face c.args.f (acted_all g.K.Ord.cmp c.args.plan.now c.args.tables.now.store).rows) (c.in-None.ensures c.requires) (sym c.has_face.ensures ∙ there)

@@ -18,6 +18,6 @@ returns-then-has_face g c =
     let less : min 4294967295 count < left = omega (arith, c.if-drawn-left.true, c.drawn-drawn.ensures) in
     by_option (find_face f s.rows)
     (λ x is. rw c.drawn-drawn.ensures
-    (next-left left count x (find_face f (acted_all g.K.Ord.cmp g.K.Key.matching acts s).rows) (sym (c.left_ids-left.ensures ∙ ap ids_left is)) less (sym c.has_face.ensures ∙ c.if-has_face.true)
+    (next-left left count x (find_face f (acted_all g.K.Ord.cmp acts s).rows) (sym (c.left_ids-left.ensures ∙ ap ids_left is)) less (sym c.has_face.ensures ∙ c.if-has_face.true)
     (c.requires.next f x (found-made f s.rows.made x s.rows.faces c.faces_rise.ensures.made is) is)))
     (λ lost. let nothing : left ≡ 0 = c.left_ids-left.ensures ∙ ap ids_left lost in absurd (omega (arith, nothing, less)))

@@ -15,4 +15,4 @@ returns-in-Some g c has =
     let acts = c.args.plan.now in
     let s = c.args.tables.now.store in
     let region = ap (λ (rs : List Region). is_region_of rs c.args.row.now.region) (acted_all-same g.K.Ord.cmp g.K.Key.matching acts s).regions ∙ sym c.has_region.ensures ∙ has in
-    and_both _ _ region (number-left s.rows.made c.in-Some.number c.len.result (acted_all g.K.Ord.cmp g.K.Key.matching acts s).rows.made c.in-Some.ensures c.if-number-len-le-MOST_FACES.true (omega (arith, made-most g.K.Ord.cmp g.K.Key.matching acts s, c.len.ensures.len)))
+    and_both _ _ region (number-left s.rows.made c.in-Some.number c.len.result (acted_all g.K.Ord.cmp acts s).rows.made c.in-Some.ensures c.if-number-len-le-MOST_FACES.true (omega (arith, made-most g.K.Ord.cmp g.K.Key.matching acts s, c.len.ensures.len)))

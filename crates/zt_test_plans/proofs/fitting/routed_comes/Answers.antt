@@ -12,7 +12,7 @@ returns-then-has_region g c =
     let s = c.args.tables.now.store in
     let acts = c.args.plan.now in
     let same = (acted_all-same g.K.Ord.cmp g.K.Key.matching acts s).regions in
-    let has : is_region_of (acted_all g.K.Ord.cmp g.K.Key.matching acts s).rows.regions c.args.region ≡ true = ap (λ (rs : List Region). is_region_of rs c.args.region) same ∙ sym c.has_region.ensures ∙ c.if-has_region.true in
+    let has : is_region_of (acted_all g.K.Ord.cmp acts s).rows.regions c.args.region ≡ true = ap (λ (rs : List Region). is_region_of rs c.args.region) same ∙ sym c.has_region.ensures ∙ c.if-has_region.true in
     rw has (ap not (c.routed.ensures c.requires))
 
 pub returns-else-has_region : goal.returns-else-has_region
@@ -21,5 +21,5 @@ returns-else-has_region g c =
     let s = c.args.tables.now.store in
     let acts = c.args.plan.now in
     let same = (acted_all-same g.K.Ord.cmp g.K.Key.matching acts s).regions in
-    let has : is_region_of (acted_all g.K.Ord.cmp g.K.Key.matching acts s).rows.regions c.args.region ≡ false = ap (λ (rs : List Region). is_region_of rs c.args.region) same ∙ sym c.has_region.ensures ∙ c.if-has_region.false in
+    let has : is_region_of (acted_all g.K.Ord.cmp acts s).rows.regions c.args.region ≡ false = ap (λ (rs : List Region). is_region_of rs c.args.region) same ∙ sym c.has_region.ensures ∙ c.if-has_region.false in
     rw has refl

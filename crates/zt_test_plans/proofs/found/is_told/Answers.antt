@@ -7,5 +7,5 @@ use Rattle.zt_test_plans.proofs.found.is_told.Goals as goal
 
 pub returns : goal.returns
 returns g c =
-    let face = find_face c.args.f (acted_all g.K.Ord.cmp g.K.Key.matching c.args.plan.now c.args.tables.now.store).rows in
+    let face = find_face c.args.f (acted_all g.K.Ord.cmp c.args.plan.now c.args.tables.now.store).rows in
     c.is_some.ensures ∙ ap is_some (c.told.ensures c.requires) ∙ told-in g.K.Ord.cmp g.K.Key.matching c.args.expr.now face

@@ -56,7 +56,7 @@ returns-clause-faces g c =
     rw (
       ← c.self.view_is,
       at,
-      faces-put c.in-Some.place.0 (answered_with g.K.Ord.cmp g.K.Key.matching c.args.expr c.in-Some.place.1) c.in-Some-get_mut.face.now c.answer.new.self c.self.inside.rows.rows c.self.invariant.numbered c.self.invariant.in_order c.in-Some-get_mut.ensures.value (ap (λ (x : FaceTable _). x.face) is),
+      faces-put c.in-Some.place.0 (answered_with g.K.Ord.cmp c.args.expr c.in-Some.place.1) c.in-Some-get_mut.face.now c.answer.new.self c.self.inside.rows.rows c.self.invariant.numbered c.self.invariant.in_order c.in-Some-get_mut.ensures.value (ap (λ (x : FaceTable _). x.face) is),
       served-kept c.in-Some.place.0 c.in-Some-get_mut.face.now c.answer.new.self c.self.inside.rows.rows c.self.invariant.in_order c.in-Some-get_mut.ensures.value (ap (λ (x : FaceTable _). x.served) is),
     ) refl
 

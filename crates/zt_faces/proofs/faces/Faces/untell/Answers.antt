@@ -22,7 +22,7 @@ invariant_of-self g c =
 pub returns-clause-faces : goal.returns-clause-faces
 returns-clause-faces g c =
     let is = c.untell.ensures.face in
-    rw (← c.self.view_is, faces-put c.args.f (told_ended g.K.Ord.cmp g.K.Key.matching c.args.expr.now) c.in-Some.face.now c.untell.new.self c.self.inside.rows.rows c.self.invariant.numbered c.self.invariant.in_order c.in-Some.ensures.value (ap (λ (x : FaceTable _). x.face) is), served-kept c.args.f c.in-Some.face.now c.untell.new.self c.self.inside.rows.rows c.self.invariant.in_order c.in-Some.ensures.value (ap (λ (x : FaceTable _). x.served) is)) refl
+    rw (← c.self.view_is, faces-put c.args.f (told_ended g.K.Ord.cmp c.args.expr.now) c.in-Some.face.now c.untell.new.self c.self.inside.rows.rows c.self.invariant.numbered c.self.invariant.in_order c.in-Some.ensures.value (ap (λ (x : FaceTable _). x.face) is), served-kept c.args.f c.in-Some.face.now c.untell.new.self c.self.inside.rows.rows c.self.invariant.in_order c.in-Some.ensures.value (ap (λ (x : FaceTable _). x.served) is)) refl
 
 pub returns-clause-rooms : goal.returns-clause-rooms
 returns-clause-rooms g c =

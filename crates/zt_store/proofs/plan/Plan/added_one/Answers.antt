@@ -25,21 +25,21 @@ added-none n test x later other = refl
 
 pub returns-in-Some-clause-added : goal.returns-in-Some-clause-added
 returns-in-Some-clause-added g c fit =
-    let test = stands (acted_all g.K.Ord.cmp g.K.Key.matching c.args.self.now c.args.tables.now.store).rows in
+    let test = stands (acted_all g.K.Ord.cmp c.args.self.now c.args.tables.now.store).rows in
     let later = map plain_change c.args.later.now in
     let this : (c.args.n == c.in-Some.ask) ≡ true = eq-eqb c.args.n c.in-Some.ask c.if-n-ask.true in
     added-known c.args.n test c.args.change.now later c.in-AddPending.face c.in-AddPending.row c.in-Some.ask c.in-AddPending.is c.in-Some.is true true this (c.if-keeps.ensures fit)
 
 pub returns-in_default-ask-clause-added : goal.returns-in_default-ask-clause-added
 returns-in_default-ask-clause-added g c fit =
-    let test = stands (acted_all g.K.Ord.cmp g.K.Key.matching c.args.self.now c.args.tables.now.store).rows in
+    let test = stands (acted_all g.K.Ord.cmp c.args.self.now c.args.tables.now.store).rows in
     let later = map plain_change c.args.later.now in
     let this : (c.args.n == c.in-Some.ask) ≡ true = eq-eqb c.args.n c.in-Some.ask c.if-n-ask.true in
     added-known c.args.n test c.args.change.now later c.in-AddPending.face c.in-AddPending.row c.in-Some.ask c.in-AddPending.is c.in-Some.is true false this (c.if-keeps.ensures fit)
 
 pub returns-in_default-ask-2-clause-added : goal.returns-in_default-ask-2-clause-added
 returns-in_default-ask-2-clause-added g c fit =
-    let test = stands (acted_all g.K.Ord.cmp g.K.Key.matching c.args.self.now c.args.tables.now.store).rows in
+    let test = stands (acted_all g.K.Ord.cmp c.args.self.now c.args.tables.now.store).rows in
     let later = map plain_change c.args.later.now in
     let this : (c.args.n == c.in-Some.ask) ≡ false = ne_eqb c.args.n c.in-Some.ask c.if-n-ask.false in
     added-known c.args.n test c.args.change.now later c.in-AddPending.face c.in-AddPending.row c.in-Some.ask c.in-AddPending.is c.in-Some.is false (stays_listed test later (c.in-AddPending.face, c.in-AddPending.row.id)) this refl
@@ -47,6 +47,6 @@ returns-in_default-ask-2-clause-added g c fit =
 pub returns-in_default : goal.returns-in_default
 returns-in_default g c =
     record {
-      added = λ fit. added-none c.args.n (stands (acted_all g.K.Ord.cmp g.K.Key.matching c.args.self.now c.args.tables.now.store).rows) c.args.change.now (map plain_change c.args.later.now) c.in_default.not-AddPending;
+      added = λ fit. added-none c.args.n (stands (acted_all g.K.Ord.cmp c.args.self.now c.args.tables.now.store).rows) c.args.change.now (map plain_change c.args.later.now) c.in_default.not-AddPending;
       most = omega arith;
     }

@@ -7,7 +7,7 @@ use Rattle.zt_store.proofs.plan.Plan.answered.Goals as goal
 pub returns-in-Some : goal.returns-in-Some
 returns-in-Some g c fit =
     let s = c.args.tables.now.store in
-    let after = acted_all g.K.Ord.cmp g.K.Key.matching c.args.self.now s in
+    let after = acted_all g.K.Ord.cmp c.args.self.now s in
     c.is_answered.ensures
     ∙ sym (answered-after g.K.Ord.cmp g.K.Key.matching g.met.K.Ord.total c.args.n c.args.expr.now c.args.self.now s c.next_ask-made.ensures.numbered fit (stands-where c.args.n after _ (c.in-Some.ensures.interest fit)))
 

@@ -10,7 +10,7 @@ pub returns-clause-interest : goal.returns-clause-interest
 returns-clause-interest g c fit =
     let n = c.args.n in
     let s = c.args.tables.now.store in
-    let after = acted_all g.K.Ord.cmp g.K.Key.matching c.args.self.now s in
+    let after = acted_all g.K.Ord.cmp c.args.self.now s in
     let left : c.saturating_sub-left.result ≡ n - s.asks_made = omega (arith, c.saturating_sub-left.ensures, c.next_ask-made.ensures.number) in
     let before = asked-known (option_copied c.ask-found.result) (at_id n s.numbers) s.rows c.ask-found.ensures.interest c.ask-found.ensures.place in
     let known =
@@ -23,7 +23,7 @@ pub returns-clause-place : goal.returns-clause-place
 returns-clause-place g c fit =
     let n = c.args.n in
     let s = c.args.tables.now.store in
-    let after = acted_all g.K.Ord.cmp g.K.Key.matching c.args.self.now s in
+    let after = acted_all g.K.Ord.cmp c.args.self.now s in
     let left : c.saturating_sub-left.result ≡ n - s.asks_made = omega (arith, c.saturating_sub-left.ensures, c.next_ask-made.ensures.number) in
     let before = asked-known (option_copied c.ask-found.result) (at_id n s.numbers) s.rows c.ask-found.ensures.interest c.ask-found.ensures.place in
     let known =

@@ -23,4 +23,4 @@ returns-clause-asked g c fit =
     let acts = c.args.self.now in
     let s = c.args.tables.now.store in
     ap is_some (returns-clause-number g c fit)
-    ∙ numbered-there (c.args.f, c.args.id) (acted_all g.K.Ord.cmp g.K.Key.matching acts s) (numbered-after g.K.Ord.cmp g.K.Key.matching acts s c.next_ask-made.ensures.numbered fit)
+    ∙ numbered-there (c.args.f, c.args.id) (acted_all g.K.Ord.cmp acts s) (numbered-after g.K.Ord.cmp g.K.Key.matching acts s c.next_ask-made.ensures.numbered fit)

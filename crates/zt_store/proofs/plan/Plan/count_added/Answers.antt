@@ -21,7 +21,7 @@ pub loop-i-preserved : goal.loop-i-preserved
 loop-i-preserved g c =
     let changes = c.changes-changes.result.now in
     let i = c.loop-i.i in
-    let test = stands (acted_all g.K.Ord.cmp g.K.Key.matching c.args.self.now c.args.tables.now.store).rows in
+    let test = stands (acted_all g.K.Ord.cmp c.args.self.now c.args.tables.now.store).rows in
     let more = added-more c.args.n test changes i c.index-changes-i.result (omega arith) c.index-changes-i.is in
     record {
       added = λ fit. omega (arith, more, c.added_one-count.ensures.added fit, c.loop-i.invariant.added fit);
@@ -31,7 +31,7 @@ loop-i-preserved g c =
 pub returns-clause-added : goal.returns-clause-added
 returns-clause-added g c fit =
     let changes = c.changes-changes.result.now in
-    let test = stands (acted_all g.K.Ord.cmp g.K.Key.matching c.args.self.now c.args.tables.now.store).rows in
+    let test = stands (acted_all g.K.Ord.cmp c.args.self.now c.args.tables.now.store).rows in
     let all = at_drop_all (λ xs. count_added c.args.n test (map plain_change xs)) changes c.loop-i.i (omega arith) in
     omega (arith, all, c.loop-i.invariant.added fit)
 

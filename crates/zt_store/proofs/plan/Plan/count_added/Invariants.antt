@@ -8,7 +8,7 @@ use Rattle.zt_store.proofs.plan.Plan.count_added.Given as goal
 abbrev pub invariant-loop-i : goal.invariant-loop-i
 invariant-loop-i g l =
     record {
-      added : Fit g.K.Ord.cmp g.K.Key.matching l.self l.tables.store
-          → l.count + count_added l.n (stands (acted_all g.K.Ord.cmp g.K.Key.matching l.self l.tables.store).rows) (map plain_change (drop l.i l.changes)) ≡ count_added l.n (stands (acted_all g.K.Ord.cmp g.K.Key.matching l.self l.tables.store).rows) l.self;
+      added : Fit g.K.Ord.cmp l.self l.tables.store
+          → l.count + count_added l.n (stands (acted_all g.K.Ord.cmp l.self l.tables.store).rows) (map plain_change (drop l.i l.changes)) ≡ count_added l.n (stands (acted_all g.K.Ord.cmp l.self l.tables.store).rows) l.self;
       within : l.count ≤ l.i;
     }

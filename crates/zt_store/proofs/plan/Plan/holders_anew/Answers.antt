@@ -20,7 +20,7 @@ loop-change-init g c = λ fit.
 pub loop-change-preserved : goal.loop-change-preserved
 loop-change-preserved g c = λ fit.
     let s = c.args.tables.now.store in
-    let t = acted_all g.K.Ord.cmp g.K.Key.matching c.args.self.now s in
+    let t = acted_all g.K.Ord.cmp c.args.self.now s in
     let after : ℕ → Bool = λ n. wanted g.K.Key.matching c.args.expr.now (find_face n t.rows) in
     let before : ℕ → Bool = λ n. wanted g.K.Key.matching c.args.expr.now (find_face n s.rows) in
     let items = c.changes-change-items.result.now in
@@ -31,7 +31,7 @@ loop-change-preserved g c = λ fit.
 pub returns : goal.returns
 returns g c = λ fit.
     let s = c.args.tables.now.store in
-    let t = acted_all g.K.Ord.cmp g.K.Key.matching c.args.self.now s in
+    let t = acted_all g.K.Ord.cmp c.args.self.now s in
     let after : ℕ → Bool = λ n. wanted g.K.Key.matching c.args.expr.now (find_face n t.rows) in
     let before : ℕ → Bool = λ n. wanted g.K.Key.matching c.args.expr.now (find_face n s.rows) in
     let found = c.loop-change.found.rows in

@@ -8,7 +8,7 @@ use Rattle.zt_store.proofs.plan.Plan.look_anew.Goals as goal
 
 pub returns : goal.returns
 returns g c =
-    let after = acted_all g.K.Ord.cmp g.K.Key.matching c.args.self.now c.args.tables.now.store in
+    let after = acted_all g.K.Ord.cmp c.args.self.now c.args.tables.now.store in
     let here = sym c.face_held.ensures ∙ c.in-Some.is in
     on_ok_weaker c.set_face.result
     (λ set fit n. set n ∙ looked-at g.K.Key.matching c.args.expr.now after (plain_change c.args.change.now) c.in-Some.f n c.wants-is_holder.result (has_face n c.args.found.now.rows) here (c.wants-is_holder.ensures fit))

@@ -17,7 +17,7 @@ returns-clause-ask g c fit =
     let f = c.args.f in
     let id = c.args.id in
     let s = c.args.tables.now.store in
-    let after = acted_all g.K.Ord.cmp g.K.Key.matching c.args.self.now s in
+    let after = acted_all g.K.Ord.cmp c.args.self.now s in
     let before = option_map (λ r. r.ask) (option_copied c.pending_row.result) in
     let named = folded (served_step {K = g.row.K.Denot} f id) c.args.self.now before in
     let serves = serving-after g.K.Ord.cmp g.K.Key.matching (f, id) c.args.self.now s c.next_ask-made.ensures.numbered fit before c.pending_row.ensures.serves in

@@ -12,14 +12,14 @@ pub add_ask-requires-clause-new : goal.add_ask-requires-clause-new
 unfolding fits
 add_ask-requires-clause-new g c =
     let ask = c.args.ask in
-    let fit = subst (λ t. Fits g.K.Ord.cmp g.K.Key.matching (AddAsk ask.face ask.id ask.ask.interest) t.store) (sym c.self.view_is) c.requires.fits in
+    let fit = subst (λ t. Fits g.K.Ord.cmp (AddAsk ask.face ask.id ask.ask.interest) t.store) (sym c.self.view_is) c.requires.fits in
     number-none ask.face ask.id (table_rows c.self.inside).store c.self.invariant.kept.numbered fit
 
 pub invariant_of-self : goal.invariant_of-self
 unfolding acted with_face
 invariant_of-self g c =
     let ask = c.args.ask in
-    let fit = subst (λ t. Fits g.K.Ord.cmp g.K.Key.matching (AddAsk ask.face ask.id ask.ask.interest) t.store) (sym c.self.view_is) c.requires.fits in
+    let fit = subst (λ t. Fits g.K.Ord.cmp (AddAsk ask.face ask.id ask.ask.interest) t.store) (sym c.self.view_is) c.requires.fits in
     let kept = kept-silent g.K.Ord.cmp g.K.Key.matching (AddAsk ask.face ask.id ask.ask.interest) (table_rows c.self.inside).store c.self.inside.tokens.counts c.self.invariant.kept fit (λ e test. refl) in
     let serves = served-same g.K.Ord.cmp g.K.Key.matching (AddAsk ask.face ask.id ask.ask.interest) (table_rows c.self.inside).store c.self.invariant.kept.numbered fit c.self.inside.faces.served c.self.invariant.served (λ p o. refl) in
     let holds = indexed-still g.K.Ord.cmp g.K.Key.matching g.K.Key.anchored (AddAsk ask.face ask.id ask.ask.interest) (table_rows c.self.inside).store c.self.inside.holders.rows refl c.self.invariant.indexed in

@@ -21,7 +21,7 @@ use Rattle.zt_store.proofs.tables.Tables.add_held.Goals as goal
 pub invariant_of-self : goal.invariant_of-self
 unfolding acted with_face fits
 invariant_of-self g c =
-    let fit = subst (λ t. Fits g.K.Ord.cmp g.K.Key.matching (AddHeld c.args.f c.args.row.id (interest_held c.args.row)) t.store) (sym c.self.view_is) c.requires.fits in
+    let fit = subst (λ t. Fits g.K.Ord.cmp (AddHeld c.args.f c.args.row.id (interest_held c.args.row)) t.store) (sym c.self.view_is) c.requires.fits in
     let kept = kept-silent g.K.Ord.cmp g.K.Key.matching (AddHeld c.args.f c.args.row.id (interest_held c.args.row)) (table_rows c.self.inside).store c.self.inside.tokens.counts c.self.invariant.kept fit (λ e test. refl) in
     let serves = served-same g.K.Ord.cmp g.K.Key.matching (AddHeld c.args.f c.args.row.id (interest_held c.args.row)) (table_rows c.self.inside).store c.self.invariant.kept.numbered fit c.self.inside.faces.served c.self.invariant.served (λ p o. refl) in
     let changes = subst (λ o. ChangesIn c.bucket_of.result (put place_cmp (c.args.f, c.args.row.id) o) c.self.inside.holders.rows c.keep_holder.new.index.rows) c.requires.about c.keep_holder.ensures.rows in

@@ -25,7 +25,7 @@ add-requires g c =
 pub unreachable-requires : goal.unreachable-requires
 unfolding fits
 unreachable-requires g c =
-    let fit = subst (λ t. Fits g.K.Ord.cmp g.K.Key.matching (AddLive c.args.f c.args.id c.args.expr) t.store) (sym c.self.view_is) c.requires.fits in
+    let fit = subst (λ t. Fits g.K.Ord.cmp (AddLive c.args.f c.args.id c.args.expr) t.store) (sym c.self.view_is) c.requires.fits in
     let none = rw c.in-None.is at c.get.ensures in
     cc (rw (← none) at fit)
 
@@ -34,7 +34,7 @@ unfolding acted with_face
 invariant_of-self g c =
     let x = c.in-Some.face.now.face in
     let there = rw c.in-Some.is at c.get.ensures in
-    let fit = subst (λ t. Fits g.K.Ord.cmp g.K.Key.matching (AddLive c.args.f c.args.id c.args.expr) t.store) (sym c.self.view_is) c.requires.fits in
+    let fit = subst (λ t. Fits g.K.Ord.cmp (AddLive c.args.f c.args.id c.args.expr) t.store) (sym c.self.view_is) c.requires.fits in
     let orderly = subst (λ t. IsOrderly t.store) (sym c.self.view_is) c.orderly.ensures in
     let more = subst (λ (r : Region). CountsOneMore region_cmp g.K.Ord.cmp r c.args.token c.self.inside.tokens.counts c.add.new.self.counts) c.row.ensures.region c.add.ensures.counts in
     let of_expr = subst (λ e. CountsOneMore region_cmp g.K.Ord.cmp x.region e c.self.inside.tokens.counts c.add.new.self.counts) c.requires.token more in

@@ -17,13 +17,13 @@ unfolding fits
 add_pending-requires-clause-id g c =
     let row = c.args.row in
     weaker-second (λ x. not (has_id row.id x.pendings)) (λ x. has_id row.id x.locals || is_drawn row.id x) _
-    (and_first _ _ (subst (λ t. Fits g.K.Ord.cmp g.K.Key.matching (AddPending c.args.f row.id row.ask (plain_pending row)) t.store) (sym c.self.view_is) c.requires.fits))
+    (and_first _ _ (subst (λ t. Fits g.K.Ord.cmp (AddPending c.args.f row.id row.ask (plain_pending row)) t.store) (sym c.self.view_is) c.requires.fits))
 
 pub invariant_of-self : goal.invariant_of-self
 unfolding acted with_face
 invariant_of-self g c =
     let row = c.args.row in
-    let fit = subst (λ t. Fits g.K.Ord.cmp g.K.Key.matching (AddPending c.args.f row.id row.ask (plain_pending row)) t.store) (sym c.self.view_is) c.requires.fits in
+    let fit = subst (λ t. Fits g.K.Ord.cmp (AddPending c.args.f row.id row.ask (plain_pending row)) t.store) (sym c.self.view_is) c.requires.fits in
     let kept = kept-silent g.K.Ord.cmp g.K.Key.matching (AddPending c.args.f row.id row.ask (plain_pending row)) (table_rows c.self.inside).store c.self.inside.tokens.counts c.self.invariant.kept fit (λ e test. refl) in
     let serves = served-acted g.K.Ord.cmp g.K.Key.matching (AddPending c.args.f row.id row.ask (plain_pending row)) (table_rows c.self.inside).store c.self.invariant.kept.numbered fit c.self.inside.faces.served c.self.invariant.served (served_put c.args.f row.id row.ask c.self.inside.faces.served) (λ p. served_at-put p c.args.f c.self.inside.faces.served row.id row.ask) in
     let holds = indexed-still g.K.Ord.cmp g.K.Key.matching g.K.Key.anchored (AddPending c.args.f row.id row.ask (plain_pending row)) (table_rows c.self.inside).store c.self.inside.holders.rows refl c.self.invariant.indexed in

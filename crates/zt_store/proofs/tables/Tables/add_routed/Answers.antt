@@ -24,7 +24,7 @@ add-requires-clause-room g c = subst (λ t. 0 < room_of group_order (c.args.regi
 pub add-requires-else-eq : goal.add-requires-else-eq
 unfolding fits
 add-requires-else-eq g c =
-    let fit = subst (λ t. Fits g.K.Ord.cmp g.K.Key.matching (AddRouted c.args.region c.args.source c.args.expr) t.store) (sym c.self.view_is) c.requires.fits in
+    let fit = subst (λ t. Fits g.K.Ord.cmp (AddRouted c.args.region c.args.source c.args.expr) t.store) (sym c.self.view_is) c.requires.fits in
     let enough = subst (λ t. (region : Region) → is_region_of t.store.rows.regions region ≡ true → 0 < room_of region_cmp region t.rooms.tokens) (sym c.self.view_is) c.requires.token_room in
     enough c.args.region (and_first _ _ fit)
 

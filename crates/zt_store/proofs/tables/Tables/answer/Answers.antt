@@ -13,11 +13,11 @@ pub answer-requires-clause-new : goal.answer-requires-clause-new
 unfolding fits
 answer-requires-clause-new g c =
     ask-passes (λ ask. not (is_among g.K.Ord.cmp c.args.expr ask.answered)) (at_id c.args.n c.self.inside.faces.numbers) c.self.inside.faces.faces
-    (subst (λ t. Fits g.K.Ord.cmp g.K.Key.matching (Answered c.args.n c.args.expr) t.store) (sym c.self.view_is) c.requires.fits)
+    (subst (λ t. Fits g.K.Ord.cmp (Answered c.args.n c.args.expr) t.store) (sym c.self.view_is) c.requires.fits)
 
 pub invariant_of-self : goal.invariant_of-self
 invariant_of-self g c =
-    let fit = subst (λ t. Fits g.K.Ord.cmp g.K.Key.matching (Answered c.args.n c.args.expr) t.store) (sym c.self.view_is) c.requires.fits in
+    let fit = subst (λ t. Fits g.K.Ord.cmp (Answered c.args.n c.args.expr) t.store) (sym c.self.view_is) c.requires.fits in
     let kept = kept-silent g.K.Ord.cmp g.K.Key.matching (Answered c.args.n c.args.expr) (table_rows c.self.inside).store c.self.inside.tokens.counts c.self.invariant.kept fit (λ e test. refl) in
     let serves = served-same g.K.Ord.cmp g.K.Key.matching (Answered c.args.n c.args.expr) (table_rows c.self.inside).store c.self.invariant.kept.numbered fit c.self.inside.faces.served c.self.invariant.served (λ p o. refl) in
     let holds = indexed-still g.K.Ord.cmp g.K.Key.matching g.K.Key.anchored (Answered c.args.n c.args.expr) (table_rows c.self.inside).store c.self.inside.holders.rows refl c.self.invariant.indexed in

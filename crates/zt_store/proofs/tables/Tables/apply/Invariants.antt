@@ -8,10 +8,10 @@ use Rattle.zt_store.proofs.tables.Tables.apply.Given as goal
 
 abbrev pub invariant-loop-change : goal.invariant-loop-change
 invariant-loop-change g l = record {
-  fits : Fit g.K.Ord.cmp g.K.Key.matching (map plain_change (into_iter_items l.rest)) l.self.store;
+  fits : Fit g.K.Ord.cmp (map plain_change (into_iter_items l.rest)) l.self.store;
   room : HasRoom g.K.Key.anchored (map plain_change (into_iter_items l.rest)) l.self.store l.self.rooms;
   tokens : into_iter_items l.tokens ≡ tokens_added (map plain_change (into_iter_items l.rest));
-  left : acted_all g.K.Ord.cmp g.K.Key.matching (map plain_change (into_iter_items l.rest)) l.self.store ≡ acted_all g.K.Ord.cmp g.K.Key.matching l.fn.plan l.fn.self.store;
+  left : acted_all g.K.Ord.cmp (map plain_change (into_iter_items l.rest)) l.self.store ≡ acted_all g.K.Ord.cmp l.fn.plan l.fn.self.store;
 }
 
 abbrev pub decreases-loop-change : goal.decreases-loop-change

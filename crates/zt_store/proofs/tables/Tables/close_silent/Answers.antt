@@ -16,7 +16,7 @@ use Rattle.zt_store.proofs.tables.Tables.close_silent.Goals as goal
 pub invariant_of-self : goal.invariant_of-self
 unfolding acted
 invariant_of-self g c =
-    let fit = subst (λ t. Fits g.K.Ord.cmp g.K.Key.matching (CloseFace c.args.f) t.store) (sym c.self.view_is) c.requires.fits in
+    let fit = subst (λ t. Fits g.K.Ord.cmp (CloseFace c.args.f) t.store) (sym c.self.view_is) c.requires.fits in
     let silent = subst (λ t. list_of_face (λ x. x.live) (find_face c.args.f t.store.rows) ≡ []) (sym c.self.view_is) c.requires.silent in
     let orderly = subst (λ t. IsOrderly t.store) (sym c.self.view_is) c.orderly.ensures in
     let kept = kept-closed g.K.Ord.cmp g.K.Key.matching g.met.K.Ord.total c.args.f (table_rows c.self.inside).store c.self.inside.tokens.counts c.self.invariant.kept orderly fit silent in
@@ -55,4 +55,4 @@ returns-clause-rooms g c =
 
 pub returns-clause-given : goal.returns-clause-given
 unfolding fits
-returns-clause-given g c = rw (← c.self.view_is) (c.open_given.ensures c.args.f (subst (λ t. Fits g.K.Ord.cmp g.K.Key.matching (CloseFace c.args.f) t.store) (sym c.self.view_is) c.requires.fits))
+returns-clause-given g c = rw (← c.self.view_is) (c.open_given.ensures c.args.f (subst (λ t. Fits g.K.Ord.cmp (CloseFace c.args.f) t.store) (sym c.self.view_is) c.requires.fits))

@@ -11,11 +11,11 @@ use Rattle.zt_store.proofs.tables.Tables.drop_ask.Goals as goal
 
 pub drop_ask-requires : goal.drop_ask-requires
 unfolding fits
-drop_ask-requires g c = ask-stands (at_id c.args.n c.self.inside.faces.numbers) c.self.inside.faces.faces (subst (λ t. Fits g.K.Ord.cmp g.K.Key.matching (DropAsk c.args.n) t.store) (sym c.self.view_is) c.requires)
+drop_ask-requires g c = ask-stands (at_id c.args.n c.self.inside.faces.numbers) c.self.inside.faces.faces (subst (λ t. Fits g.K.Ord.cmp (DropAsk c.args.n) t.store) (sym c.self.view_is) c.requires)
 
 pub invariant_of-self : goal.invariant_of-self
 invariant_of-self g c =
-    let fit = subst (λ t. Fits g.K.Ord.cmp g.K.Key.matching (DropAsk c.args.n) t.store) (sym c.self.view_is) c.requires in
+    let fit = subst (λ t. Fits g.K.Ord.cmp (DropAsk c.args.n) t.store) (sym c.self.view_is) c.requires in
     let kept = kept-silent g.K.Ord.cmp g.K.Key.matching (DropAsk c.args.n) (table_rows c.self.inside).store c.self.inside.tokens.counts c.self.invariant.kept fit (λ e test. refl) in
     let serves = served-same g.K.Ord.cmp g.K.Key.matching (DropAsk c.args.n) (table_rows c.self.inside).store c.self.invariant.kept.numbered fit c.self.inside.faces.served c.self.invariant.served (λ p o. refl) in
     let holds = indexed-still g.K.Ord.cmp g.K.Key.matching g.K.Key.anchored (DropAsk c.args.n) (table_rows c.self.inside).store c.self.inside.holders.rows refl c.self.invariant.indexed in

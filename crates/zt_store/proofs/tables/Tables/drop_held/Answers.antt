@@ -14,12 +14,12 @@ use Rattle.zt_store.proofs.tables.Tables.drop_held.Goals as goal
 
 pub drop_held-requires : goal.drop_held-requires
 unfolding fits
-drop_held-requires g c = has-face c.args.f _ c.self.inside.faces.faces (subst (λ t. Fits g.K.Ord.cmp g.K.Key.matching (DropHeld c.args.f c.args.id) t.store) (sym c.self.view_is) c.requires)
+drop_held-requires g c = has-face c.args.f _ c.self.inside.faces.faces (subst (λ t. Fits g.K.Ord.cmp (DropHeld c.args.f c.args.id) t.store) (sym c.self.view_is) c.requires)
 
 pub invariant_of-self : goal.invariant_of-self
 unfolding acted with_face
 invariant_of-self g c =
-    let fit = subst (λ t. Fits g.K.Ord.cmp g.K.Key.matching (DropHeld c.args.f c.args.id) t.store) (sym c.self.view_is) c.requires in
+    let fit = subst (λ t. Fits g.K.Ord.cmp (DropHeld c.args.f c.args.id) t.store) (sym c.self.view_is) c.requires in
     let kept = kept-silent g.K.Ord.cmp g.K.Key.matching (DropHeld c.args.f c.args.id) (table_rows c.self.inside).store c.self.inside.tokens.counts c.self.invariant.kept fit (λ e test. refl) in
     let serves = served-same g.K.Ord.cmp g.K.Key.matching (DropHeld c.args.f c.args.id) (table_rows c.self.inside).store c.self.invariant.kept.numbered fit c.self.inside.faces.served c.self.invariant.served (λ p o. refl) in
     let bucket = subst (λ t. c.bucket_held-bucket.result ≡ bucket_held g.K.Key.anchored (held_under c.args.id (find_face c.args.f t.store.rows))) (sym c.self.view_is) c.bucket_held-bucket.ensures in

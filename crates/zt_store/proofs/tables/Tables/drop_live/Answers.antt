@@ -17,7 +17,7 @@ use Rattle.zt_store.proofs.tables.Tables.drop_live.Goals as goal
 pub unreachable-requires : goal.unreachable-requires
 unfolding fits
 unreachable-requires g c =
-    let fit = subst (λ t. Fits g.K.Ord.cmp g.K.Key.matching (DropLive c.args.f c.args.id) t.store) (sym c.self.view_is) c.requires in
+    let fit = subst (λ t. Fits g.K.Ord.cmp (DropLive c.args.f c.args.id) t.store) (sym c.self.view_is) c.requires in
     let there = rw c.in-Some.is at c.get.ensures in
     let none = rw c.in-None-live.is at c.live.ensures in
     found-none c.args.id c.in-Some.face.now.face.live (rw (← there) at fit) (sym none)
@@ -25,7 +25,7 @@ unreachable-requires g c =
 pub unreachable-requires-in-None : goal.unreachable-requires-in-None
 unfolding fits
 unreachable-requires-in-None g c =
-    let fit = subst (λ t. Fits g.K.Ord.cmp g.K.Key.matching (DropLive c.args.f c.args.id) t.store) (sym c.self.view_is) c.requires in
+    let fit = subst (λ t. Fits g.K.Ord.cmp (DropLive c.args.f c.args.id) t.store) (sym c.self.view_is) c.requires in
     let none = rw c.in-None.is at c.get.ensures in
     cc (rw (← none) at fit)
 
@@ -45,7 +45,7 @@ unfolding acted with_face
 invariant_of-self g c =
     let x = c.in-Some.face.now.face in
     let there = rw c.in-Some.is at c.get.ensures in
-    let fit = subst (λ t. Fits g.K.Ord.cmp g.K.Key.matching (DropLive c.args.f c.args.id) t.store) (sym c.self.view_is) c.requires in
+    let fit = subst (λ t. Fits g.K.Ord.cmp (DropLive c.args.f c.args.id) t.store) (sym c.self.view_is) c.requires in
     let orderly = subst (λ t. IsOrderly t.store) (sym c.self.view_is) c.orderly.ensures in
     let less = subst (λ (r : Region). CountsOneMore region_cmp g.K.Ord.cmp r c.in-Some-live.expr.now c.remove.new.self.counts c.self.inside.tokens.counts) c.row.ensures.region c.remove.ensures.counts in
     let found = rw c.in-Some-live.is at c.live.ensures in

@@ -12,12 +12,12 @@ use Rattle.zt_store.proofs.tables.Tables.drop_pending.Goals as goal
 
 pub drop_pending-requires : goal.drop_pending-requires
 unfolding fits
-drop_pending-requires g c = has-face c.args.f _ c.self.inside.faces.faces (subst (λ t. Fits g.K.Ord.cmp g.K.Key.matching (DropPending c.args.f c.args.id) t.store) (sym c.self.view_is) c.requires)
+drop_pending-requires g c = has-face c.args.f _ c.self.inside.faces.faces (subst (λ t. Fits g.K.Ord.cmp (DropPending c.args.f c.args.id) t.store) (sym c.self.view_is) c.requires)
 
 pub invariant_of-self : goal.invariant_of-self
 unfolding acted with_face
 invariant_of-self g c =
-    let fit = subst (λ t. Fits g.K.Ord.cmp g.K.Key.matching (DropPending c.args.f c.args.id) t.store) (sym c.self.view_is) c.requires in
+    let fit = subst (λ t. Fits g.K.Ord.cmp (DropPending c.args.f c.args.id) t.store) (sym c.self.view_is) c.requires in
     let kept = kept-silent g.K.Ord.cmp g.K.Key.matching (DropPending c.args.f c.args.id) (table_rows c.self.inside).store c.self.inside.tokens.counts c.self.invariant.kept fit (λ e test. refl) in
     let serves = served-acted g.K.Ord.cmp g.K.Key.matching (DropPending c.args.f c.args.id) (table_rows c.self.inside).store c.self.invariant.kept.numbered fit c.self.inside.faces.served c.self.invariant.served (served_dropped c.args.f c.args.id c.self.inside.faces.served) (λ p. served_at-dropped p c.args.f c.self.inside.faces.served c.args.id) in
     let holds = indexed-still g.K.Ord.cmp g.K.Key.matching g.K.Key.anchored (DropPending c.args.f c.args.id) (table_rows c.self.inside).store c.self.inside.holders.rows refl c.self.invariant.indexed in

@@ -9,8 +9,8 @@ use Rattle.zt_store.proofs.tables.Tables.drop_tokens.Given as goal
 
 abbrev pub invariant-loop-id : goal.invariant-loop-id
 invariant-loop-id g l = record {
-  fits : Fits g.K.Ord.cmp g.K.Key.matching (CloseFace l.f) l.self.store;
-  left : acted g.K.Ord.cmp g.K.Key.matching (CloseFace l.f) l.self.store ≡ acted g.K.Ord.cmp g.K.Key.matching (CloseFace l.f) l.initial.self.store;
+  fits : Fits g.K.Ord.cmp (CloseFace l.f) l.self.store;
+  left : acted g.K.Ord.cmp (CloseFace l.f) l.self.store ≡ acted g.K.Ord.cmp (CloseFace l.f) l.initial.self.store;
   rooms : KeepsTables (of_faces nothing) l.initial.self.rooms l.self.rooms;
   made : l.self.store.rows.made ≡ l.initial.self.store.rows.made;
 }

@@ -13,7 +13,7 @@ use Rattle.zt_store.proofs.tables.Tables.number.Goals as goal
 pub add-requires-clause-new : goal.add-requires-clause-new
 unfolding fits
 add-requires-clause-new g c =
-    let fit = subst (λ t. Fits g.K.Ord.cmp g.K.Key.matching (Number c.args.expr) t.store) (sym c.self.view_is) c.requires.fits in
+    let fit = subst (λ t. Fits g.K.Ord.cmp (Number c.args.expr) t.store) (sym c.self.view_is) c.requires.fits in
     none-among g.K.Ord.cmp c.args.expr c.self.inside.dictionary.rows (not-true _ (and_first _ _ fit))
 
 pub add-requires-clause-above : goal.add-requires-clause-above
@@ -25,7 +25,7 @@ add-requires-clause-above g c =
 pub invariant_of-self : goal.invariant_of-self
 unfolding fits
 invariant_of-self g c =
-    let fit = subst (λ t. Fits g.K.Ord.cmp g.K.Key.matching (Number c.args.expr) t.store) (sym c.self.view_is) c.requires.fits in
+    let fit = subst (λ t. Fits g.K.Ord.cmp (Number c.args.expr) t.store) (sym c.self.view_is) c.requires.fits in
     let rows = c.self.inside.dictionary.rows in
     let is : 1 + length rows ≡ c.len.result + 1 = omega (arith, c.len.ensures.len) in
     let most = leb-true (length (keys_by_id rows) + 1) 65535 (and_second _ _ fit) in
@@ -46,7 +46,7 @@ invariant_of-self g c =
 pub returns-clause-store : goal.returns-clause-store
 unfolding acted fits
 returns-clause-store g c =
-    let fit = subst (λ t. Fits g.K.Ord.cmp g.K.Key.matching (Number c.args.expr) t.store) (sym c.self.view_is) c.requires.fits in
+    let fit = subst (λ t. Fits g.K.Ord.cmp (Number c.args.expr) t.store) (sym c.self.view_is) c.requires.fits in
     let rows = c.self.inside.dictionary.rows in
     let none : is_among g.K.Ord.cmp c.args.expr (keys_by_id rows) ≡ false = not-true _ (and_first _ _ fit) in
     rw (← c.self.view_is, c.add.ensures.rows, keys-more (c.len.result + 1) c.args.expr rows, numbered-new g.K.Ord.cmp g.K.Key.matching c.args.expr (keys_by_id rows) none) refl

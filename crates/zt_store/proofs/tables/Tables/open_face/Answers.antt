@@ -16,14 +16,14 @@ pub open-requires-clause-last : goal.open-requires-clause-last
 unfolding fits
 open-requires-clause-last g c =
     let row = c.args.row in
-    let fit = subst (λ t. Fits g.K.Ord.cmp g.K.Key.matching (OpenFace row.zid row.whatami row.region row.remote_bound row.first) t.store) (sym c.self.view_is) c.requires.fits in
+    let fit = subst (λ t. Fits g.K.Ord.cmp (OpenFace row.zid row.whatami row.region row.remote_bound row.first) t.store) (sym c.self.view_is) c.requires.fits in
     leb-true (c.self.inside.faces.made + 1) 4294967295 (and_second _ _ fit)
 
 pub invariant_of-self : goal.invariant_of-self
 unfolding acted
 invariant_of-self g c =
     let row = c.args.row in
-    let fit = subst (λ t. Fits g.K.Ord.cmp g.K.Key.matching (OpenFace row.zid row.whatami row.region row.remote_bound row.first) t.store) (sym c.self.view_is) c.requires.fits in
+    let fit = subst (λ t. Fits g.K.Ord.cmp (OpenFace row.zid row.whatami row.region row.remote_bound row.first) t.store) (sym c.self.view_is) c.requires.fits in
     let kept = kept-silent g.K.Ord.cmp g.K.Key.matching (OpenFace row.zid row.whatami row.region row.remote_bound row.first) (table_rows c.self.inside).store c.self.inside.tokens.counts c.self.invariant.kept fit (λ e test. refl) in
     let serves = served-opened g.K.Ord.cmp g.K.Key.matching (OpenFace row.zid row.whatami row.region row.remote_bound row.first) (table_rows c.self.inside).store c.self.invariant.kept.numbered fit c.self.inside.faces.served c.self.invariant.served (c.self.inside.faces.made + 1) (λ p o. refl) in
     let holds = indexed-still g.K.Ord.cmp g.K.Key.matching g.K.Key.anchored (OpenFace row.zid row.whatami row.region row.remote_bound row.first) (table_rows c.self.inside).store c.self.inside.holders.rows refl c.self.invariant.indexed in

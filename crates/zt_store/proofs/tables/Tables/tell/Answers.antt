@@ -10,12 +10,12 @@ use Rattle.zt_store.proofs.tables.Tables.tell.Goals as goal
 
 pub tell-requires-clause-drawn : goal.tell-requires-clause-drawn
 unfolding fits
-tell-requires-clause-drawn g c = subst (λ t. Fits g.K.Ord.cmp g.K.Key.matching (Tell c.args.f c.args.id c.args.expr) t.store) (sym c.self.view_is) c.requires.fits
+tell-requires-clause-drawn g c = subst (λ t. Fits g.K.Ord.cmp (Tell c.args.f c.args.id c.args.expr) t.store) (sym c.self.view_is) c.requires.fits
 
 pub invariant_of-self : goal.invariant_of-self
 unfolding acted with_face
 invariant_of-self g c =
-    let fit = subst (λ t. Fits g.K.Ord.cmp g.K.Key.matching (Tell c.args.f c.args.id c.args.expr) t.store) (sym c.self.view_is) c.requires.fits in
+    let fit = subst (λ t. Fits g.K.Ord.cmp (Tell c.args.f c.args.id c.args.expr) t.store) (sym c.self.view_is) c.requires.fits in
     let kept = kept-silent g.K.Ord.cmp g.K.Key.matching (Tell c.args.f c.args.id c.args.expr) (table_rows c.self.inside).store c.self.inside.tokens.counts c.self.invariant.kept fit (λ e test. refl) in
     let serves = served-same g.K.Ord.cmp g.K.Key.matching (Tell c.args.f c.args.id c.args.expr) (table_rows c.self.inside).store c.self.invariant.kept.numbered fit c.self.inside.faces.served c.self.invariant.served (λ p o. refl) in
     let holds = indexed-still g.K.Ord.cmp g.K.Key.matching g.K.Key.anchored (Tell c.args.f c.args.id c.args.expr) (table_rows c.self.inside).store c.self.inside.holders.rows refl c.self.invariant.indexed in

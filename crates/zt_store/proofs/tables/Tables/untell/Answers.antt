@@ -11,12 +11,12 @@ use Rattle.zt_store.proofs.tables.Tables.untell.Goals as goal
 
 pub untell-requires : goal.untell-requires
 unfolding fits
-untell-requires g c = has-face c.args.f _ c.self.inside.faces.faces (subst (λ t. Fits g.K.Ord.cmp g.K.Key.matching (Untell c.args.f c.args.expr.now) t.store) (sym c.self.view_is) c.requires)
+untell-requires g c = has-face c.args.f _ c.self.inside.faces.faces (subst (λ t. Fits g.K.Ord.cmp (Untell c.args.f c.args.expr.now) t.store) (sym c.self.view_is) c.requires)
 
 pub invariant_of-self : goal.invariant_of-self
 unfolding acted with_face
 invariant_of-self g c =
-    let fit = subst (λ t. Fits g.K.Ord.cmp g.K.Key.matching (Untell c.args.f c.args.expr.now) t.store) (sym c.self.view_is) c.requires in
+    let fit = subst (λ t. Fits g.K.Ord.cmp (Untell c.args.f c.args.expr.now) t.store) (sym c.self.view_is) c.requires in
     let kept = kept-silent g.K.Ord.cmp g.K.Key.matching (Untell c.args.f c.args.expr.now) (table_rows c.self.inside).store c.self.inside.tokens.counts c.self.invariant.kept fit (λ e test. refl) in
     let serves = served-same g.K.Ord.cmp g.K.Key.matching (Untell c.args.f c.args.expr.now) (table_rows c.self.inside).store c.self.invariant.kept.numbered fit c.self.inside.faces.served c.self.invariant.served (λ p o. refl) in
     let holds = indexed-still g.K.Ord.cmp g.K.Key.matching g.K.Key.anchored (Untell c.args.f c.args.expr.now) (table_rows c.self.inside).store c.self.inside.holders.rows refl c.self.invariant.indexed in
