@@ -20,6 +20,7 @@ use Rattle.zt_model.specs.Strategy.{Strategy, is_region_of, strategy_of}
 use Rattle.zt_model.specs.Telling.{registered, unregistered}
 use Rattle.zt_model.specs.Trees.{with_routed, without_routed}
 use Rattle.zt_changes.specs.Drawn.{count_drawn}
+use Rattle.zt_store.specs.SameGateway.{IsSameGateway, acted_all-same}
 use Rattle.zt_tables.specs.HatAnswers.{Plans}
 use Rattle.zt_tables.specs.HatConditions.{IsOpen, IsRun, Owns}
 
@@ -33,32 +34,6 @@ owned-open {K = K} region n s owned = at (find_face n s.rows) owned
     at : (face : Option (Face K)) → IsTrue (is_some_and face (λ f. region_eq f.region region)) → IsTrue (is_some face)
     at None h = h
     at (Some f) h = refl
-
--- what a gateway is made with
-pub record IsSameGateway {K : Type 0} (g h : Rows K) : Type 0 where
-  pub mode : h.mode ≡ g.mode
-  pub zid : h.zid ≡ g.zid
-  pub regions : h.regions ≡ g.regions
-  pub refused : h.refused ≡ g.refused
-  pub timeout : h.timeout ≡ g.timeout
-
-same-itself : {K : Type 0} (g : Rows K) → IsSameGateway g g
-same-itself g = record { mode = refl; zid = refl; regions = refl; refused = refl; timeout = refl }
-
-same-then : {K : Type 0} (g h i : Rows K) → IsSameGateway g h → IsSameGateway h i → IsSameGateway g i
-same-then g h i one two =
-    record { mode = two.mode ∙ one.mode; zid = two.zid ∙ one.zid; regions = two.regions ∙ one.regions; refused = two.refused ∙ one.refused; timeout = two.timeout ∙ one.timeout }
-
-face-same : {K : Type 0} (n : ℕ) (change : Face K → Face K) (g : Rows K) → IsSameGateway g (with_face n change g)
-unfolding with_face
-face-same n change g = record { mode = refl; zid = refl; regions = refl; refused = refl; timeout = refl }
-
-ask-same : {K : Type 0} (n : ℕ) (change : ℕ → Face K → Face K) (s : Store K) → IsSameGateway s.rows (at_ask n change s).rows
-ask-same {K = K} n change s = found (at_id n s.numbers)
-  where
-    found : (at : Option (ℕ × ℕ)) → IsSameGateway s.rows (elim at as (λ _. Store K) [ None ↦ s | Some p ↦ at_face p.0 (change p.1) s ]).rows
-    found None = same-itself s.rows
-    found (Some p) = face-same p.0 (change p.1) s.rows
 
 run-same : {K : Type 0} (hat : Strategy) (region : Region) (g h : Rows K) → IsSameGateway g h → IsRun hat region g → IsRun hat region h
 run-same hat region g h same run =
@@ -84,49 +59,5 @@ module _ {K : Type 0} (cmp : K → K → Ordering) (matching : K → K → Bool)
       let Fitting : List (Act K) → Type 0 = λ changes. Fit cmp changes s in (added, subst Fitting (sym added) (fit-append before (acts (acted_all cmp before s)) s fits then))
   plans-added (Err error) before after acts s fits then added stayed = stayed
 
-  routed-same : (region : Region) (source : Zid) (e : K) (g : Rows K) → IsSameGateway g (with_routed cmp region source e g)
-  unfolding with_routed
-  routed-same region source e g = record { mode = refl; zid = refl; regions = refl; refused = refl; timeout = refl }
-
-  unrouted-same : (region : Region) (source : Zid) (e : K) (g : Rows K) → IsSameGateway g (without_routed cmp region source e g)
-  unfolding without_routed
-  unrouted-same region source e g = record { mode = refl; zid = refl; regions = refl; refused = refl; timeout = refl }
-
-  pended-same : (n id : ℕ) (ask : Option ℕ) (pending : Pending) (s : Store K) → IsSameGateway s.rows (pended_under n id ask pending s).rows
-  unfolding with_face
-  pended-same n id ask pending s = record { mode = refl; zid = refl; regions = refl; refused = refl; timeout = refl }
-
-  pub acted-same : (act : Act K) (s : Store K) → IsSameGateway s.rows (acted cmp act s).rows
-  unfolding acted
-  acted-same (OpenFace zid whatami region bound first) s = record { mode = refl; zid = refl; regions = refl; refused = refl; timeout = refl }
-  acted-same (CloseFace n) s = record { mode = refl; zid = refl; regions = refl; refused = refl; timeout = refl }
-  acted-same (AddLive n id e) s = face-same n (registered id e) s.rows
-  acted-same (DropLive n id) s = face-same n (unregistered id) s.rows
-  acted-same (AddRouted region source e) s = routed-same region source e s.rows
-  acted-same (DropRouted region source e) s = unrouted-same region source e s.rows
-  acted-same (Tell n id e) s = face-same n (told_under id e) s.rows
-  acted-same (Untell n e) s = face-same n (told_ended cmp e) s.rows
-  acted-same (AddHeld n id interest) s = face-same n (held_added id interest) s.rows
-  acted-same (DropHeld n id) s = face-same n (unheld id) s.rows
-  acted-same (AddLocal n id interest) s = face-same n (local_added id interest) s.rows
-  acted-same (DropLocal n id) s = face-same n (local_dropped id) s.rows
-  acted-same (FinaliseInitial n) s = face-same n finalised s.rows
-  acted-same (AddPending n id ask pending) s = pended-same n id ask pending s
-  acted-same (DropPending n id) s = face-same n (ended id) s.rows
-  acted-same (AddAsk n id interest) s = face-same n (ask_added id interest) s.rows
-  acted-same (Answered n e) s = ask-same n (answered_with cmp e) s
-  acted-same (DropAsk n) s = ask-same n ask_dropped s
-  acted-same (Send n m) s = same-itself s.rows
-  acted-same (SetMoment now) s = record { mode = refl; zid = refl; regions = refl; refused = refl; timeout = refl }
-  acted-same (SetTree region table) s = record { mode = refl; zid = refl; regions = refl; refused = refl; timeout = refl }
-  acted-same (SetEntities n subscribers queryables) s = face-same n (entities_set subscribers queryables) s.rows
-  acted-same (Number e) s = record { mode = refl; zid = refl; regions = refl; refused = refl; timeout = refl }
-
-  pub acted_all-same : (acts : List (Act K)) (s : Store K) → IsSameGateway s.rows (acted_all cmp acts s).rows
-  unfolding acted_all
-  acted_all-same [] s = same-itself s.rows
-  acted_all-same (act ∷ acts) s =
-      let next = acted cmp act s in same-then s.rows next.rows (acted_all cmp acts next).rows (acted-same act s) (acted_all-same acts next)
-
   pub run-after : (hat : Strategy) (region : Region) (acts : List (Act K)) (s : Store K) → IsRun hat region s.rows → IsRun hat region (acted_all cmp acts s).rows
-  run-after hat region acts s run = run-same hat region s.rows (acted_all cmp acts s).rows (acted_all-same acts s) run
+  run-after hat region acts s run = run-same hat region s.rows (acted_all cmp acts s).rows (acted_all-same cmp acts s) run

@@ -27,7 +27,7 @@ use Rattle.zt_changes.specs.LiveRows.{count-next, live-silent}
 use Rattle.zt_changes.specs.Orderly.{IsOrderly}
 use Rattle.zt_changes.specs.Queries.{list_of_face}
 use Rattle.zt_changes.specs.Touches.{Changes, ChangesAll, Closes, Opens, Touch, face-acted, touch, touched}
-use Rattle.zt_acts.specs.HatPlans.{acted-same}
+use Rattle.zt_store.specs.SameGateway.{acted-same}
 use Rattle.zt_store.specs.Kept.{IsKept, IsListed}
 use Rattle.zt_store.specs.RegionOrder.{region_cmp, region_cmp-eq}
 
@@ -71,7 +71,7 @@ module _ {K : Type 0} (cmp : K → K → Ordering) (matching : K → K → Bool)
   listed-acted act s fit listed = record {
     at = λ n y is.
         let there = touched-listed s.rows.regions n (touch cmp matching act s) (touch-listed act s fit) (find_face n s.rows) (listed.at n) y (sym (face-acted cmp matching n act s) ∙ is) in
-        subst (λ (rs : List Region). is_region_of rs y.region ≡ true) (sym (acted-same cmp matching act s).regions) there;
+        subst (λ (rs : List Region). is_region_of rs y.region ≡ true) (sym (acted-same cmp act s).regions) there;
   }
 
   -- ---- the counts of live rows

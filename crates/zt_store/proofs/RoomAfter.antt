@@ -31,7 +31,7 @@ use Rattle.zt_faces.specs.Rooms.{OpensRoom, all_of_ask, answer_room, face_room, 
 use Rattle.zt_holders.specs.Held.{bucket_added}
 use Rattle.zt_needs.specs.Need.{need_of, of_faces, total}
 use Rattle.zt_store.specs.HasRoom.{HasRoom, LeavesRoom, SuitAsks, SuitFaces, is_gone}
-use Rattle.zt_acts.specs.HatPlans.{acted-same}
+use Rattle.zt_store.specs.SameGateway.{acted-same}
 use Rattle.zt_store.specs.Room.{KeepsOthers, KeepsTables, KeepsTablesFor}
 use Rattle.zt_store.specs.Tokens.{token_of, tokens_in}
 use Rattle.zt_store.specs.Value.{Rooms}
@@ -153,7 +153,7 @@ module _ {K : Type 0} (cmp : K → K → Ordering) (matching : K → K → Bool)
   standing-was n act s numbered is standing = subst (λ o. IsSome o) (at-acted cmp matching n act s numbered ∙ is) standing
 
   listed-was : (act : Act K) (s : Store K) (region : Region) → is_region_of (acted cmp act s).rows.regions region ≡ true → is_region_of s.rows.regions region ≡ true
-  listed-was act s region listed = subst (λ (rs : List Region). is_region_of rs region ≡ true) (acted-same cmp matching act s).regions listed
+  listed-was act s region listed = subst (λ (rs : List Region). is_region_of rs region ≡ true) (acted-same cmp act s).regions listed
 
   -- ---- after a change
 

@@ -1,3 +1,4 @@
+pub mod SameGateway
 pub mod Tokens
 pub mod PlanView
 pub mod Value

@@ -7,8 +7,7 @@ ghost use Rattle.zt_region.specs.Region.{region_eq, zid_eq};
 ghost use Rattle.zt_model.specs.Visible.{routed_rows, rows_of_face};
 ghost use Rattle.zt_model.specs.Wants.{is_about};
 ghost use Rattle.zt_changes.specs.Folds.{folded};
-ghost use Rattle.zt_store.specs.Gathered.{gathered, keys_within};
-ghost use Rattle.zt_store.specs.HatAnswers.{live_matching};
+ghost use Rattle.zt_store.specs.Gathered.{gathered, keys_within, live_matching};
 
 use crate::tables::Tables;
 use std::alloc::Global;

@@ -85,14 +85,6 @@ module _ {K : Type 0} (cmp : K → K → Ordering) (matching : K → K → Bool)
   abbrev pub Plans : {A : Type 0} → Result A Memory → List (Act K) → List (Act K) → (Store K → List (Act K)) → Store K → Type 0
   Plans result before after acts s = MatchResult result (λ _. (after ≡ before ++ acts (acted_all cmp before s)) × Fit cmp after s) (λ _. after ≡ before)
 
-  -- the expressions that have a live row in the region, in key order
-  abbrev pub live_in : Region → Rows K → List K
-  live_in region g = in_key_order cmp (map (λ row. row.1) (filter (λ row. region_eq row.0 region) (live_rows g)))
-
-  -- those of them that match an expression, or all
-  abbrev pub live_matching : Region → Option K → Rows K → List K
-  live_matching region expr g = filter (is_about matching expr) (live_in region g)
-
   -- what an undeclaration of a face is about; in a router region it names its expression
   abbrev pub expression_undeclared : Strategy → ℕ → ℕ → Option K → Rows K → Option K
   expression_undeclared hat n id given g = if is_router_hat hat then given else from_face (undeclared cmp matching id given) (find_face n g)

@@ -8,7 +8,8 @@ ghost use Rattle.zt_model.specs.Acts.{acted_all};
 ghost use Rattle.zt_model.specs.Lists.{same};
 ghost use Rattle.zt_model.specs.Sourced.{sourced_by};
 ghost use Rattle.zt_model.specs.Visible.{live_rows};
-ghost use Rattle.zt_tables.specs.HatAnswers.{Plans, expression_undeclared, live_matching, plain_sourced};
+ghost use Rattle.zt_tables.specs.HatAnswers.{Plans, expression_undeclared, plain_sourced};
+ghost use Rattle.zt_store.specs.Gathered.{live_matching};
 ghost use Rattle.zt_tables.specs.HatConditions.{IdsSuffice, IsAccepted, IsReady, Owns};
 ghost use Rattle.zt_tables.specs.HatTokenActs.{propagate_token_acts, register_token_acts, unpropagate_token_acts, unregister_token_acts};
 

@@ -7,7 +7,7 @@ use Rattle.zt_model.specs.Rows.{Face}
 use Rattle.zt_model.specs.Strategy.{is_region_of}
 use Rattle.zt_rows.specs.Change.{plain_change}
 use Rattle.zt_rows.specs.declared.change.Change.{Change}
-use Rattle.zt_acts.specs.HatPlans.{acted_all-same}
+use Rattle.zt_store.specs.SameGateway.{acted_all-same}
 use Rattle.zt_test_plans.proofs.WhatFits.{row-lacks, row-stands}
 use Rattle.zt_test_plans.proofs.fitting.fits.Goals as goal
 
@@ -199,13 +199,13 @@ pub returns-in-SetTree-clause-exact : goal.returns-in-SetTree-clause-exact
 unfolding fits
 returns-in-SetTree-clause-exact g c exactly =
     let later = acted_all g.K.Ord.cmp c.args.plan.now c.args.tables.now.store in
-    known (λ (x : Change g.row.K.Denot). fits g.K.Ord.cmp (plain_change x) later) _ _ _ c.in-SetTree.is (c.has_region.ensures ∙ ap (λ (rs : List Region). is_region_of rs c.in-SetTree.region) (sym (acted_all-same g.K.Ord.cmp g.K.Key.matching c.args.plan.now c.args.tables.now.store).regions))
+    known (λ (x : Change g.row.K.Denot). fits g.K.Ord.cmp (plain_change x) later) _ _ _ c.in-SetTree.is (c.has_region.ensures ∙ ap (λ (rs : List Region). is_region_of rs c.in-SetTree.region) (sym (acted_all-same g.K.Ord.cmp c.args.plan.now c.args.tables.now.store).regions))
 
 pub returns-in-SetTree-clause-fits : goal.returns-in-SetTree-clause-fits
 unfolding fits
 returns-in-SetTree-clause-fits g c does =
     let later = acted_all g.K.Ord.cmp c.args.plan.now c.args.tables.now.store in
-    sym (known (λ (x : Change g.row.K.Denot). fits g.K.Ord.cmp (plain_change x) later) _ _ _ c.in-SetTree.is (c.has_region.ensures ∙ ap (λ (rs : List Region). is_region_of rs c.in-SetTree.region) (sym (acted_all-same g.K.Ord.cmp g.K.Key.matching c.args.plan.now c.args.tables.now.store).regions))) ∙ does
+    sym (known (λ (x : Change g.row.K.Denot). fits g.K.Ord.cmp (plain_change x) later) _ _ _ c.in-SetTree.is (c.has_region.ensures ∙ ap (λ (rs : List Region). is_region_of rs c.in-SetTree.region) (sym (acted_all-same g.K.Ord.cmp c.args.plan.now c.args.tables.now.store).regions))) ∙ does
 
 pub returns-in-SetEntities-clause-exact : goal.returns-in-SetEntities-clause-exact
 unfolding fits
