@@ -1,0 +1,5 @@
+pub mod Climbing
+pub mod Knowledge
+pub mod Members
+pub mod Quiet
+pub mod Start
