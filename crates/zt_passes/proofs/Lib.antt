@@ -1,0 +1,6 @@
+pub mod ViewSums
+pub mod OwnedLists
+pub mod Prefixes
+pub mod Numbers
+pub mod Stepping
+pub mod Closing
