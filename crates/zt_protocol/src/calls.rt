@@ -1,4 +1,9 @@
+ghost use Rattle.std.specs.Prelude.{◌≡◌, IfOk};
+ghost use Rattle.zt_protocol.specs.Plain.{trees_of};
+
 use crate::{InterestId, InterestMode, InterestOptions, QueryableInfo, TokenId};
+use std::alloc::Global;
+use zt_keys::Memory;
 use zt_region::{Bound, NodeId, Region, WhatAmI, Zid};
 
 /// The trees of a router region, as its gateway is handed them.
@@ -10,6 +15,19 @@ pub struct TreeTable {
     pub links: Vec<(u32, NodeId, Zid)>,
     /// A source, and a router to which its tokens go on.
     pub children: Vec<(Zid, Zid)>,
+}
+
+impl TreeTable {
+    /// A table with the same entries, in the same order. The only error is want of memory.
+    pub fn copy(&self, alloc: Global) -> Result<TreeTable, Memory>
+        ensures { IfOk result (λ copy. trees_of copy ≡ trees_of self.now) }
+    {
+        Ok(TreeTable {
+            routers: self.routers.to_vec(alloc)?,
+            links: self.links.to_vec(alloc)?,
+            children: self.children.to_vec(alloc)?,
+        })
+    }
 }
 
 /// One call on a gateway, with the fields that the call takes.
