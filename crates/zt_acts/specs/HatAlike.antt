@@ -136,7 +136,7 @@ module _ {K : Type 0} (cmp : K → K → Ordering) (matching : K → K → Bool)
   hidden-alike g h region source e alike =
       λ i. is_router_hat (strategy_of (alike.mode i) region) && (not (region_eq region source) && not (visible-alike g h region e alike.live i))
 
-  own_dropped-alike : (g h : Rows K) (region : Region) (e : K) → IsAlikeIn region e g h → drop_routed_acts cmp matching region g.zid e g ≡ drop_routed_acts cmp matching region h.zid e h
+  own_dropped-alike : (g h : Rows K) (region : Region) (e : K) → IsAlikeIn region e g h → drop_routed_acts cmp region g.zid e g ≡ drop_routed_acts cmp region h.zid e h
   own_dropped-alike g h region e alike = λ i. if alike.own i then DropRouted region (alike.zid i) e ∷ [] else []
 
   -- ---- the same acts
@@ -154,7 +154,7 @@ module _ {K : Type 0} (cmp : K → K → Ordering) (matching : K → K → Bool)
       λ i. flat_map (forget_acts f.number e) (forget_to-alike g h source e f alike.mode alike.live i) ++ forgotten-alike g h region source e alike fs i
 
   pub propagate-alike : (hat : Strategy) (region : Region) (s t : Store K) (source : Region) (e : K) → IsAlikeIn region e s.rows t.rows
-      → propagate_token_acts cmp matching hat region s source e ≡ propagate_token_acts cmp matching hat region t source e
+      → propagate_token_acts cmp matching hat region source e s ≡ propagate_token_acts cmp matching hat region source e t
   unfolding propagate_token_acts
   propagate-alike hat region s t source e alike =
       let shown : (if is_newly_shown cmp s.rows source e region then AddRouted region s.rows.zid e ∷ sending_all (pass_on cmp region s.rows.zid e s.rows) else [])
@@ -166,11 +166,11 @@ module _ {K : Type 0} (cmp : K → K → Ordering) (matching : K → K → Bool)
       λ i. if is_router_hat hat then shown i else told i
 
   pub unpropagate-alike : (hat : Strategy) (region : Region) (s t : Store K) (source : Region) (e : K) → IsAlikeIn region e s.rows t.rows
-      → unpropagate_token_acts cmp matching hat region s source e ≡ unpropagate_token_acts cmp matching hat region t source e
+      → unpropagate_token_acts cmp matching hat region source e s ≡ unpropagate_token_acts cmp matching hat region source e t
   unfolding unpropagate_token_acts
   unpropagate-alike hat region s t source e alike =
-      let hidden : (if is_hidden cmp s.rows source e region then drop_routed_acts cmp matching region s.rows.zid e s.rows ++ sending_all (unpass cmp region s.rows.zid e s.rows) else [])
-      ≡ (if is_hidden cmp t.rows source e region then drop_routed_acts cmp matching region t.rows.zid e t.rows ++ sending_all (unpass cmp region t.rows.zid e t.rows) else []) =
+      let hidden : (if is_hidden cmp s.rows source e region then drop_routed_acts cmp region s.rows.zid e s.rows ++ sending_all (unpass cmp region s.rows.zid e s.rows) else [])
+      ≡ (if is_hidden cmp t.rows source e region then drop_routed_acts cmp region t.rows.zid e t.rows ++ sending_all (unpass cmp region t.rows.zid e t.rows) else []) =
       λ i. if hidden-alike s.rows t.rows region source e alike i then own_dropped-alike s.rows t.rows region e alike i ++ sending_all (unpass-alike s.rows t.rows region e alike i) else [] in
       let forgotten : flat_map (λ f. flat_map (forget_acts f.number e) (forget_to cmp matching s.rows source e f)) (faces_in region s.rows)
       ≡ flat_map (λ f. flat_map (forget_acts f.number e) (forget_to cmp matching t.rows source e f)) (faces_in region t.rows) =

@@ -30,7 +30,7 @@ use Rattle.zt_model.specs.Trees.{is_hidden, is_newly_shown, pass_on, unpass}
 use Rattle.zt_model.specs.Visible.{keeps}
 use Rattle.zt_changes.specs.Drawn.{count_drawn}
 use Rattle.zt_tables.specs.HatActs.{answer_acts, answered_acts, faces_in, forget_acts, sending_all, tell_acts, upstream_acts}
-use Rattle.zt_acts.specs.HatPlans.{count_drawn-append}
+use Rattle.zt_store.specs.Grown.{count_drawn-append}
 use Rattle.zt_acts.specs.HatRegions.{apart-number}
 use Rattle.zt_tables.specs.HatTokenActs.{drop_routed_acts, has_routed, propagate_token_acts, unpropagate_token_acts}
 
@@ -140,18 +140,18 @@ module _ {K : Type 0} (cmp : K → K → Ordering) (matching : K → K → Bool)
       (λ t. told_below e old next told below.1 (rw t at some))
 
   -- noting an answer at its ask draws nothing
-  answered_none : (n : ℕ) (ask : Option ℕ) (e : K) (s : Store K) → count_drawn n (answered_acts cmp matching ask e s) ≡ 0
+  answered_none : (n : ℕ) (ask : Option ℕ) (e : K) (s : Store K) → count_drawn n (answered_acts cmp ask e s) ≡ 0
   answered_none n None e s = refl
   answered_none n (Some ask) e s = by_test (is_ask_where ask (λ a. not (is_among cmp e a.answered)) s) (λ t. rw t refl) (λ t. rw t refl)
 
   answer_one : (s : Store K) (ask : Option ℕ) (mode : InterestMode) (f : Face K) (id : ℕ) (e : K) (interest : Option ℕ) (node : ℕ)
-      → count_drawn f.number (answer_acts cmp matching s ask mode f (DeclareToken id e interest node)) ≡ (if is_future mode && not (keeps cmp f e) then 1 else 0)
+      → count_drawn f.number (answer_acts cmp s ask mode f (DeclareToken id e interest node)) ≡ (if is_future mode && not (keeps cmp f e) then 1 else 0)
   unfolding answer_acts
   answer_one s ask mode f id e interest node =
       let told : List (Act K) = (if is_future mode && not (keeps cmp f e) then Tell f.number id e ∷ [] else []) in
       let sent : List (Act K) = Send f.number (DeclareToken id e interest node) ∷ [] in
-      let all : count_drawn f.number (told ++ answered_acts cmp matching ask e s ++ sent) ≡ count_drawn f.number told + count_drawn f.number (answered_acts cmp matching ask e s) + 0 =
-      count_drawn-append f.number (told ++ answered_acts cmp matching ask e s) sent ∙ (λ i. count_drawn-append f.number told (answered_acts cmp matching ask e s) i + 0) in
+      let all : count_drawn f.number (told ++ answered_acts cmp ask e s ++ sent) ≡ count_drawn f.number told + count_drawn f.number (answered_acts cmp ask e s) + 0 =
+      count_drawn-append f.number (told ++ answered_acts cmp ask e s) sent ∙ (λ i. count_drawn-append f.number told (answered_acts cmp ask e s) i + 0) in
       let own : (f.number == f.number) ≡ true = eq-eqb f.number f.number refl in
       let first : count_drawn f.number told ≡ (if is_future mode && not (keeps cmp f e) then 1 else 0) = by_test (is_future mode && not (keeps cmp f e)) (λ t. rw (t, own) refl) (λ t. rw t refl) in
       let none = answered_none f.number ask e s in
@@ -160,18 +160,18 @@ module _ {K : Type 0} (cmp : K → K → Ordering) (matching : K → K → Bool)
   -- an answer that draws so many ids, before others
   answer_step : (s : Store K) (ask : Option ℕ) (mode : InterestMode) (f : Face K) (id interest k drawn later : ℕ) (e : K) (ms : List (Message K))
       → (if is_future mode && not (keeps cmp f e) then 1 else 0) ≡ drawn → k + drawn ≡ later → next_after id k ≡ later
-      → later + count_drawn f.number (flat_map (answer_acts cmp matching s ask mode f) ms) ≡ next_heard later ms
-      → k + count_drawn f.number (flat_map (answer_acts cmp matching s ask mode f) (DeclareToken id e (Some interest) 0 ∷ ms)) ≡ next_heard k (DeclareToken id e (Some interest) 0 ∷ ms)
+      → later + count_drawn f.number (flat_map (answer_acts cmp s ask mode f) ms) ≡ next_heard later ms
+      → k + count_drawn f.number (flat_map (answer_acts cmp s ask mode f) (DeclareToken id e (Some interest) 0 ∷ ms)) ≡ next_heard k (DeclareToken id e (Some interest) 0 ∷ ms)
   answer_step s ask mode f id interest k drawn later e ms counted sum after rest =
       let one = answer_one s ask mode f id e (Some interest) 0 in
-      let both = count_drawn-append f.number (answer_acts cmp matching s ask mode f (DeclareToken id e (Some interest) 0)) (flat_map (answer_acts cmp matching s ask mode f) ms) in
-      let here : k + count_drawn f.number (flat_map (answer_acts cmp matching s ask mode f) (DeclareToken id e (Some interest) 0 ∷ ms)) ≡ later + count_drawn f.number (flat_map (answer_acts cmp matching s ask mode f) ms) =
+      let both = count_drawn-append f.number (answer_acts cmp s ask mode f (DeclareToken id e (Some interest) 0)) (flat_map (answer_acts cmp s ask mode f) ms) in
+      let here : k + count_drawn f.number (flat_map (answer_acts cmp s ask mode f) (DeclareToken id e (Some interest) 0 ∷ ms)) ≡ later + count_drawn f.number (flat_map (answer_acts cmp s ask mode f) ms) =
       omega (arith, one, both, counted, sum) in
       here ∙ rest ∙ ap (λ (n : ℕ). next_heard n ms) (sym after)
 
   -- What an interest is answered draws an id for each expression that the face keeps from then on.
   pub answers-drawn : (s : Store K) (ask : Option ℕ) (mode : InterestMode) (f : Face K) (interest : ℕ) → Each (λ row. row.0 < f.next) f.told → (k : ℕ) (es : List K) → 1 ≤ k → f.next ≤ k
-      → k + count_drawn f.number (flat_map (answer_acts cmp matching s ask mode f) (answers_from cmp matching k f.told mode interest es)) ≡ next_heard k (answers_from cmp matching k f.told mode interest es)
+      → k + count_drawn f.number (flat_map (answer_acts cmp s ask mode f) (answers_from cmp matching k f.told mode interest es)) ≡ next_heard k (answers_from cmp matching k f.told mode interest es)
   unfolding answers_from
   answers-drawn s ask mode f interest below k [] real high = omega arith
   answers-drawn s ask mode f interest below k (e ∷ es) real high =
@@ -241,7 +241,7 @@ module _ {K : Type 0} (cmp : K → K → Ordering) (matching : K → K → Bool)
 
   -- Telling the faces of a region draws an id for each face that is told, and for no other.
   pub propagate-drawn : (region : Region) (s : Store K) (source : Region) (e : K) (n : ℕ) → is_router_hat (strategy_of s.rows.mode region) ≡ false
-      → count_drawn n (propagate_token_acts cmp matching (strategy_of s.rows.mode region) region s source e)
+      → count_drawn n (propagate_token_acts cmp matching (strategy_of s.rows.mode region) region source e s)
       ≡ count_drawn n (flat_map (λ f. flat_map (tell_acts f.number) (tell_to cmp matching s.rows source e f)) (filter (λ f. n == f.number) (faces_in region s.rows)))
   unfolding propagate_token_acts
   propagate-drawn region s source e n plain =
@@ -249,13 +249,13 @@ module _ {K : Type 0} (cmp : K → K → Ordering) (matching : K → K → Bool)
 
   -- Showing it on an own tree draws none, and nor does telling faces that it is gone.
   pub show-undrawn : (region : Region) (s : Store K) (source : Region) (e : K) (n : ℕ) → is_router_hat (strategy_of s.rows.mode region) ≡ true
-      → count_drawn n (propagate_token_acts cmp matching (strategy_of s.rows.mode region) region s source e) ≡ 0
+      → count_drawn n (propagate_token_acts cmp matching (strategy_of s.rows.mode region) region source e s) ≡ 0
   unfolding propagate_token_acts
   show-undrawn region s source e n routed =
       rw routed (by_test (is_newly_shown cmp s.rows source e region) (λ t. rw t (let rest = sending-undrawn n (pass_on cmp region s.rows.zid e s.rows) in omega (arith, rest))) (λ t. rw t refl))
 
-  routed_undrawn : (n : ℕ) (region : Region) (source : Zid) (e : K) (g : Rows K) → count_drawn n (drop_routed_acts cmp matching region source e g) ≡ 0
-  routed_undrawn n region source e g = by_test (has_routed cmp matching region source e g) (λ t. rw t refl) (λ t. rw t refl)
+  routed_undrawn : (n : ℕ) (region : Region) (source : Zid) (e : K) (g : Rows K) → count_drawn n (drop_routed_acts cmp region source e g) ≡ 0
+  routed_undrawn n region source e g = by_test (has_routed cmp region source e g) (λ t. rw t refl) (λ t. rw t refl)
 
   forget_each : (n : ℕ) (e : K) (rule : Face K → List (Message K)) (fs : List (Face K)) → count_drawn n (flat_map (λ f. flat_map (forget_acts f.number e) (rule f)) fs) ≡ 0
   forget_each n e rule [] = refl
@@ -263,14 +263,14 @@ module _ {K : Type 0} (cmp : K → K → Ordering) (matching : K → K → Bool)
       count_drawn-append n (flat_map (forget_acts f.number e) (rule f)) (flat_map (λ x. flat_map (forget_acts x.number e) (rule x)) fs) ∙ (λ i. forget-undrawn n f.number e (rule f) i + forget_each n e rule fs i)
 
   pub unpropagate-undrawn : (region : Region) (s : Store K) (source : Region) (e : K) (n : ℕ)
-      → count_drawn n (unpropagate_token_acts cmp matching (strategy_of s.rows.mode region) region s source e) ≡ 0
+      → count_drawn n (unpropagate_token_acts cmp matching (strategy_of s.rows.mode region) region source e s) ≡ 0
   unfolding unpropagate_token_acts
   unpropagate-undrawn region s source e n =
       by_test (is_router_hat (strategy_of s.rows.mode region))
       (λ routed. rw routed
       (by_test (is_hidden cmp s.rows source e region)
       (λ t. rw t
-      (count_drawn-append n (drop_routed_acts cmp matching region s.rows.zid e s.rows) (sending_all (unpass cmp region s.rows.zid e s.rows))
+      (count_drawn-append n (drop_routed_acts cmp region s.rows.zid e s.rows) (sending_all (unpass cmp region s.rows.zid e s.rows))
       ∙ (λ i. routed_undrawn n region s.rows.zid e s.rows i + sending-undrawn n (unpass cmp region s.rows.zid e s.rows) i)))
       (λ t. rw t refl)))
       (λ plain. rw plain (forget_each n e (forget_to cmp matching s.rows source e) (faces_in region s.rows)))

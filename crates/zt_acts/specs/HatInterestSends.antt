@@ -64,10 +64,10 @@ module _ {K : Type 0} where
 
 module _ {K : Type 0} (cmp : K → K → Ordering) (matching : K → K → Bool) where
   -- The interest of an open face is sent to the targets that the model gives it.
-  pub route-sends : (hat : Strategy) (s : Store K) (n id : ℕ) (interest : InterestRow K) (asker : Face K) → find_face n s.rows ≡ Some asker
-      → sends_of (route_interest_acts cmp matching hat North s n id interest) ≡ route asker.region interest s.rows
+  pub route-sends : (s : Store K) (n id : ℕ) (interest : InterestRow K) (asker : Face K) → find_face n s.rows ≡ Some asker
+      → sends_of (route_interest_acts North n id interest s) ≡ route asker.region interest s.rows
   unfolding route_interest_acts
-  route-sends hat s n id interest asker found =
+  route-sends s n id interest asker found =
       let ask : Option ℕ = if is_current interest.mode then Some (next_number s) else None in
       let sent : List (Act K) = in_region North (λ f. flat_map (upstream_acts s.rows.moment ask f.number) (route_to s.rows asker.region interest f)) s.rows in
       rw found
@@ -86,10 +86,10 @@ module _ {K : Type 0} (cmp : K → K → Ordering) (matching : K → K → Bool)
   ended_north g interest gone f there = let north : region_eq f.region North ≡ true = ap (λ r. region_eq r North) there in rw (north, gone) refl
 
   -- The end of an interest that no south-bound face holds is sent to the faces that the model names.
-  pub end_upstream-all : (hat : Strategy) (s : Store K) (interest : InterestRow K) → is_held_south cmp matching s.rows interest ≡ false
-      → sends_of (route_interest_final_acts cmp matching hat North s interest) ≡ end_upstream cmp matching interest s.rows
+  pub end_upstream-all : (s : Store K) (interest : InterestRow K) → is_held_south cmp matching s.rows interest ≡ false
+      → sends_of (route_interest_final_acts cmp matching North interest s) ≡ end_upstream cmp matching interest s.rows
   unfolding route_interest_final_acts
-  end_upstream-all hat s interest gone =
+  end_upstream-all s interest gone =
       let rows : Face K → List (ℕ × InterestRow K) = λ f. filter (λ row. asks_same cmp matching interest row.1) f.locals in
       let ends : Face K → List (Message K) = λ f. map (λ row. message.InterestFinal row.0) (rows f) in
       faces-send (λ f. flat_map (λ row. end_upstream_acts f.number (message.InterestFinal row.0)) (rows f)) ends
@@ -100,14 +100,14 @@ module _ {K : Type 0} (cmp : K → K → Ordering) (matching : K → K → Bool)
 
   -- ---- an interest is answered
 
-  pub tokens-sent : (hat : Strategy) (region : Region) (s : Store K) (n id : ℕ) (interest : InterestRow K) → is_router_hat hat ≡ false
-      → sends_of (send_current_tokens_acts cmp matching hat region s n id interest) ≡ to_face n (answers_of cmp matching s.rows id interest) s.rows
+  pub tokens-sent : (hat : Strategy) (s : Store K) (n id : ℕ) (interest : InterestRow K) → is_router_hat hat ≡ false
+      → sends_of (send_current_tokens_acts cmp matching hat n id interest s) ≡ to_face n (answers_of cmp matching s.rows id interest) s.rows
   unfolding send_current_tokens_acts
-  tokens-sent hat region s n id interest plain =
+  tokens-sent hat s n id interest plain =
       let ask = number_of_ask (n, id) s.numbers in
       rw plain
-      (open-sends n (λ f. flat_map (answer_acts cmp matching s ask interest.mode f) (answers_of cmp matching s.rows id interest f)) (answers_of cmp matching s.rows id interest) s.rows
-      (λ f own. each-sends f.number (answer_acts cmp matching s ask interest.mode f) (answer-sends cmp matching s ask interest.mode f) (answers_of cmp matching s.rows id interest f)
+      (open-sends n (λ f. flat_map (answer_acts cmp s ask interest.mode f) (answers_of cmp matching s.rows id interest f)) (answers_of cmp matching s.rows id interest) s.rows
+      (λ f own. each-sends f.number (answer_acts cmp s ask interest.mode f) (answer-sends cmp matching s ask interest.mode f) (answers_of cmp matching s.rows id interest f)
       ∙ ap (λ (k : ℕ). sends_to k (answers_of cmp matching s.rows id interest f)) (sym own)))
 
   plain-face : (n : ℕ) (rule : Face K → List (Message K)) (g : Rows K) → sends_of (at_open n (λ f. map (Send n) (rule f)) g) ≡ to_face n rule g
@@ -134,13 +134,13 @@ module _ {K : Type 0} (cmp : K → K → Ordering) (matching : K → K → Bool)
   entities-parted s id interest f = by_test (is_current interest.mode) (λ t. by_test (is_future interest.mode) (λ u. rw (t, u) refl) (λ u. rw (t, u) refl)) (λ t. rw t refl)
 
   -- The entities that an interest is answered: the subscribers, and then the queryables.
-  pub entities-sent : (hat : Strategy) (region : Region) (s : Store K) (n id : ℕ) (interest : InterestRow K) → is_router_hat hat ≡ false
-      → sends_of (send_current_subscribers_acts cmp matching hat region s n id interest ++ send_current_queryables_acts cmp matching hat region s n id interest) ≡ to_face n (entities_for cmp matching s.rows id interest) s.rows
+  pub entities-sent : (hat : Strategy) (s : Store K) (n id : ℕ) (interest : InterestRow K) → is_router_hat hat ≡ false
+      → sends_of (send_current_subscribers_acts cmp matching hat n id interest s ++ send_current_queryables_acts cmp matching hat n id interest s) ≡ to_face n (entities_for cmp matching s.rows id interest) s.rows
   unfolding send_current_subscribers_acts send_current_queryables_acts
-  entities-sent hat region s n id interest plain =
+  entities-sent hat s n id interest plain =
       let subscribers = is_current interest.mode && is_future interest.mode && has_subscribers interest.options in
       let queryables = is_current interest.mode && is_future interest.mode && has_queryables interest.options in
-      sends-append (send_current_subscribers_acts cmp matching hat region s n id interest) (send_current_queryables_acts cmp matching hat region s n id interest)
+      sends-append (send_current_subscribers_acts cmp matching hat n id interest s) (send_current_queryables_acts cmp matching hat n id interest s)
       ∙ rw plain
       ((λ i. face-if n subscribers (subscribers_for cmp matching s.rows id interest) s.rows i ++ face-if n queryables (queryables_for cmp matching s.rows id interest) s.rows i)
       ∙ sym (face-append n (λ f. if subscribers then subscribers_for cmp matching s.rows id interest f else []) (λ f. if queryables then queryables_for cmp matching s.rows id interest f else []) s.rows)
@@ -174,15 +174,15 @@ module _ {K : Type 0} (cmp : K → K → Ordering) (matching : K → K → Bool)
   -- ---- a face opens
 
   -- A new face is greeted by the interests, the tokens and the final that the model gives it.
-  pub greeting-sends : (hat : Strategy) (region : Region) (s : Store K) (n : ℕ)
-      → sends_of (new_transport_unicast_face_acts cmp matching hat region s n)
+  pub greeting-sends : (s : Store K) (n : ℕ)
+      → sends_of (new_transport_unicast_face_acts cmp matching n s)
       ≡ to_face n
       (λ f. interests_from f.next (opening_interests cmp matching s.rows f)
       ++ tokens_from (f.next + length (opening_interests cmp matching s.rows f)) (opening_tokens cmp matching s.rows f)
       ++ opening_final cmp matching f)
       s.rows
   unfolding new_transport_unicast_face_acts
-  greeting-sends hat region s n =
+  greeting-sends s n =
       open-sends n
       (λ f. flat_map (upstream_acts s.rows.moment None n) (interests_from f.next (opening_interests cmp matching s.rows f))
       ++ flat_map (tell_acts n) (tokens_from (f.next + length (opening_interests cmp matching s.rows f)) (opening_tokens cmp matching s.rows f))

@@ -138,7 +138,7 @@ module _ {K : Type 0} where
 
 module _ {K : Type 0} (cmp : K → K → Ordering) (matching : K → K → Bool) where
   propagate-away : (hat : Strategy) (other region : Region) (s : Store K) (source : Region) (e : K) → is_rising (numbers_of s.rows.faces) ≡ true → region_eq region other ≡ false
-      → Each (IsAwayFrom region (map placed s.rows.faces) s.rows.zid) (propagate_token_acts cmp matching hat other s source e)
+      → Each (IsAwayFrom region (map placed s.rows.faces) s.rows.zid) (propagate_token_acts cmp matching hat other source e s)
   unfolding propagate_token_acts
   propagate-away hat other region s source e rising apart =
       let ps = map placed s.rows.faces in
@@ -154,7 +154,7 @@ module _ {K : Type 0} (cmp : K → K → Ordering) (matching : K → K → Bool)
       (each-kept (λ f. IsAway f.number region ps) (λ f. region_eq f.region other) s.rows.faces (away-each region other s.rows.faces apart rising)))))
 
   unpropagate-away : (hat : Strategy) (other region : Region) (s : Store K) (source : Region) (e : K) → is_rising (numbers_of s.rows.faces) ≡ true → region_eq region other ≡ false
-      → Each (IsAwayFrom region (map placed s.rows.faces) s.rows.zid) (unpropagate_token_acts cmp matching hat other s source e)
+      → Each (IsAwayFrom region (map placed s.rows.faces) s.rows.zid) (unpropagate_token_acts cmp matching hat other source e s)
   unfolding unpropagate_token_acts
   unpropagate-away hat other region s source e rising apart =
       let ps = map placed s.rows.faces in
@@ -162,8 +162,8 @@ module _ {K : Type 0} (cmp : K → K → Ordering) (matching : K → K → Bool)
       (λ routed. rw routed
       (by_test (is_hidden cmp s.rows source e other)
       (λ t. rw t
-      (each-append (IsAwayFrom region ps s.rows.zid) (drop_routed_acts cmp matching other s.rows.zid e s.rows) (sending_all (unpass cmp other s.rows.zid e s.rows))
-      (by_test (has_routed cmp matching other s.rows.zid e s.rows) (λ u. rw u ((apart, refl), tt)) (λ u. rw u tt))
+      (each-append (IsAwayFrom region ps s.rows.zid) (drop_routed_acts cmp other s.rows.zid e s.rows) (sending_all (unpass cmp other s.rows.zid e s.rows))
+      (by_test (has_routed cmp other s.rows.zid e s.rows) (λ u. rw u ((apart, refl), tt)) (λ u. rw u tt))
       (sending-away region ps s.rows.zid (unpass cmp other s.rows.zid e s.rows))))
       (λ t. rw t tt)))
       (λ plain. rw plain
@@ -188,7 +188,7 @@ module _ {K : Type 0} (cmp : K → K → Ordering) (matching : K → K → Bool)
       → ((hat : Strategy) (region : Region) (s t : Store K) → IsAlikeIn cmp matching region e s.rows t.rows → acts hat region s ≡ acts hat region t)
       → ((hat : Strategy) (other region : Region) (s : Store K) → is_rising (numbers_of s.rows.faces) ≡ true → region_eq region other ≡ false → Each (IsAwayFrom region (map placed s.rows.faces) s.rows.zid) (acts hat other s))
       → (regions : List Region) (s : Store K) → AreApart regions → is_rising (numbers_of s.rows.faces) ≡ true
-      → by_regions cmp matching acts regions s ≡ flat_map (λ r. acts (strategy_of s.rows.mode r) r s) regions
+      → by_regions cmp acts regions s ≡ flat_map (λ r. acts (strategy_of s.rows.mode r) r s) regions
   unfolding by_regions
   undisturbed e acts alike away [] s apart rising = refl
   undisturbed e acts alike away (r ∷ []) s apart rising = refl
@@ -205,25 +205,25 @@ module _ {K : Type 0} (cmp : K → K → Ordering) (matching : K → K → Bool)
 
   -- When a token was registered, the strategies of regions add one behind another what each adds to the rows before.
   pub propagate-by-regions : (regions : List Region) (s : Store K) (source : Region) (e : K) → AreApart regions → is_rising (numbers_of s.rows.faces) ≡ true
-      → by_regions cmp matching (λ hat r t. propagate_token_acts cmp matching hat r t source e) regions s
-      ≡ flat_map (λ r. propagate_token_acts cmp matching (strategy_of s.rows.mode r) r s source e) regions
+      → by_regions cmp (λ hat r t. propagate_token_acts cmp matching hat r source e t) regions s
+      ≡ flat_map (λ r. propagate_token_acts cmp matching (strategy_of s.rows.mode r) r source e s) regions
   propagate-by-regions regions s source e apart rising =
-      undisturbed e (λ hat r t. propagate_token_acts cmp matching hat r t source e) (λ hat r t u alike. propagate-alike cmp matching hat r t u source e alike)
+      undisturbed e (λ hat r t. propagate_token_acts cmp matching hat r source e t) (λ hat r t u alike. propagate-alike cmp matching hat r t u source e alike)
       (λ hat other r t up off. propagate-away hat other r t source e up off) regions s apart rising
 
   -- The same where an expression is gone.
   pub unpropagate-by-regions : (regions : List Region) (s : Store K) (source : Region) (e : K) → AreApart regions → is_rising (numbers_of s.rows.faces) ≡ true
-      → by_regions cmp matching (λ hat r t. unpropagate_token_acts cmp matching hat r t source e) regions s
-      ≡ flat_map (λ r. unpropagate_token_acts cmp matching (strategy_of s.rows.mode r) r s source e) regions
+      → by_regions cmp (λ hat r t. unpropagate_token_acts cmp matching hat r source e t) regions s
+      ≡ flat_map (λ r. unpropagate_token_acts cmp matching (strategy_of s.rows.mode r) r source e s) regions
   unpropagate-by-regions regions s source e apart rising =
-      undisturbed e (λ hat r t. unpropagate_token_acts cmp matching hat r t source e) (λ hat r t u alike. unpropagate-alike cmp matching hat r t u source e alike)
+      undisturbed e (λ hat r t. unpropagate_token_acts cmp matching hat r source e t) (λ hat r t u alike. unpropagate-alike cmp matching hat r t u source e alike)
       (λ hat other r t up off. unpropagate-away hat other r t source e up off) regions s apart rising
 
   -- Where each face's region is among them they send a face what the gateway says to it when a token was registered: the
   -- faces are told, and the router regions are shown it.
   pub propagated-by-regions : (n : ℕ) (regions : List Region) (s : Store K) (source : Region) (e : K)
       → AreApart regions → is_rising (numbers_of s.rows.faces) ≡ true → Each (λ f. IsAmong regions f.region) s.rows.faces
-      → messages_for n (sends_of (by_regions cmp matching (λ hat r t. propagate_token_acts cmp matching hat r t source e) regions s))
+      → messages_for n (sends_of (by_regions cmp (λ hat r t. propagate_token_acts cmp matching hat r source e t) regions s))
       ≡ messages_for n (said_by cmp matching (Say (tell cmp matching source e) ∷ showing cmp source e) s.rows)
   propagated-by-regions n regions s source e apart rising among =
       let once = each-weaker (λ f. IsAmong regions f.region) (λ f. StandsOnce regions f.region) (λ f there. stands-once regions f.region apart there) s.rows.faces among in
@@ -234,7 +234,7 @@ module _ {K : Type 0} (cmp : K → K → Ordering) (matching : K → K → Bool)
   -- The same where an expression is gone from a region.
   pub unpropagated-by-regions : (n : ℕ) (regions : List Region) (s : Store K) (source : Region) (e : K)
       → AreApart regions → is_rising (numbers_of s.rows.faces) ≡ true → Each (λ f. IsAmong regions f.region) s.rows.faces
-      → messages_for n (sends_of (by_regions cmp matching (λ hat r t. unpropagate_token_acts cmp matching hat r t source e) regions s))
+      → messages_for n (sends_of (by_regions cmp (λ hat r t. unpropagate_token_acts cmp matching hat r source e t) regions s))
       ≡ messages_for n (said_by cmp matching (Say (forget cmp matching source e) ∷ hiding cmp source e) s.rows)
   unpropagated-by-regions n regions s source e apart rising among =
       let once = each-weaker (λ f. IsAmong regions f.region) (λ f. StandsOnce regions f.region) (λ f there. stands-once regions f.region apart there) s.rows.faces among in

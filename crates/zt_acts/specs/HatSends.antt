@@ -128,15 +128,15 @@ module _ {K : Type 0} where
   nothing-sent rule silent (f ∷ fs) = λ i. sends_to f.number (silent f i) ++ nothing-sent rule silent fs i
 
 module _ {K : Type 0} (cmp : K → K → Ordering) (matching : K → K → Bool) where
-  pub answered-silent : (ask : Option ℕ) (e : K) (s : Store K) → sends_of (answered_acts cmp matching ask e s) ≡ []
+  pub answered-silent : (ask : Option ℕ) (e : K) (s : Store K) → sends_of (answered_acts cmp ask e s) ≡ []
   unfolding sends_of
   answered-silent None e s = refl
   answered-silent (Some ask) e s = silent_if (is_ask_where ask (λ a. not (is_among cmp e a.answered)) s) (Answered ask e) refl
 
-  pub answer-sends : (s : Store K) (ask : Option ℕ) (mode : InterestMode) (f : Face K) (m : Message K) → sends_of (answer_acts cmp matching s ask mode f m) ≡ (f.number, m) ∷ []
+  pub answer-sends : (s : Store K) (ask : Option ℕ) (mode : InterestMode) (f : Face K) (m : Message K) → sends_of (answer_acts cmp s ask mode f m) ≡ (f.number, m) ∷ []
   unfolding sends_of answer_acts
   answer-sends s ask mode f (DeclareToken id e interest node) =
       let told : Act K = Tell f.number id e in
-      silent-before (if is_future mode && not (keeps cmp f e) then told ∷ [] else []) (answered_acts cmp matching ask e s) (Send f.number (DeclareToken id e interest node) ∷ [])
+      silent-before (if is_future mode && not (keeps cmp f e) then told ∷ [] else []) (answered_acts cmp ask e s) (Send f.number (DeclareToken id e interest node) ∷ [])
       (silent_if (is_future mode && not (keeps cmp f e)) told refl) (answered-silent ask e s)
   answer-sends s ask mode f m = refl

@@ -77,9 +77,9 @@ module _ {K : Type 0} (cmp : K → K → Ordering) (matching : K → K → Bool)
   cond_each true rule fs = refl
   cond_each false rule fs = nothing-sent (λ f. []) (λ f. refl) fs
 
-  routed_silent : (region : Region) (source : Zid) (e : K) (g : Rows K) → sends_of (drop_routed_acts cmp matching region source e g) ≡ []
+  routed_silent : (region : Region) (source : Zid) (e : K) (g : Rows K) → sends_of (drop_routed_acts cmp region source e g) ≡ []
   unfolding sends_of
-  routed_silent region source e g = by_test (has_routed cmp matching region source e g) (λ t. rw t refl) (λ t. rw t refl)
+  routed_silent region source e g = by_test (has_routed cmp region source e g) (λ t. rw t refl) (λ t. rw t refl)
 
   cond_shown : (b : Bool) (act : Act K) (ss : Sends K) → sent_by act ≡ [] → sends_of (if b then act ∷ sending_all ss else []) ≡ (if b then ss else [])
   unfolding sends_of
@@ -95,7 +95,7 @@ module _ {K : Type 0} (cmp : K → K → Ordering) (matching : K → K → Bool)
 
   -- The acts of a region's strategy send its faces what the rules give for them.
   pub propagate-sends : (region : Region) (s : Store K) (source : Region) (e : K)
-      → sends_of (propagate_token_acts cmp matching (strategy_of s.rows.mode region) region s source e) ≡ to_each (propagate_to s.rows source e) (faces_in region s.rows)
+      → sends_of (propagate_token_acts cmp matching (strategy_of s.rows.mode region) region source e s) ≡ to_each (propagate_to s.rows source e) (faces_in region s.rows)
   unfolding propagate_token_acts
   propagate-sends region s source e =
       by_test (is_router_hat (strategy_of s.rows.mode region))
@@ -112,12 +112,12 @@ module _ {K : Type 0} (cmp : K → K → Ordering) (matching : K → K → Bool)
       (λ f there. sym (append-nil (tell_to cmp matching s.rows source e f)) ∙ sym (ap (λ ms. tell_to cmp matching s.rows source e f ++ ms) (not_shown s.rows source e f (ap (λ r. is_router_hat (strategy_of s.rows.mode r)) there ∙ plain)))) s.rows.faces))
 
   pub unpropagate-sends : (region : Region) (s : Store K) (source : Region) (e : K)
-      → sends_of (unpropagate_token_acts cmp matching (strategy_of s.rows.mode region) region s source e) ≡ to_each (unpropagate_to s.rows source e) (faces_in region s.rows)
+      → sends_of (unpropagate_token_acts cmp matching (strategy_of s.rows.mode region) region source e s) ≡ to_each (unpropagate_to s.rows source e) (faces_in region s.rows)
   unfolding unpropagate_token_acts
   unpropagate-sends region s source e =
       by_test (is_router_hat (strategy_of s.rows.mode region))
       (λ routed. rw routed
-      (cond_hidden (is_hidden cmp s.rows source e region) (drop_routed_acts cmp matching region s.rows.zid e s.rows) (unpass cmp region s.rows.zid e s.rows) (routed_silent region s.rows.zid e s.rows)
+      (cond_hidden (is_hidden cmp s.rows source e region) (drop_routed_acts cmp region s.rows.zid e s.rows) (unpass cmp region s.rows.zid e s.rows) (routed_silent region s.rows.zid e s.rows)
       ∙ ap (λ ss. if is_hidden cmp s.rows source e region then ss else []) (in-region-alone region (unpass_to cmp s.rows region s.rows.zid e) (not_unpassed s.rows region s.rows.zid e) s.rows.faces)
       ∙ sym (cond_each (is_hidden cmp s.rows source e region) (unpass_to cmp s.rows region s.rows.zid e) (faces_in region s.rows))
       ∙ in-region-alike region (λ f. if is_hidden cmp s.rows source e region then unpass_to cmp s.rows region s.rows.zid e f else []) (unpropagate_to s.rows source e)
@@ -134,10 +134,10 @@ module _ {K : Type 0} (cmp : K → K → Ordering) (matching : K → K → Bool)
   -- faces are told, and then the router regions are shown it.
   pub propagated-together : (n : ℕ) (regions : List Region) (s : Store K) (source : Region) (e : K)
       → is_rising (numbers_of s.rows.faces) ≡ true → Each (λ f. StandsOnce regions f.region) s.rows.faces
-      → messages_for n (sends_of (flat_map (λ r. propagate_token_acts cmp matching (strategy_of s.rows.mode r) r s source e) regions))
+      → messages_for n (sends_of (flat_map (λ r. propagate_token_acts cmp matching (strategy_of s.rows.mode r) r source e s) regions))
       ≡ messages_for n (tell cmp matching source e s.rows ++ to_each (show_to cmp s.rows source e) s.rows.faces)
   propagated-together n regions s source e rising once =
-      ap (messages_for n) (regions-send (λ r. propagate_token_acts cmp matching (strategy_of s.rows.mode r) r s source e) (λ r. to_each (propagate_to s.rows source e) (faces_in r s.rows)) (λ r. propagate-sends r s source e) regions)
+      ap (messages_for n) (regions-send (λ r. propagate_token_acts cmp matching (strategy_of s.rows.mode r) r source e s) (λ r. to_each (propagate_to s.rows source e) (faces_in r s.rows)) (λ r. propagate-sends r s source e) regions)
       ∙ sent-by-regions n (propagate_to s.rows source e) s.rows.faces regions rising once
       ∙ sent-together n (tell_to cmp matching s.rows source e) (show_to cmp s.rows source e) s.rows.faces rising
 
@@ -145,9 +145,9 @@ module _ {K : Type 0} (cmp : K → K → Ordering) (matching : K → K → Bool)
   -- hide it.
   pub unpropagated-together : (n : ℕ) (regions : List Region) (s : Store K) (source : Region) (e : K)
       → is_rising (numbers_of s.rows.faces) ≡ true → Each (λ f. StandsOnce regions f.region) s.rows.faces
-      → messages_for n (sends_of (flat_map (λ r. unpropagate_token_acts cmp matching (strategy_of s.rows.mode r) r s source e) regions))
+      → messages_for n (sends_of (flat_map (λ r. unpropagate_token_acts cmp matching (strategy_of s.rows.mode r) r source e s) regions))
       ≡ messages_for n (forget cmp matching source e s.rows ++ to_each (hide_to cmp s.rows source e) s.rows.faces)
   unpropagated-together n regions s source e rising once =
-      ap (messages_for n) (regions-send (λ r. unpropagate_token_acts cmp matching (strategy_of s.rows.mode r) r s source e) (λ r. to_each (unpropagate_to s.rows source e) (faces_in r s.rows)) (λ r. unpropagate-sends r s source e) regions)
+      ap (messages_for n) (regions-send (λ r. unpropagate_token_acts cmp matching (strategy_of s.rows.mode r) r source e s) (λ r. to_each (unpropagate_to s.rows source e) (faces_in r s.rows)) (λ r. unpropagate-sends r s source e) regions)
       ∙ sent-by-regions n (unpropagate_to s.rows source e) s.rows.faces regions rising once
       ∙ sent-together n (forget_to cmp matching s.rows source e) (hide_to cmp s.rows source e) s.rows.faces rising

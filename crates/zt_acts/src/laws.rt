@@ -21,17 +21,17 @@ use zt_keys::Key;
 /// gone, and then its own tree hears of it. The regions differ, and the numbers of the faces rise.
 pub fn regions_tell_together<K: Key>()
     ensures told_apart { (regions : List Region) (s : Store K) (source : Region) (e : K) → AreApart regions → is_rising (numbers_of s.rows.faces) ≡ true
-        → by_regions K.cmp K.matching (λ hat r t. propagate_token_acts K.cmp K.matching hat r t source e) regions s
-        ≡ flat_map (λ r. propagate_token_acts K.cmp K.matching (strategy_of s.rows.mode r) r s source e) regions }
+        → by_regions K.cmp (λ hat r t. propagate_token_acts K.cmp K.matching hat r source e t) regions s
+        ≡ flat_map (λ r. propagate_token_acts K.cmp K.matching (strategy_of s.rows.mode r) r source e s) regions }
     ensures told { (n : ℕ) (regions : List Region) (s : Store K) (source : Region) (e : K)
         → AreApart regions → is_rising (numbers_of s.rows.faces) ≡ true → Each (λ f. IsAmong regions f.region) s.rows.faces
-        → messages_for n (sends_of (by_regions K.cmp K.matching (λ hat r t. propagate_token_acts K.cmp K.matching hat r t source e) regions s))
+        → messages_for n (sends_of (by_regions K.cmp (λ hat r t. propagate_token_acts K.cmp K.matching hat r source e t) regions s))
         ≡ messages_for n (said_by K.cmp K.matching (Say (tell K.cmp K.matching source e) ∷ showing K.cmp source e) s.rows) }
     ensures forgotten_apart { (regions : List Region) (s : Store K) (source : Region) (e : K) → AreApart regions → is_rising (numbers_of s.rows.faces) ≡ true
-        → by_regions K.cmp K.matching (λ hat r t. unpropagate_token_acts K.cmp K.matching hat r t source e) regions s
-        ≡ flat_map (λ r. unpropagate_token_acts K.cmp K.matching (strategy_of s.rows.mode r) r s source e) regions }
+        → by_regions K.cmp (λ hat r t. unpropagate_token_acts K.cmp K.matching hat r source e t) regions s
+        ≡ flat_map (λ r. unpropagate_token_acts K.cmp K.matching (strategy_of s.rows.mode r) r source e s) regions }
     ensures forgotten { (n : ℕ) (regions : List Region) (s : Store K) (source : Region) (e : K)
         → AreApart regions → is_rising (numbers_of s.rows.faces) ≡ true → Each (λ f. IsAmong regions f.region) s.rows.faces
-        → messages_for n (sends_of (by_regions K.cmp K.matching (λ hat r t. unpropagate_token_acts K.cmp K.matching hat r t source e) regions s))
+        → messages_for n (sends_of (by_regions K.cmp (λ hat r t. unpropagate_token_acts K.cmp K.matching hat r source e t) regions s))
         ≡ messages_for n (said_by K.cmp K.matching (Say (forget K.cmp K.matching source e) ∷ hiding K.cmp source e) s.rows) }
 {}

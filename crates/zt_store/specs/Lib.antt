@@ -2,6 +2,8 @@ pub mod SameGateway
 pub mod Tokens
 pub mod PlanView
 pub mod Value
+pub mod Planned
+pub mod Grown
 pub mod Dictionary
 pub mod Routed
 pub mod Live

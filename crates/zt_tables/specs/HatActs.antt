@@ -5,7 +5,7 @@
 --     upstream_acts, end_upstream_acts             interests sent upstream, and their ends
 --     answer_acts, final_acts                      what an interest is answered, and its final
 --     by_regions                                   what the strategies of several regions add, one behind another
-use Rattle.std.specs.Prelude.{ℕ, Bool, ◌&&◌, not, if◌then◌else◌, List, [], ◌∷◌, ◌++◌, Option, Some, None, map, filter}
+use Rattle.std.specs.Prelude.{ℕ, ◌&&◌, not, if◌then◌else◌, List, [], ◌∷◌, ◌++◌, Option, Some, None, map, filter}
 use Rattle.std.specs.List.{flat_map}
 use Rattle.std.specs.declared.cmp.Ordering.{Ordering}
 use Rattle.zt_region.specs.declared.region.Region.{Region}
@@ -81,7 +81,7 @@ unfoldable pub final_acts : {K : Type 0} → Store K → ℕ → Message K → L
 final_acts s n (DeclareFinal id) = elim (number_of_ask (n, id) s.numbers) [ None ↦ Send n (DeclareFinal id) ∷ [] | Some ask ↦ DropAsk ask ∷ Send n (DeclareFinal id) ∷ [] ]
 final_acts s n m = Send n m ∷ []
 
-module _ {K : Type 0} (cmp : K → K → Ordering) (matching : K → K → Bool) where
+module _ {K : Type 0} (cmp : K → K → Ordering) where
   -- the ask of a number, if there is one, is answered an expression, where it wasn't before
   abbrev pub answered_acts : Option ℕ → K → Store K → List (Act K)
   answered_acts None e s = []

@@ -1,5 +1,5 @@
 -- What the calls of a strategy answer, and what they make of a plan.
-use Rattle.std.specs.Prelude.{◌≡◌, ◌++◌, Result, MatchResult, ℕ, Bool, true, false, ◌&&◌, not, if◌then◌else◌, List, [], Option, Some, None, map, filter}
+use Rattle.std.specs.Prelude.{◌≡◌, ◌++◌, Result, MatchResult, ℕ, Bool, true, false, ◌&&◌, not, if◌then◌else◌, List, [], Option, Some, None, map}
 use Rattle.std.specs.List.{flat_map, list_any}
 use Rattle.std.specs.declared.cmp.Ordering.{Ordering}
 use Rattle.zt_keys.specs.declared.error.Memory.{Memory}
@@ -10,7 +10,7 @@ use Rattle.zt_region.specs.declared.region.Zid.{Zid}
 use Rattle.zt_region.specs.Region.{is_north, region_eq}
 use Rattle.zt_protocol.specs.Interest.{is_current}
 use Rattle.zt_protocol.specs.declared.interests.InterestMode.TheVariants.{CurrentFuture}
-use Rattle.zt_model.specs.Acts.{Act, AddPending, Fit, Store, acted_all, is_face_where}
+use Rattle.zt_model.specs.Acts.{Act, AddPending, Fit, Store, is_face_where}
 use Rattle.zt_model.specs.Lists.{at_id, in_key_order, is_some_and}
 use Rattle.zt_model.specs.Parts.{find_face}
 use Rattle.zt_model.specs.Refusals.{names_nothing}
@@ -20,10 +20,10 @@ use Rattle.zt_model.specs.Sourced.{PlainSources}
 use Rattle.zt_model.specs.Strategy.{Strategy, BrokerHat, ClientHat, PeerHat, RouterHat, is_router_hat}
 use Rattle.zt_model.specs.Telling.{undeclared}
 use Rattle.zt_model.specs.Trees.{source_of}
-use Rattle.zt_model.specs.Visible.{live_rows}
-use Rattle.zt_model.specs.Wants.{is_about}
 use Rattle.zt_changes.specs.AskServed.{ask_served}
 use Rattle.zt_changes.specs.Queries.{from_face, list_of_face}
+use Rattle.zt_store.specs.Planned.{planned}
+use Rattle.zt_store.specs.Value.{TableRows}
 use Rattle.zt_rows.specs.declared.rows.RouteCurrentDeclareResult.{RouteCurrentDeclareResult}
 use Rattle.zt_rows.specs.declared.rows.RouteCurrentDeclareResult.TheVariants as declared
 use Rattle.zt_rows.specs.declared.rows.RouteInterestResult.{RouteInterestResult}
@@ -57,8 +57,9 @@ abbrev pub plain_sourced : {K : Type 0} → K × Sources → K × PlainSources
 plain_sourced row = (row.0, plain_sources row.1)
 
 -- the tokens that go when a face closes, by id; in a router region none goes, since its rows stand under routers
-abbrev pub closing_tokens : {K : Type 0} → Strategy → ℕ → Rows K → List K
-closing_tokens hat n g = if is_router_hat hat then [] else map (λ row. row.1) (list_of_face (λ f. f.live) (find_face n g))
+abbrev pub closing_tokens : {K : Type 0} → Strategy → ℕ → Store K → List K
+closing_tokens hat n s =
+    if is_router_hat hat then [] else map (λ row. row.1) (list_of_face (λ f. f.live) (find_face n s.rows))
 
 -- ---- interests on their way
 
@@ -79,26 +80,34 @@ declare_result n id s =
       | None ↦ if is_face_where n (names_nothing id) s then declared.Noop else declared.NoBreadcrumb
     ]
 
-module _ {K : Type 0} (cmp : K → K → Ordering) (matching : K → K → Bool) where
-  -- After Ok the plan has the changes of the call more, as the rows that it left so far give them, and all changes fit.
-  -- After want of memory it is as it was.
-  abbrev pub Plans : {A : Type 0} → Result A Memory → List (Act K) → List (Act K) → (Store K → List (Act K)) → Store K → Type 0
-  Plans result before after acts s = MatchResult result (λ _. (after ≡ before ++ acts (acted_all cmp before s)) × Fit cmp after s) (λ _. after ≡ before)
+-- After Ok the plan has the changes of the call more, as the rows that it left so far give them, and all changes fit.
+-- After want of memory it is as it was.
+abbrev pub Plans : {K A : Type 0} → (K → K → Ordering) → Result A Memory → List (Act K) → List (Act K) → TableRows K → (Store K → List (Act K)) → Type 0
+Plans cmp result before after tables acts =
+    MatchResult result
+    (λ _. (after ≡ before ++ acts (planned cmp before tables)) × Fit cmp after tables.store)
+    (λ _. after ≡ before)
 
+module _ {K : Type 0} (cmp : K → K → Ordering) (matching : K → K → Bool) where
   -- what an undeclaration of a face is about; in a router region it names its expression
-  abbrev pub expression_undeclared : Strategy → ℕ → ℕ → Option K → Rows K → Option K
-  expression_undeclared hat n id given g = if is_router_hat hat then given else from_face (undeclared cmp matching id given) (find_face n g)
+  abbrev pub expression_undeclared : Strategy → ℕ → ℕ → Option K → Store K → Option K
+  expression_undeclared hat n id given s =
+      if is_router_hat hat then given else from_face (undeclared cmp matching id given) (find_face n s.rows)
 
   -- what south-bound faces of the region hold, each pair of expression and options once, asked for now and later
   abbrev pub held_in : Region → Rows K → List (InterestRow K)
   held_in region g =
       in_key_order (interest_order cmp matching)
-      (flat_map (λ f. if not (is_north f.region) && region_eq f.region region then map (λ row. record row.1 { mode = CurrentFuture }) f.held else []) g.faces)
+      (flat_map
+      (λ f.
+      if not (is_north f.region) && region_eq f.region region then map (λ row. record row.1 { mode = CurrentFuture }) f.held
+      else [])
+      g.faces)
 
   -- an interest that a face held before, where no south-bound face holds its expression and options after it
-  abbrev pub interest_ended : ℕ → ℕ → Rows K → Rows K → Option (InterestRow K)
+  abbrev pub interest_ended : ℕ → ℕ → Store K → Store K → Option (InterestRow K)
   interest_ended n id before after =
-      elim (from_face (λ f. at_id id f.held) (find_face n before)) [
+      elim (from_face (λ f. at_id id f.held) (find_face n before.rows)) [
         | None ↦ None
-        | Some interest ↦ if is_held_south cmp matching after interest then None else Some interest
+        | Some interest ↦ if is_held_south cmp matching after.rows interest then None else Some interest
       ]

@@ -1,5 +1,5 @@
--- What a strategy adds to a plan when faces open and close and when interests come, are answered and go, by the strategy
--- and its region.
+-- What a strategy adds to a plan when faces open and close and when interests come, are answered and go, by what it reads
+-- of the strategy and its region.
 use Rattle.std.specs.Prelude.{ℕ, Bool, ◌+◌, ◌==◌, ◌&&◌, not, if◌then◌else◌, List, [], ◌∷◌, ◌++◌, length, Some, None, map, filter}
 use Rattle.std.specs.List.{flat_map}
 use Rattle.std.specs.declared.cmp.Ordering.{Ordering}
@@ -30,7 +30,13 @@ module _ {K : Type 0} (cmp : K → K → Ordering) (matching : K → K → Bool)
   abbrev pub untell_acts : Face K → List (Act K)
   untell_acts f =
       if is_north f.region then []
-      else flat_map (λ e. elim (told_id cmp e f.told) [ None ↦ [] | Some id ↦ forget_acts f.number e (message.UndeclareToken id None 0) ]) (unwanted f)
+      else flat_map
+      (λ e.
+      elim (told_id cmp e f.told) [
+        | None ↦ []
+        | Some id ↦ forget_acts f.number e (message.UndeclareToken id None 0)
+      ])
+      (unwanted f)
 
   -- a held interest ends at its face: the row goes, what the face doesn't want now is told to be gone, and an ask that came
   -- with the interest gets its final
@@ -42,93 +48,109 @@ module _ {K : Type 0} (cmp : K → K → Ordering) (matching : K → K → Bool)
   abbrev pub answer_ask_acts : Store K → ℕ → ℕ → K → Face K → Ask K → List (Act K)
   answer_ask_acts s number id e f ask =
       if asks_token matching ask.interest e && not (is_among cmp e ask.answered)
-      then flat_map (answer_acts cmp matching s (Some number) ask.interest.mode f) (answers_from cmp matching f.next f.told ask.interest.mode id (e ∷ []))
+      then flat_map (answer_acts cmp s (Some number) ask.interest.mode f)
+      (answers_from cmp matching f.next f.told ask.interest.mode id (e ∷ []))
       else []
 
-  module _ (hat : Strategy) (region : Region) where
-    -- ---- faces open and close
+  -- ---- faces open
 
-    -- A new face is greeted by the interests of the south, the tokens that it sees, and the final of a mutual peer's initial
-    -- interest, as its region asks for.
-    unfoldable pub new_transport_unicast_face_acts : Store K → ℕ → List (Act K)
-    new_transport_unicast_face_acts s n =
-        at_open n
-        (λ f.
-        let interests = opening_interests cmp matching s.rows f in
-        flat_map (upstream_acts s.rows.moment None n) (interests_from f.next interests)
-        ++ flat_map (tell_acts n) (tokens_from (f.next + length interests) (opening_tokens cmp matching s.rows f))
-        ++ map (Send n) (opening_final cmp matching f))
-        s.rows
+  -- A new face is greeted by the interests of the south, the tokens that it sees, and the final of a mutual peer's initial
+  -- interest, as its region asks for.
+  unfoldable pub new_transport_unicast_face_acts : ℕ → Store K → List (Act K)
+  new_transport_unicast_face_acts n s =
+      at_open n
+      (λ f.
+      let interests = opening_interests cmp matching s.rows f in
+      flat_map (upstream_acts s.rows.moment None n) (interests_from f.next interests)
+      ++ flat_map (tell_acts n) (tokens_from (f.next + length interests) (opening_tokens cmp matching s.rows f))
+      ++ map (Send n) (opening_final cmp matching f))
+      s.rows
 
-    -- a face closes, with its rows and what waits for it
-    unfoldable pub close_face_acts : Store K → ℕ → List (Act K)
-    close_face_acts s n = CloseFace n ∷ []
+  -- ---- an interest is answered
 
-    -- ---- an interest goes upstream
+  -- the subscribers that an interest in what is there now and later is answered; no router asks
+  unfoldable pub send_current_subscribers_acts : Strategy → ℕ → ℕ → InterestRow K → Store K → List (Act K)
+  send_current_subscribers_acts hat n id interest s =
+      if not (is_router_hat hat)
+      && (is_current interest.mode && is_future interest.mode && has_subscribers interest.options)
+      then at_open n (λ f. map (Send n) (subscribers_for cmp matching s.rows id interest f)) s.rows
+      else []
 
-    -- The interest of a face of any region: an ask where it asks for what is there now, and what it is sent on as, to each
-    -- target in the region.
-    unfoldable pub route_interest_acts : Store K → ℕ → ℕ → InterestRow K → List (Act K)
-    route_interest_acts s n id interest =
-        at_open n
-        (λ asker.
-        let ask = if is_current interest.mode then Some (next_number s) else None in
-        (if is_current interest.mode then AddAsk n id interest ∷ [] else [])
-        ++ in_region region (λ f. flat_map (upstream_acts s.rows.moment ask f.number) (route_to s.rows asker.region interest f)) s.rows)
-        s.rows
+  unfoldable pub send_current_queryables_acts : Strategy → ℕ → ℕ → InterestRow K → Store K → List (Act K)
+  send_current_queryables_acts hat n id interest s =
+      if not (is_router_hat hat)
+      && (is_current interest.mode && is_future interest.mode && has_queryables interest.options)
+      then at_open n (λ f. map (Send n) (queryables_for cmp matching s.rows id interest f)) s.rows
+      else []
 
-    -- the locals of the region's faces that ask for the same as an interest end
-    unfoldable pub route_interest_final_acts : Store K → InterestRow K → List (Act K)
-    route_interest_final_acts s interest =
-        in_region region
-        (λ f. flat_map (λ row. end_upstream_acts f.number (message.InterestFinal row.0)) (filter (λ row. asks_same cmp matching interest row.1) f.locals))
-        s.rows
+  -- the tokens that an interest is answered
+  unfoldable pub send_current_tokens_acts : Strategy → ℕ → ℕ → InterestRow K → Store K → List (Act K)
+  send_current_tokens_acts hat n id interest s =
+      let ask = number_of_ask (n, id) s.numbers in
+      if is_router_hat hat then []
+      else at_open n
+      (λ f. flat_map (answer_acts cmp s ask interest.mode f) (answers_of cmp matching s.rows id interest f))
+      s.rows
 
-    -- a final ends the pending of its id, and the final 0 a mutual peer's initial interest
-    unfoldable pub route_declare_final_acts : Store K → ℕ → ℕ → List (Act K)
-    route_declare_final_acts s n id =
-        (if id == 0 then FinaliseInitial n ∷ [] else [])
-        ++ at_open n (λ f. if has_id id f.pendings then DropPending n id ∷ [] else []) s.rows
+  -- an answer from upstream to the ask of a number
+  unfoldable pub propagate_current_token_acts : ℕ → K → Store K → List (Act K)
+  propagate_current_token_acts number e s =
+      elim (at_id number s.numbers) [
+        | None ↦ []
+        | Some place ↦
+            at_open place.0
+            (λ f. elim (at_id place.1 f.asks) [ None ↦ [] | Some ask ↦ answer_ask_acts s number place.1 e f ask ])
+            s.rows
+      ]
 
-    -- ---- an interest is answered
+  -- ---- interests end
 
-    -- the subscribers that an interest in what is there now and later is answered; no router asks
-    unfoldable pub send_current_subscribers_acts : Store K → ℕ → ℕ → InterestRow K → List (Act K)
-    send_current_subscribers_acts s n id interest =
-        if not (is_router_hat hat) && (is_current interest.mode && is_future interest.mode && has_subscribers interest.options)
-        then at_open n (λ f. map (Send n) (subscribers_for cmp matching s.rows id interest f)) s.rows
-        else []
+  -- the locals of the region's faces that ask for the same as an interest end
+  unfoldable pub route_interest_final_acts : Region → InterestRow K → Store K → List (Act K)
+  route_interest_final_acts region interest s =
+      in_region region
+      (λ f.
+      flat_map (λ row. end_upstream_acts f.number (message.InterestFinal row.0))
+      (filter (λ row. asks_same cmp matching interest row.1) f.locals))
+      s.rows
 
-    unfoldable pub send_current_queryables_acts : Store K → ℕ → ℕ → InterestRow K → List (Act K)
-    send_current_queryables_acts s n id interest =
-        if not (is_router_hat hat) && (is_current interest.mode && is_future interest.mode && has_queryables interest.options)
-        then at_open n (λ f. map (Send n) (queryables_for cmp matching s.rows id interest f)) s.rows
-        else []
+  -- an interest that a face holds ends
+  unfoldable pub unregister_interest_acts : ℕ → ℕ → Store K → List (Act K)
+  unregister_interest_acts n id s =
+      at_open n (λ f. elim (at_id id f.held) [ None ↦ [] | Some interest ↦ end_held_acts s id f interest ]) s.rows
 
-    unfoldable pub send_current_tokens_acts : Store K → ℕ → ℕ → InterestRow K → List (Act K)
-    send_current_tokens_acts s n id interest =
-        if is_router_hat hat then []
-        else at_open n
-        (λ f. flat_map (answer_acts cmp matching s (number_of_ask (n, id) s.numbers) interest.mode f) (answers_of cmp matching s.rows id interest f))
-        s.rows
+module _ {K : Type 0} where
+  -- a face closes, with its rows and what waits for it
+  unfoldable pub close_face_acts : ℕ → Store K → List (Act K)
+  close_face_acts n s = CloseFace n ∷ []
 
-    -- an answer from upstream to the ask of a number
-    unfoldable pub propagate_current_token_acts : Store K → ℕ → K → List (Act K)
-    propagate_current_token_acts s number e =
-        elim (at_id number s.numbers) [
-          | None ↦ []
-          | Some place ↦ at_open place.0 (λ f. elim (at_id place.1 f.asks) [ None ↦ [] | Some ask ↦ answer_ask_acts s number place.1 e f ask ]) s.rows
-        ]
+  -- The interest of a face of any region: an ask where it asks for what is there now, and what it is sent on as, to each
+  -- target in the region.
+  unfoldable pub route_interest_acts : Region → ℕ → ℕ → InterestRow K → Store K → List (Act K)
+  route_interest_acts region n id interest s =
+      at_open n
+      (λ asker.
+      let ask = if is_current interest.mode then Some (next_number s) else None in
+      (if is_current interest.mode then AddAsk n id interest ∷ [] else [])
+      ++ in_region region
+      (λ f. flat_map (upstream_acts s.rows.moment ask f.number) (route_to s.rows asker.region interest f))
+      s.rows)
+      s.rows
 
-    -- the ask of a face under an id gets its final, and ends
-    unfoldable pub send_declare_final_acts : Store K → ℕ → ℕ → List (Act K)
-    send_declare_final_acts s n id =
-        elim (number_of_ask (n, id) s.numbers) [ None ↦ [] | Some number ↦ DropAsk number ∷ Send n (message.DeclareFinal id) ∷ [] ]
+  -- a final ends the pending of its id, and the final 0 a mutual peer's initial interest
+  unfoldable pub route_declare_final_acts : ℕ → ℕ → Store K → List (Act K)
+  route_declare_final_acts n id s =
+      (if id == 0 then FinaliseInitial n ∷ [] else [])
+      ++ at_open n (λ f. if has_id id f.pendings then DropPending n id ∷ [] else []) s.rows
 
-    -- ---- an interest is held
+  -- the ask of a face under an id gets its final, and ends
+  unfoldable pub send_declare_final_acts : ℕ → ℕ → Store K → List (Act K)
+  send_declare_final_acts n id s =
+      elim (number_of_ask (n, id) s.numbers) [
+        | None ↦ []
+        | Some number ↦ DropAsk number ∷ Send n (message.DeclareFinal id) ∷ []
+      ]
 
-    unfoldable pub register_interest_acts : Store K → ℕ → ℕ → InterestRow K → List (Act K)
-    register_interest_acts s n id interest = AddHeld n id interest ∷ []
-
-    unfoldable pub unregister_interest_acts : Store K → ℕ → ℕ → List (Act K)
-    unregister_interest_acts s n id = at_open n (λ f. elim (at_id id f.held) [ None ↦ [] | Some interest ↦ end_held_acts s id f interest ]) s.rows
+  -- a face holds an interest
+  unfoldable pub register_interest_acts : ℕ → ℕ → InterestRow K → Store K → List (Act K)
+  register_interest_acts n id interest s = AddHeld n id interest ∷ []

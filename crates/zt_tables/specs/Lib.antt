@@ -3,3 +3,4 @@ pub mod HatConditions
 pub mod HatActs
 pub mod HatTokenActs
 pub mod HatInterestActs
+pub mod HatTreeActs

@@ -2,12 +2,12 @@
 //!
 //! `Tables` and `Plan` are passed on from `zt_store`. The traits of the strategies, which Zenoh calls hats, say what each
 //! call is asked with (`specs/HatConditions`), what it answers (`HatAnswers`), and which acts it adds to a plan
-//! (`HatTokenActs` and `HatInterestActs`, over the words of `HatActs`).
+//! (`HatTokenActs`, `HatInterestActs` and `HatTreeActs`, over the words of `HatActs`).
 #![tactic(auto)]
 
 mod hat;
 
-pub use hat::{HatBaseTrait, HatInterestTrait, HatTokenTrait, HatTrait};
+pub use hat::{HatBaseTrait, HatInterestTrait, HatTokenTrait, HatTrait, HatTreeTrait};
 pub use zt_rows::{
     AskRow, Change, FaceRow, HeldRow, PendingRow, RemoteInterest, RouteCurrentDeclareResult,
     RouteInterestResult, Sources, UpstreamRow,

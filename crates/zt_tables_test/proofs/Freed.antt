@@ -14,7 +14,7 @@ use Rattle.zt_rows.specs.ById.{next_id}
 use Rattle.zt_changes.specs.After.{at_id-put}
 use Rattle.zt_changes.specs.Queries.{from_face}
 use Rattle.zt_changes.specs.Touches.{face-acted}
-use Rattle.zt_acts.specs.HatPlans.{acted_all-append, fit-append}
+use Rattle.zt_store.specs.Grown.{acted_all-append, fit-append}
 use Rattle.zt_tables_test.specs.Free.{IsFreeFrom}
 
 no-row : {A : Type 0} (rows : ById A) → None ≡ next_id None rows → rows ≡ []
@@ -51,7 +51,7 @@ module _ {K : Type 0} where
 module _ {K : Type 0} (cmp : K → K → Ordering) (matching : K → K → Bool) where
   acted-last : (acts : List (Act K)) (act : Act K) (s : Store K) → acted_all cmp (acts ++ act ∷ []) s ≡ acted cmp act (acted_all cmp acts s)
   unfolding acted_all
-  acted-last acts act s = acted_all-append cmp matching acts (act ∷ []) s
+  acted-last acts act s = acted_all-append cmp acts (act ∷ []) s
 
   -- an empty plan
   pub fit-none : (s : Store K) → Fit cmp [] s
@@ -60,7 +60,7 @@ module _ {K : Type 0} (cmp : K → K → Ordering) (matching : K → K → Bool)
 
   fit-last : (acts : List (Act K)) (act : Act K) (s : Store K) → Fit cmp acts s → Fits cmp act (acted_all cmp acts s) → Fit cmp (acts ++ act ∷ []) s
   unfolding Fit
-  fit-last acts act s fit last = fit-append cmp matching acts (act ∷ []) s fit (last, tt)
+  fit-last acts act s fit last = fit-append cmp acts (act ∷ []) s fit (last, tt)
 
   live-frees : (f id : ℕ) (e : K) (s : Store K) → IsFreeFrom id (find_face f s.rows) → IsFreeFrom (id + 1) (find_face f (acted cmp (AddLive f id e) s).rows)
   live-frees f id e s free = rw (face-acted cmp matching f (AddLive f id e) s, same-number f) (registered-free id e (find_face f s.rows) free)

@@ -14,7 +14,7 @@ use Rattle.zt_model.specs.Parts.{find_face}
 use Rattle.zt_model.specs.Rows.{Face, Rows}
 use Rattle.zt_changes.specs.Drawn.{count_drawn, ids_of}
 use Rattle.zt_changes.specs.Touches.{Changes, ChangesAll, Closes, Opens, Touch, face-acted, made-acted, made_by, touch, touched}
-use Rattle.zt_acts.specs.HatPlans.{acted_all-append, count_drawn-append, fit-append}
+use Rattle.zt_store.specs.Grown.{acted_all-append, count_drawn-append, fit-append}
 use Rattle.zt_test_plans.specs.Checked.{IsChecked, IsNext, draws_next}
 
 -- ---- how many faces were made
@@ -144,11 +144,11 @@ module _ {K : Type 0} (cmp : K → K → Ordering) (matching : K → K → Bool)
   -- ---- plans
   pub acted-last : (acts : List (Act K)) (act : Act K) (s : Store K) → acted_all cmp (acts ++ act ∷ []) s ≡ acted cmp act (acted_all cmp acts s)
   unfolding acted_all
-  acted-last acts act s = acted_all-append cmp matching acts (act ∷ []) s
+  acted-last acts act s = acted_all-append cmp acts (act ∷ []) s
 
   fit-last : (acts : List (Act K)) (act : Act K) (s : Store K) → Fit cmp acts s → Fits cmp act (acted_all cmp acts s) → Fit cmp (acts ++ act ∷ []) s
   unfolding Fit
-  fit-last acts act s fit last = fit-append cmp matching acts (act ∷ []) s fit (last, tt)
+  fit-last acts act s fit last = fit-append cmp acts (act ∷ []) s fit (last, tt)
 
   count-last : (f : ℕ) (acts : List (Act K)) (act : Act K) → count_drawn f (acts ++ act ∷ []) ≡ count_drawn f acts + ids_of f act
   count-last f acts act = let both = count_drawn-append f acts (act ∷ []) in omega (arith, both)

@@ -1,10 +1,10 @@
 // What a strategy is, and how its faces open and close.
 ghost use Rattle.std.specs.Prelude.{◌≡◌, [], None};
 ghost use Rattle.zt_region.specs.declared.region.Region.{Region};
-ghost use Rattle.zt_model.specs.Acts.{acted_all};
 ghost use Rattle.zt_model.specs.Parts.{find_face};
 ghost use Rattle.zt_model.specs.Strategy.{BrokerHat, Strategy};
 ghost use Rattle.zt_changes.specs.Queries.{list_of_face};
+ghost use Rattle.zt_store.specs.Planned.{planned};
 ghost use Rattle.zt_tables.specs.HatAnswers.{Plans, is_owned, mode_of, named_source};
 ghost use Rattle.zt_tables.specs.HatConditions.{IdsSuffice, IsReady, Owns};
 ghost use Rattle.zt_tables.specs.HatInterestActs.{close_face_acts, new_transport_unicast_face_acts};
@@ -50,8 +50,8 @@ pub trait HatBaseTrait<K: Key> {
         plan: &mut Plan<K>,
         face: u32,
     ) -> Result<(), Memory>
-        requires ready { IsReady K.cmp K.matching (hat self.now) (region self.now) plan.old tables.now.store }
-        requires owned { Owns (region self.now) face (acted_all K.cmp plan.old tables.now.store) }
+        requires ready { IsReady K.cmp (hat self.now) (region self.now) plan.old tables.now }
+        requires owned { Owns (region self.now) face (planned K.cmp plan.old tables.now) }
         requires broker { hat self.now ≡ BrokerHat }
         ensures { plan.new ≡ plan.old };
 
@@ -64,12 +64,15 @@ pub trait HatBaseTrait<K: Key> {
         plan: &mut Plan<K>,
         face: u32,
     ) -> Result<(), Memory>
-        requires ready { IsReady K.cmp K.matching (hat self.now) (region self.now) plan.old tables.now.store }
-        requires owned { Owns (region self.now) face (acted_all K.cmp plan.old tables.now.store) }
+        requires ready { IsReady K.cmp (hat self.now) (region self.now) plan.old tables.now }
+        requires owned { Owns (region self.now) face (planned K.cmp plan.old tables.now) }
         requires opened { find_face face tables.now.store.rows ≡ None }
-        requires untold { list_of_face (λ f. f.told) (find_face face (acted_all K.cmp plan.old tables.now.store).rows) ≡ [] }
-        requires ids { IdsSuffice K.cmp K.matching plan.old (λ s. new_transport_unicast_face_acts K.cmp K.matching (hat self.now) (region self.now) s face) tables.now.store }
-        ensures { Plans K.cmp K.matching result plan.old plan.new (λ s. new_transport_unicast_face_acts K.cmp K.matching (hat self.now) (region self.now) s face) tables.now.store };
+        requires untold { list_of_face (λ f. f.told)
+            (find_face face (planned K.cmp plan.old tables.now).rows) ≡ [] }
+        requires ids { IdsSuffice K.cmp plan.old tables.now
+            (new_transport_unicast_face_acts K.cmp K.matching face) }
+        ensures { Plans K.cmp result plan.old plan.new tables.now
+            (new_transport_unicast_face_acts K.cmp K.matching face) };
 
     /// A face closes, and goes with its rows and what waits for it.
     fn close_face(
@@ -79,9 +82,9 @@ pub trait HatBaseTrait<K: Key> {
         plan: &mut Plan<K>,
         face: u32,
     ) -> Result<(), Memory>
-        requires ready { IsReady K.cmp K.matching (hat self.now) (region self.now) plan.old tables.now.store }
-        requires owned { Owns (region self.now) face (acted_all K.cmp plan.old tables.now.store) }
-        ensures { Plans K.cmp K.matching result plan.old plan.new (λ s. close_face_acts K.cmp K.matching (hat self.now) (region self.now) s face) tables.now.store };
+        requires ready { IsReady K.cmp (hat self.now) (region self.now) plan.old tables.now }
+        requires owned { Owns (region self.now) face (planned K.cmp plan.old tables.now) }
+        ensures { Plans K.cmp result plan.old plan.new tables.now (close_face_acts face) };
 
     /// The router that the face means by the node id; `None` exactly where the strategy isn't that of routers, or the
     /// id isn't in the face's link table or stands there for the gateway itself.

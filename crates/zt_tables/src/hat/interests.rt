@@ -1,9 +1,9 @@
 // What a strategy has a part in when interests come, are answered and go.
 ghost use Rattle.std.specs.Prelude.{◌≡◌, ◌≢◌, IfOk, map, option_map};
 ghost use Rattle.zt_region.specs.declared.region.Region.TheVariants.{North};
-ghost use Rattle.zt_model.specs.Acts.{acted_all};
 ghost use Rattle.zt_model.specs.Strategy.{ClientHat};
 ghost use Rattle.zt_rows.specs.Plain.{plain_interest};
+ghost use Rattle.zt_store.specs.Planned.{planned};
 ghost use Rattle.zt_tables.specs.HatAnswers.{Plans, declare_result, held_in, interest_ended, route_result};
 ghost use Rattle.zt_tables.specs.HatConditions.{IsNotAsked, IsHeld, IsNotHeld, IdsSuffice, IsAskedIn, IsOpen, IsReady, Owns};
 ghost use Rattle.zt_tables.specs.HatInterestActs.{propagate_current_token_acts, register_interest_acts, route_declare_final_acts, route_interest_acts, route_interest_final_acts, send_current_queryables_acts, send_current_subscribers_acts, send_current_tokens_acts, send_declare_final_acts, unregister_interest_acts};
@@ -33,13 +33,20 @@ pub trait HatInterestTrait<K: Key>: HatBaseTrait<K> {
         id: InterestId,
         interest: &RemoteInterest<K>,
     ) -> Result<RouteInterestResult, Memory>
-        requires ready { IsReady K.cmp K.matching (Self.hat self.now) (Self.region self.now) plan.old tables.now.store }
+        requires ready { IsReady K.cmp (Self.hat self.now) (Self.region self.now)
+            plan.old tables.now }
         requires north { Self.region self.now ≡ North }
-        requires opened { IsOpen face (acted_all K.cmp plan.old tables.now.store) }
-        requires not_asked { IsNotAsked interest.now.mode face id (acted_all K.cmp plan.old tables.now.store) }
-        requires ids { IdsSuffice K.cmp K.matching plan.old (λ s. route_interest_acts K.cmp K.matching (Self.hat self.now) (Self.region self.now) s face id (plain_interest interest.now)) tables.now.store }
-        ensures answer { IfOk result (λ answer. answer ≡ route_result (plain_interest interest.now) (route_interest_acts K.cmp K.matching (Self.hat self.now) (Self.region self.now) (acted_all K.cmp plan.old tables.now.store) face id (plain_interest interest.now))) }
-        ensures plans { Plans K.cmp K.matching result plan.old plan.new (λ s. route_interest_acts K.cmp K.matching (Self.hat self.now) (Self.region self.now) s face id (plain_interest interest.now)) tables.now.store };
+        requires opened { IsOpen face (planned K.cmp plan.old tables.now) }
+        requires not_asked { IsNotAsked interest.now.mode face id
+            (planned K.cmp plan.old tables.now) }
+        requires ids { IdsSuffice K.cmp plan.old tables.now
+            (route_interest_acts (Self.region self.now) face id (plain_interest interest.now)) }
+        ensures answer { IfOk result (λ answer.
+            answer ≡ route_result (plain_interest interest.now)
+            (route_interest_acts (Self.region self.now) face id (plain_interest interest.now)
+            (planned K.cmp plan.old tables.now))) }
+        ensures plans { Plans K.cmp result plan.old plan.new tables.now
+            (route_interest_acts (Self.region self.now) face id (plain_interest interest.now)) };
 
     /// The interest ends upstream, since no face of the south holds it any more: each local of its expression and options
     /// goes, whatever its mode. Asked of the strategy of North.
@@ -50,9 +57,12 @@ pub trait HatInterestTrait<K: Key>: HatBaseTrait<K> {
         plan: &mut Plan<K>,
         interest: &RemoteInterest<K>,
     ) -> Result<(), Memory>
-        requires ready { IsReady K.cmp K.matching (Self.hat self.now) (Self.region self.now) plan.old tables.now.store }
+        requires ready { IsReady K.cmp (Self.hat self.now) (Self.region self.now)
+            plan.old tables.now }
         requires north { Self.region self.now ≡ North }
-        ensures { Plans K.cmp K.matching result plan.old plan.new (λ s. route_interest_final_acts K.cmp K.matching (Self.hat self.now) (Self.region self.now) s (plain_interest interest.now)) tables.now.store };
+        ensures { Plans K.cmp result plan.old plan.new tables.now
+            (route_interest_final_acts K.cmp K.matching (Self.region self.now)
+            (plain_interest interest.now)) };
 
     /// A final comes from the face: the pending of its id goes, if it is there, and a final 0 finalises the initial
     /// interest. Answers as before the call: `Breadcrumb` with the ask that the face's pending of that
@@ -66,11 +76,14 @@ pub trait HatInterestTrait<K: Key>: HatBaseTrait<K> {
         face: u32,
         interest_id: InterestId,
     ) -> Result<RouteCurrentDeclareResult, Memory>
-        requires ready { IsReady K.cmp K.matching (Self.hat self.now) (Self.region self.now) plan.old tables.now.store }
-        requires owned { Owns (Self.region self.now) face (acted_all K.cmp plan.old tables.now.store) }
+        requires ready { IsReady K.cmp (Self.hat self.now) (Self.region self.now)
+            plan.old tables.now }
+        requires owned { Owns (Self.region self.now) face (planned K.cmp plan.old tables.now) }
         requires north { Self.region self.now ≡ North }
-        ensures answer { IfOk result (λ answer. answer ≡ declare_result face interest_id (acted_all K.cmp plan.old tables.now.store)) }
-        ensures plans { Plans K.cmp K.matching result plan.old plan.new (λ s. route_declare_final_acts K.cmp K.matching (Self.hat self.now) (Self.region self.now) s face interest_id) tables.now.store };
+        ensures answer { IfOk result (λ answer.
+            answer ≡ declare_result face interest_id (planned K.cmp plan.old tables.now)) }
+        ensures plans { Plans K.cmp result plan.old plan.new tables.now
+            (route_declare_final_acts face interest_id) };
 
     /// A token comes from the face in answer to an interest. Answers as `route_declare_final` does, and changes nothing.
     /// Asked of the strategy of North.
@@ -82,10 +95,12 @@ pub trait HatInterestTrait<K: Key>: HatBaseTrait<K> {
         face: u32,
         interest_id: InterestId,
     ) -> Result<RouteCurrentDeclareResult, Memory>
-        requires ready { IsReady K.cmp K.matching (Self.hat self.now) (Self.region self.now) plan.old tables.now.store }
-        requires owned { Owns (Self.region self.now) face (acted_all K.cmp plan.old tables.now.store) }
+        requires ready { IsReady K.cmp (Self.hat self.now) (Self.region self.now)
+            plan.old tables.now }
+        requires owned { Owns (Self.region self.now) face (planned K.cmp plan.old tables.now) }
         requires north { Self.region self.now ≡ North }
-        ensures answer { IfOk result (λ answer. answer ≡ declare_result face interest_id (acted_all K.cmp plan.old tables.now.store)) }
+        ensures answer { IfOk result (λ answer.
+            answer ≡ declare_result face interest_id (planned K.cmp plan.old tables.now)) }
         ensures plan { plan.new ≡ plan.old };
 
     /// Answers an interest in what is there now and later the subscribers that it asks for. A router's strategy answers none,
@@ -99,10 +114,13 @@ pub trait HatInterestTrait<K: Key>: HatBaseTrait<K> {
         id: InterestId,
         interest: &RemoteInterest<K>,
     ) -> Result<(), Memory>
-        requires ready { IsReady K.cmp K.matching (Self.hat self.now) (Self.region self.now) plan.old tables.now.store }
-        requires owned { Owns (Self.region self.now) face (acted_all K.cmp plan.old tables.now.store) }
+        requires ready { IsReady K.cmp (Self.hat self.now) (Self.region self.now)
+            plan.old tables.now }
+        requires owned { Owns (Self.region self.now) face (planned K.cmp plan.old tables.now) }
         requires not_client { Self.hat self.now ≢ ClientHat }
-        ensures { Plans K.cmp K.matching result plan.old plan.new (λ s. send_current_subscribers_acts K.cmp K.matching (Self.hat self.now) (Self.region self.now) s face id (plain_interest interest.now)) tables.now.store };
+        ensures { Plans K.cmp result plan.old plan.new tables.now
+            (send_current_subscribers_acts K.cmp K.matching (Self.hat self.now)
+            face id (plain_interest interest.now)) };
 
     /// Answers an interest in what is there now and later the queryables that it asks for. A router's strategy answers none.
     /// Never asked of the client strategy.
@@ -115,10 +133,13 @@ pub trait HatInterestTrait<K: Key>: HatBaseTrait<K> {
         id: InterestId,
         interest: &RemoteInterest<K>,
     ) -> Result<(), Memory>
-        requires ready { IsReady K.cmp K.matching (Self.hat self.now) (Self.region self.now) plan.old tables.now.store }
-        requires owned { Owns (Self.region self.now) face (acted_all K.cmp plan.old tables.now.store) }
+        requires ready { IsReady K.cmp (Self.hat self.now) (Self.region self.now)
+            plan.old tables.now }
+        requires owned { Owns (Self.region self.now) face (planned K.cmp plan.old tables.now) }
         requires not_client { Self.hat self.now ≢ ClientHat }
-        ensures { Plans K.cmp K.matching result plan.old plan.new (λ s. send_current_queryables_acts K.cmp K.matching (Self.hat self.now) (Self.region self.now) s face id (plain_interest interest.now)) tables.now.store };
+        ensures { Plans K.cmp result plan.old plan.new tables.now
+            (send_current_queryables_acts K.cmp K.matching (Self.hat self.now)
+            face id (plain_interest interest.now)) };
 
     /// Answers an interest the tokens that are there now, and notes them at its ask, if one stands. The face keeps them where
     /// it asks for what comes later too. A router's strategy answers none. Never asked of the client strategy.
@@ -131,14 +152,19 @@ pub trait HatInterestTrait<K: Key>: HatBaseTrait<K> {
         id: InterestId,
         interest: &RemoteInterest<K>,
     ) -> Result<(), Memory>
-        requires ready { IsReady K.cmp K.matching (Self.hat self.now) (Self.region self.now) plan.old tables.now.store }
-        requires owned { Owns (Self.region self.now) face (acted_all K.cmp plan.old tables.now.store) }
+        requires ready { IsReady K.cmp (Self.hat self.now) (Self.region self.now)
+            plan.old tables.now }
+        requires owned { Owns (Self.region self.now) face (planned K.cmp plan.old tables.now) }
         requires not_client { Self.hat self.now ≢ ClientHat }
-        requires ids { IdsSuffice K.cmp K.matching plan.old (λ s. send_current_tokens_acts K.cmp K.matching (Self.hat self.now) (Self.region self.now) s face id (plain_interest interest.now)) tables.now.store }
-        ensures { Plans K.cmp K.matching result plan.old plan.new (λ s. send_current_tokens_acts K.cmp K.matching (Self.hat self.now) (Self.region self.now) s face id (plain_interest interest.now)) tables.now.store };
+        requires ids { IdsSuffice K.cmp plan.old tables.now
+            (send_current_tokens_acts K.cmp K.matching (Self.hat self.now)
+            face id (plain_interest interest.now)) }
+        ensures { Plans K.cmp result plan.old plan.new tables.now
+            (send_current_tokens_acts K.cmp K.matching (Self.hat self.now)
+            face id (plain_interest interest.now)) };
 
-    /// Hands an answer from upstream to an ask that stands, whose face is of the strategy's region, where it asks for tokens
-    /// of the expression and wasn't answered it. Never asked of the client strategy.
+    /// Hands an answer from upstream to an ask that stands, whose face is of the strategy's region, where it
+    /// asks for tokens of the expression and wasn't answered it.
     fn propagate_current_token(
         &self,
         alloc: Global,
@@ -147,11 +173,13 @@ pub trait HatInterestTrait<K: Key>: HatBaseTrait<K> {
         ask: u64,
         expr: &K,
     ) -> Result<(), Memory>
-        requires ready { IsReady K.cmp K.matching (Self.hat self.now) (Self.region self.now) plan.old tables.now.store }
-        requires not_client { Self.hat self.now ≢ ClientHat }
-        requires asked { IsAskedIn (Self.region self.now) ask (acted_all K.cmp plan.old tables.now.store) }
-        requires ids { IdsSuffice K.cmp K.matching plan.old (λ s. propagate_current_token_acts K.cmp K.matching (Self.hat self.now) (Self.region self.now) s ask expr.now) tables.now.store }
-        ensures { Plans K.cmp K.matching result plan.old plan.new (λ s. propagate_current_token_acts K.cmp K.matching (Self.hat self.now) (Self.region self.now) s ask expr.now) tables.now.store };
+        requires ready { IsReady K.cmp (Self.hat self.now) (Self.region self.now)
+            plan.old tables.now }
+        requires asked { IsAskedIn (Self.region self.now) ask (planned K.cmp plan.old tables.now) }
+        requires ids { IdsSuffice K.cmp plan.old tables.now
+            (propagate_current_token_acts K.cmp K.matching ask expr.now) }
+        ensures { Plans K.cmp result plan.old plan.new tables.now
+            (propagate_current_token_acts K.cmp K.matching ask expr.now) };
 
     /// The ask of the face under the id gets its final, and ends; where none stands nothing is planned.
     fn send_declare_final(
@@ -162,9 +190,11 @@ pub trait HatInterestTrait<K: Key>: HatBaseTrait<K> {
         face: u32,
         id: InterestId,
     ) -> Result<(), Memory>
-        requires ready { IsReady K.cmp K.matching (Self.hat self.now) (Self.region self.now) plan.old tables.now.store }
-        requires owned { Owns (Self.region self.now) face (acted_all K.cmp plan.old tables.now.store) }
-        ensures { Plans K.cmp K.matching result plan.old plan.new (λ s. send_declare_final_acts K.cmp K.matching (Self.hat self.now) (Self.region self.now) s face id) tables.now.store };
+        requires ready { IsReady K.cmp (Self.hat self.now) (Self.region self.now)
+            plan.old tables.now }
+        requires owned { Owns (Self.region self.now) face (planned K.cmp plan.old tables.now) }
+        ensures { Plans K.cmp result plan.old plan.new tables.now
+            (send_declare_final_acts face id) };
 
     /// The face holds the interest until its final. Never asked of the client strategy.
     fn register_interest(
@@ -176,11 +206,13 @@ pub trait HatInterestTrait<K: Key>: HatBaseTrait<K> {
         id: InterestId,
         interest: &RemoteInterest<K>,
     ) -> Result<(), Memory>
-        requires ready { IsReady K.cmp K.matching (Self.hat self.now) (Self.region self.now) plan.old tables.now.store }
-        requires owned { Owns (Self.region self.now) face (acted_all K.cmp plan.old tables.now.store) }
+        requires ready { IsReady K.cmp (Self.hat self.now) (Self.region self.now)
+            plan.old tables.now }
+        requires owned { Owns (Self.region self.now) face (planned K.cmp plan.old tables.now) }
         requires not_client { Self.hat self.now ≢ ClientHat }
-        requires not_held { IsNotHeld face id (acted_all K.cmp plan.old tables.now.store) }
-        ensures { Plans K.cmp K.matching result plan.old plan.new (λ s. register_interest_acts K.cmp K.matching (Self.hat self.now) (Self.region self.now) s face id (plain_interest interest.now)) tables.now.store };
+        requires not_held { IsNotHeld face id (planned K.cmp plan.old tables.now) }
+        ensures { Plans K.cmp result plan.old plan.new tables.now
+            (register_interest_acts face id (plain_interest interest.now)) };
 
     /// The interest that the face holds under the id ends: a face of the south is told that what it doesn't want now is
     /// gone, and an ask that came with the interest gets its final. Answers it exactly where no south-bound face holds its
@@ -193,14 +225,16 @@ pub trait HatInterestTrait<K: Key>: HatBaseTrait<K> {
         face: u32,
         id: InterestId,
     ) -> Result<Option<RemoteInterest<K>>, Memory>
-        requires ready { IsReady K.cmp K.matching (Self.hat self.now) (Self.region self.now) plan.old tables.now.store }
-        requires owned { Owns (Self.region self.now) face (acted_all K.cmp plan.old tables.now.store) }
-        requires held { IsHeld face id (acted_all K.cmp plan.old tables.now.store) }
-        ensures answer { IfOk result (λ answer. option_map plain_interest answer
+        requires ready { IsReady K.cmp (Self.hat self.now) (Self.region self.now)
+            plan.old tables.now }
+        requires owned { Owns (Self.region self.now) face (planned K.cmp plan.old tables.now) }
+        requires held { IsHeld face id (planned K.cmp plan.old tables.now) }
+        ensures answer { IfOk result (λ answer.
+            option_map plain_interest answer
             ≡ interest_ended K.cmp K.matching face id
-            (acted_all K.cmp plan.old tables.now.store).rows
-            (acted_all K.cmp plan.new tables.now.store).rows) }
-        ensures plans { Plans K.cmp K.matching result plan.old plan.new (λ s. unregister_interest_acts K.cmp K.matching (Self.hat self.now) (Self.region self.now) s face id) tables.now.store };
+            (planned K.cmp plan.old tables.now) (planned K.cmp plan.new tables.now)) }
+        ensures plans { Plans K.cmp result plan.old plan.new tables.now
+            (unregister_interest_acts K.cmp K.matching face id) };
 
     /// What south-bound faces of the strategy's region hold: each pair of expression and kept options once, asked for
     /// now and later, ordered by expression, none first, and then by options. The only error is want of memory.
@@ -209,5 +243,7 @@ pub trait HatInterestTrait<K: Key>: HatBaseTrait<K> {
         alloc: Global,
         tables: &Tables<K>,
     ) -> Result<Vec<RemoteInterest<K>>, Memory>
-        ensures { IfOk result (λ v. map plain_interest v.items ≡ held_in K.cmp K.matching (Self.region self.now) tables.now.store.rows) };
+        ensures { IfOk result (λ v.
+            map plain_interest v.items
+            ≡ held_in K.cmp K.matching (Self.region self.now) tables.now.store.rows) };
 }
