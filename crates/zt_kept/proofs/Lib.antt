@@ -1,0 +1,9 @@
+pub mod Running
+pub mod CallsRun
+pub mod Keeping
+pub mod Answered
+pub mod Going
+pub mod Showing
+pub mod Parts
+pub mod ById
+pub mod Tokens
