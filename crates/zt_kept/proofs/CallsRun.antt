@@ -341,7 +341,7 @@ module _ {K : Type 0} (cmp : K → K → Ordering) where
 
     -- ---- interests
 
-    route_leaves : (g : Rows K) (asker : Region) (interest : InterestRow K) (f : Face K) → Each LeavesAsks (route_to g asker interest f)
+    pub route_leaves : (g : Rows K) (asker : Region) (interest : InterestRow K) (f : Face K) → Each LeavesAsks (route_to g asker interest f)
     unfolding route_to
     route_leaves g asker interest f = of_cond (Each LeavesAsks) (is_target g asker interest.mode f) (message.Interest f.next interest.mode interest.options interest.expr ∷ []) [] (λ _. (tt, tt)) (λ _. tt)
 

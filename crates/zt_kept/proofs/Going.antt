@@ -172,7 +172,7 @@ pub record GoesOn {K : Type 0} (but : ℕ → Bool) (g h : Rows K) (change : Fac
   pub each : Each (λ f. FaceGoesOn but g f (change f)) g.faces
 
 module _ {K : Type 0} where
-  known_goes_on : (but : ℕ → Bool) (g h : Rows K) (change : Face K → Face K) → GoesOn but g h change → (p : NamedPending) → PendingIsKnown g p → PendingIsKnown h p
+  pub known_goes_on : (but : ℕ → Bool) (g h : Rows K) (change : Face K → Face K) → GoesOn but g h change → (p : NamedPending) → PendingIsKnown g p → PendingIsKnown h p
   known_goes_on but g h change goes p known =
       let made_ : p.face ≤ g.made = known.made in
       let more : g.made ≤ h.made = goes.made in
@@ -277,6 +277,15 @@ module _ {K : Type 0} (cmp : K → K → Ordering) (matching : K → K → Bool)
       let one = quiet g ordered.lists in
       in_order_by cmp matching (change g) one.0 (subst (λ ts. Each (λ t. IsToldInOrder cmp t.rows t.next) ts) (sym one.1) (tolds_in_order cmp matching g ordered))
 
+  pub goes_on_heard : (but : ℕ → Bool) (ss : Sends K) (g : Rows K) → Each (λ f. (mode : InterestMode) (id : ℕ) → IsNamed mode id f → IsNamed mode id (hears ss g f)) g.faces → GoesOn but g (rows_heard cmp ss g) (hears ss g)
+  unfolding rows_heard
+  goes_on_heard but ss g named_ = record {
+    faces = refl;
+    made = omega arith;
+    mode = refl;
+    each = each_weaker (λ f. (mode : InterestMode) (id : ℕ) → IsNamed mode id f → IsNamed mode id (hears ss g f)) (λ f. FaceGoesOn but g f (hears ss g f)) (λ f named. face_hears but (messages_for f.number ss) g f named) g.faces named_;
+  }
+
   -- Faces hear, and their lists stay in order: each goes on.
   pub sound_heard : (but : ℕ → Bool) (unseen untold unseen_ untold_ : Region → K → Bool) (ss : Sends K) (g : Rows K) → RowsAreInOrder cmp matching (rows_heard cmp ss g)
       → Each (λ f. (mode : InterestMode) (id : ℕ) → IsNamed mode id f → IsNamed mode id (hears ss g f)) g.faces
@@ -287,12 +296,7 @@ module _ {K : Type 0} (cmp : K → K → Ordering) (matching : K → K → Bool)
       let h = rows_heard cmp ss g in
       let same_ : ShowSame g h = record { live = live_rows_heard cmp ss g; refused = refl } in
       sound_goes_on but unseen untold unseen_ untold_ g h (hears ss g)
-      (record {
-        faces = refl;
-        made = omega arith;
-        mode = refl;
-        each = each_weaker (λ f. (mode : InterestMode) (id : ℕ) → IsNamed mode id f → IsNamed mode id (hears ss g f)) (λ f. FaceGoesOn but g f (hears ss g f)) (λ f named. face_hears but (messages_for f.number ss) g f named) g.faces named_;
-      })
+      (goes_on_heard but ss g named_)
       ordered
       (each_weaker (λ f. is_routed g f ≡ false → but f.number ≡ false → KeepsBut cmp matching unseen untold g f → KeepsBut cmp matching unseen_ untold_ g (hears ss g f)) (λ f. is_routed g f ≡ false → but f.number ≡ false → KeepsBut cmp matching unseen untold g f → KeepsBut cmp matching unseen_ untold_ h (hears ss g f))
       (λ f one plain seen right. keeps_stays cmp matching unseen_ untold_ g h (hears ss g f) (hears ss g f) same_ (stays_itself (hears ss g f)) (one plain seen right)) g.faces each_)

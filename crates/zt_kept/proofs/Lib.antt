@@ -7,3 +7,8 @@ pub mod Showing
 pub mod Parts
 pub mod ById
 pub mod Tokens
+pub mod Ends
+pub mod Interests
+pub mod Asking
+pub mod Opening
+pub mod Closing
