@@ -1,8 +1,8 @@
 -- What a face keeps once it is answered: by a token that a face to the north declares, by its own gateway when it
 -- asks, when its interest ends, and when it is greeted.
-use Rattle.std.proofs.Common.{◌≡◌, ◌⊎◌, inl, inr, ℕ, ◌+◌, ◌≤◌, ◌<◌, Bool, true, false, cond, not, if◌then◌else◌, ◌&&◌, ◌||◌, ◌==◌, List, [], ◌∷◌, ◌++◌, filter, map, Option, Some, None, refl, sym, ap, ◌∙◌, subst, arith, ⊎_elim}
+use Rattle.std.proofs.Common.{◌≡◌, ◌⊎◌, inl, inr, ℕ, ◌+◌, ◌≤◌, ◌<◌, Bool, true, false, not, if◌then◌else◌, ◌&&◌, ◌||◌, ◌==◌, List, [], ◌∷◌, ◌++◌, filter, map, Option, Some, None, refl, sym, ap, ◌∙◌, subst, arith, ⊎_elim}
 use Rattle.std.proofs.Math.Bool.{or-false}
-use Rattle.std.proofs.lemmas.Bool.{and_parts, and_from, or_left, or_right, or_cases, or_parts, not_from_false, not-true, not-false}
+use Rattle.std.proofs.lemmas.Bool.{and_parts, and_from, or_left, or_right, or_cases, or_parts}
 use Rattle.std.specs.Cmp.{IsTotalOrder}
 use Rattle.std.specs.List.{flat_map, list_any}
 use Rattle.std.specs.declared.cmp.Ordering.{Ordering}
@@ -12,11 +12,11 @@ use Rattle.zt_region.specs.declared.region.Region.TheVariants.{North, Local, Sou
 use Rattle.zt_region.specs.declared.region.WhatAmI.{WhatAmI}
 use Rattle.zt_region.specs.declared.region.WhatAmI.TheVariants.{Router, Peer, Client}
 use Rattle.zt_region.specs.Region.{is_north, region_eq, whatami_eq}
-use Rattle.zt_protocol.specs.Interest.{is_current, is_future, has_tokens}
+use Rattle.zt_protocol.specs.Interest.{is_current, is_future}
 use Rattle.zt_protocol.specs.declared.interests.InterestMode.{InterestMode}
 use Rattle.zt_protocol.specs.declared.messages.Message.{Message}
 use Rattle.zt_protocol.specs.declared.messages.Message.TheVariants as message
-use Rattle.zt_model.specs.Hearing.{heard, heard_all, put_if, told_pair}
+use Rattle.zt_model.specs.Hearing.{heard, heard_all}
 use Rattle.zt_model.specs.Lists.{at_id, has_id, in_key_order, is_among, is_some_and, same}
 use Rattle.zt_model.specs.Refusals.{is_interest_id_in_use}
 use Rattle.zt_model.specs.Routing.{asked_as, final_of, final_of_both, opening_tokens, tokens_from, unheld, untell_to}
@@ -26,15 +26,15 @@ use Rattle.zt_model.specs.Strategy.{is_broker, is_router_hat, strategy_of}
 use Rattle.zt_model.specs.Telling.{answer_to, is_answered_by, was_sent_as}
 use Rattle.zt_model.specs.Transcript.{Each, KeepsWhatItShould}
 use Rattle.zt_model.specs.Visible.{is_admitted, is_visible, keeps, shows, visible_expressions}
-use Rattle.zt_model.specs.Wants.{asks_token, covers, is_about, seeks, wants}
+use Rattle.zt_model.specs.Wants.{asks_token, covers, seeks, wants}
 use Rattle.zt_laws.specs.Sound.{IsToldInOrder, NamesOnce, RiseFrom}
 use Rattle.zt_laws.specs.Effects.{told_after_answers}
 use Rattle.zt_laws.proofs.Hearing.{heard_all-append, heard_all-held, heard_all-region}
 use Rattle.zt_laws.proofs.Interests.{among-answered, covers_asked, heard_answers, heard_final, keeps_after_asking, names_after_answers, seeks_asked}
 use Rattle.zt_laws.proofs.Keys.{among-filter, among-in_key_order, and_back, any_and, same_back, same_is}
-use Rattle.zt_laws.proofs.Lists.{any-append, any-filter, any-map, any_alike, any_from_filter, any_weaker, by_test, each_append, each_fails, each_filter, each_weaker, each_always, filter_all, filter_alike, never, of_cond}
+use Rattle.zt_laws.proofs.Lists.{any-filter, any-map, any_alike, any_from_filter, by_test, each_append, each_fails, each_weaker, each_always, filter_all, filter_alike, never, of_cond}
 use Rattle.zt_laws.proofs.Telling.{covers_alike, covers_seeks, seeks_alike}
-use Rattle.zt_laws.proofs.Told.{in_order_filter, names, names-append, told_id_none, told_pair_new, without_told}
+use Rattle.zt_laws.proofs.Told.{names, names-append, told_id_none, told_pair_new, without_told}
 use Rattle.zt_laws.proofs.Visible.{admitted_visible, among-visible_expressions}
 use Rattle.zt_kept.specs.Sound.{AskIsHeld, KeepsBut, nothing_left, shown_from}
 
@@ -137,9 +137,9 @@ module _ {K : Type 0} (cmp : K → K → Ordering) (matching : K → K → Bool)
       let whole : keeps cmp (heard_all cmp now (ms ++ more) f) x ≡ keeps cmp (heard_all cmp now more h) x = ap (λ (k : Face K). keeps cmp k x) (heard_all-append cmp now ms more f) in (
         (λ kept. whole ∙ rest.0 (one.0 kept)),
         (λ kept.
-        ⊎_elim (λ here. ⊎_elim (λ old. inl old) (λ own. let parts = and_parts (same cmp x e) (is_answered_later n id e row) own in inr (and_from (same cmp x e) (is_answered_later n id e row || list_any (is_answered_later n id e) rows) parts.0 (or_left (is_answered_later n id e row) (list_any (is_answered_later n id e) rows) parts.1))) (one.1 here))
-        (λ later. let parts = and_parts (same cmp x e) (list_any (is_answered_later n id e) rows) later in inr (and_from (same cmp x e) (is_answered_later n id e row || list_any (is_answered_later n id e) rows) parts.0 (or_right (is_answered_later n id e row) (list_any (is_answered_later n id e) rows) parts.1)))
-        (rest.1 (sym whole ∙ kept))),
+            ⊎_elim (λ here. ⊎_elim (λ old. inl old) (λ own. let parts = and_parts (same cmp x e) (is_answered_later n id e row) own in inr (and_from (same cmp x e) (is_answered_later n id e row || list_any (is_answered_later n id e) rows) parts.0 (or_left (is_answered_later n id e row) (list_any (is_answered_later n id e) rows) parts.1))) (one.1 here))
+            (λ later. let parts = and_parts (same cmp x e) (list_any (is_answered_later n id e) rows) later in inr (and_from (same cmp x e) (is_answered_later n id e row || list_any (is_answered_later n id e) rows) parts.0 (or_right (is_answered_later n id e row) (list_any (is_answered_later n id e) rows) parts.1)))
+            (rest.1 (sym whole ∙ kept))),
       )
     where
       first : (row : ℕ × Ask K) (f : Face K)

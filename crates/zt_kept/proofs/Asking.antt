@@ -1,6 +1,6 @@
 -- An interest leaves a gateway sound: it is sent on, held and answered.
-use Rattle.std.proofs.Common.{◌≡◌, ℕ, ◌+◌, ◌≤◌, ◌<◌, max, Bool, true, false, not, if◌then◌else◌, ◌&&◌, ◌||◌, ◌==◌, List, [], ◌∷◌, ◌++◌, filter, map, Option, Some, None, refl, sym, ap, ◌∙◌, subst, arith, eqb-true, ne_eqb}
-use Rattle.std.proofs.lemmas.Bool.{and_parts, or_parts}
+use Rattle.std.proofs.Common.{◌≡◌, ℕ, ◌+◌, ◌≤◌, Bool, true, false, not, if◌then◌else◌, ◌&&◌, ◌||◌, ◌==◌, List, [], ◌∷◌, filter, map, Option, Some, None, refl, sym, ap, ◌∙◌, subst, arith, eqb-true}
+use Rattle.std.proofs.lemmas.Bool.{or_parts}
 use Rattle.std.specs.Cmp.{IsTotalOrder}
 use Rattle.std.specs.Ordering.{nat_cmp}
 use Rattle.std.specs.FinMap.Entries.{put}
@@ -21,12 +21,12 @@ use Rattle.zt_model.specs.Lists.{at_id, first_where, has_id}
 use Rattle.zt_model.specs.Refusals.{is_interest_id_in_use}
 use Rattle.zt_model.specs.Routing.{asked_as, final_of, is_target, is_target_of, route_to, sent_as}
 use Rattle.zt_model.specs.Rows.{Ask, ById, Face, InterestRow, Pending, Rows}
-use Rattle.zt_model.specs.Says.{Alter, Part, Say, Sends, answered_expressions, answers_from, answers_of, asking, find_face, is_routed, to_each, to_face, told_id, with_face}
+use Rattle.zt_model.specs.Says.{Alter, Say, answered_expressions, answers_from, answers_of, asking, find_face, is_routed, to_each, to_face, told_id, with_face}
 use Rattle.zt_model.specs.Transcript.{Each}
 use Rattle.zt_laws.specs.Kept.{told_of}
 use Rattle.zt_laws.specs.Order.{HasRowsInOrder, RowsAreInOrder}
-use Rattle.zt_laws.specs.Sound.{IsToldInOrder, RiseFrom}
-use Rattle.zt_laws.proofs.Hearing.{each_ruled, each_ruled_one, find_only, heard_all-held, heard_all-live, heard_all-number, heard_all-region, messages_for_each, rows_heard_nothing}
+use Rattle.zt_laws.specs.Sound.{IsToldInOrder}
+use Rattle.zt_laws.proofs.Hearing.{each_ruled, each_ruled_one, find_only, heard_all-held, heard_all-live, heard_all-number, heard_all-region, messages_for_each}
 use Rattle.zt_laws.proofs.Interests.{answered_in_order}
 use Rattle.zt_laws.proofs.Lists.{by_test, each_always, each_both, each_map, each_weaker, filter_alike, never, of_cond}
 use Rattle.zt_laws.proofs.PartsOrder.{each_message_for, orderly_each, orderly_one, quiet_face, rise_put_if}
@@ -35,7 +35,7 @@ use Rattle.zt_laws.proofs.ToldFrom.{found_by_number}
 use Rattle.zt_laws.proofs.ToldOrder.{DrawsNothing, in_order_answers, in_order_nothings}
 use Rattle.zt_laws.proofs.Visible.{at_only, rise_put}
 use Rattle.zt_kept.specs.Ran.{ran}
-use Rattle.zt_kept.specs.Sound.{AskIsHeld, IsNamed, KeepsBut, NamedPending, PendingIsKnown, PendingsOfAskAreKnown, named_by_ask, nothing_left}
+use Rattle.zt_kept.specs.Sound.{AskIsHeld, IsNamed, KeepsBut, PendingIsKnown, PendingsOfAskAreKnown, nothing_left}
 use Rattle.zt_kept.proofs.Answered.{keeps_asked}
 use Rattle.zt_kept.proofs.ById.{at_has, at_put, at_put_other, find_mapped}
 use Rattle.zt_kept.proofs.CallsRun.{LeavesAsks, each_entity, route_leaves}

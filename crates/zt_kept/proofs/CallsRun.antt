@@ -1,11 +1,9 @@
 -- What each call leaves is what its parts run to.
-use Rattle.std.proofs.Common.{◌≡◌, ℕ, ◌+◌, Bool, true, false, not, if◌then◌else◌, ◌&&◌, ◌==◌, List, [], ◌∷◌, ◌++◌, map, filter, Option, Some, None, refl, sym, ap, ◌∙◌}
+use Rattle.std.proofs.Common.{◌≡◌, ℕ, ◌+◌, Bool, not, if◌then◌else◌, ◌&&◌, ◌==◌, List, [], ◌∷◌, ◌++◌, map, filter, Option, Some, None, refl, sym, ap, ◌∙◌}
 use Rattle.std.specs.List.{flat_map, list_any}
 use Rattle.std.specs.Option.{option_to_list}
 use Rattle.std.specs.declared.cmp.Ordering.{Ordering}
-use Rattle.zt_region.specs.declared.region.Bound.{Bound}
 use Rattle.zt_region.specs.declared.region.Region.{Region}
-use Rattle.zt_region.specs.declared.region.WhatAmI.{WhatAmI}
 use Rattle.zt_region.specs.declared.region.Zid.{Zid}
 use Rattle.zt_region.specs.Region.{region_eq, zid_eq}
 use Rattle.zt_protocol.specs.Interest.{has_aggregate, has_queryables, has_subscribers, is_current, is_future}
@@ -13,18 +11,18 @@ use Rattle.zt_protocol.specs.Plain.{PlainCall, NewSession, NewTransport, Declare
 use Rattle.zt_protocol.specs.declared.messages.Message.{Message}
 use Rattle.zt_protocol.specs.declared.messages.Message.TheVariants as message
 use Rattle.zt_protocol.specs.declared.messages.QueryableInfo.{QueryableInfo}
-use Rattle.zt_model.specs.Closing.{closing, expiring, is_expired, leaving, without_asks, without_face}
+use Rattle.zt_model.specs.Closing.{closing, is_expired, leaving, without_asks, without_face}
 use Rattle.zt_model.specs.Entities.{aggregate_of, all_merged, entities_for, info_of, matching_queryables, matching_subscribers, number_of, numbered_by, queryable_of, queryables_for, subscriber_of, subscribers_for, with_entities, with_numbers}
 use Rattle.zt_model.specs.Hearing.{heard, heard_all, messages_for, rows_heard}
 use Rattle.zt_model.specs.Lists.{at_id, first_of, has_id, in_key_order, same}
 use Rattle.zt_model.specs.Parts.{unsaid_to}
-use Rattle.zt_model.specs.Routing.{asked_as, end_upstream_to, ended, ending, final_of, final_of_both, finalising, finish_to, finishing, initial_finalised, interests_from, is_target, opened, opening, opening_final, opening_interests, opening_tokens, route_to, sent_as, tokens_from, unheld, untell_to}
+use Rattle.zt_model.specs.Routing.{asked_as, end_upstream_to, ended, ending, final_of, final_of_both, finalising, finish_to, finishing, initial_finalised, interests_from, is_target, opened, opening_final, opening_interests, opening_tokens, route_to, sent_as, tokens_from, unheld, untell_to}
 use Rattle.zt_model.specs.Rows.{Face, InterestRow, RoutedRow, Rows}
-use Rattle.zt_model.specs.Says.{Alter, Part, Say, altered_by, answered_expressions, answering, answers_of, asking, declaring, declaring_of, finalising_held, find_face, forget_to, hiding_undeclared, interesting_above, is_routed, opened_session, parts_of, registered, registers, row_of, said_by, tell_to, to_each, to_face, undeclared, undeclaring, undeclaring_of, unregistered, with_face}
+use Rattle.zt_model.specs.Says.{Alter, Part, Say, altered_by, answering, answers_of, asking, declaring, declaring_of, finalising_held, find_face, forget_to, hiding_undeclared, is_routed, opened_session, parts_of, registered, registers, row_of, said_by, tell_to, to_each, to_face, undeclared, undeclaring, undeclaring_of, unregistered, with_face}
 use Rattle.zt_model.specs.Strategy.{is_router_hat, strategy_of}
 use Rattle.zt_model.specs.Telling.{answer_to}
 use Rattle.zt_model.specs.Transcript.{Each}
-use Rattle.zt_model.specs.Trees.{changing_table, counted_table, declaring_routed, greet_to, hide_to, hiding, is_hidden, is_left_out, is_newly_shown, is_routed_row, left_out, pass_to, router_regions, row_at, show_to, showing, source_of, table_of, undeclaring_routed, unpass_to, with_own_rows, with_routed, with_table, without_left_out, without_own_rows, without_routed}
+use Rattle.zt_model.specs.Trees.{changing_table, counted_table, greet_to, hide_to, hiding, is_hidden, is_newly_shown, left_out, pass_to, router_regions, show_to, showing, source_of, table_of, unpass_to, with_own_rows, with_routed, with_table, without_left_out, without_own_rows, without_routed}
 use Rattle.zt_model.specs.Visible.{is_visible, live_rows, rows_of_face, shows}
 use Rattle.zt_laws.specs.Sound.{rows_after_call}
 use Rattle.zt_laws.proofs.Faces.{carried}
@@ -35,7 +33,7 @@ use Rattle.zt_laws.proofs.Silent.{silent_end_upstream, silent_final_of_both, sil
 use Rattle.zt_laws.proofs.ToldOrder.{DrawsNothing}
 use Rattle.zt_laws.proofs.Visible.{flat_map_map, live_rows_alike, rows_of_face_alike}
 use Rattle.zt_kept.specs.Ran.{ran}
-use Rattle.zt_kept.proofs.Running.{Exchanges, IsExchanged, SaysOnly, carried_is_ran, carried_then_says, exchange_face, exchange_filter, exchange_routed, said_is_ran}
+use Rattle.zt_kept.proofs.Running.{Exchanges, IsExchanged, carried_is_ran, carried_then_says, exchange_face, exchange_filter, exchange_routed, said_is_ran}
 
 module _ {K : Type 0} (cmp : K → K → Ordering) where
   -- hearing leaves the live rows
@@ -350,11 +348,16 @@ module _ {K : Type 0} (cmp : K → K → Ordering) where
         carried_then_says cmp matching LeavesAsks
         (Alter (with_numbers cmp (numbered_by cmp interest)) ∷ Say (λ k. to_each (route_to k asker interest) k.faces) ∷ Say (λ k. to_face n (entities_for cmp matching k id interest) k) ∷ Alter (with_face n (asked_as (sent_as g asker interest.mode) id interest)) ∷ [])
         (Say (λ k. to_face n (answers_of cmp matching k id interest) k) ∷ Say (to_face n (final_of id)) ∷ [])
-        h
-        (numbers_exchanged LeavesAsks (numbered_by cmp interest),
-        (λ k. each_ruled LeavesAsks (route_to k asker interest) k.faces (route_leaves k asker interest),
-        (λ k. each_ruled_one LeavesAsks n (entities_for cmp matching k id interest) k (each_entity LeavesAsks (λ number e i. tt) (λ number e info i. tt) matching k id interest),
-        (asked_exchanged (sent_as g asker interest.mode) n id interest, tt))))
+        h (
+          numbers_exchanged LeavesAsks (numbered_by cmp interest),
+          (
+            λ k. each_ruled LeavesAsks (route_to k asker interest) k.faces (route_leaves k asker interest),
+            (
+              λ k. each_ruled_one LeavesAsks n (entities_for cmp matching k id interest) k (each_entity LeavesAsks (λ number e i. tt) (λ number e info i. tt) matching k id interest),
+              (asked_exchanged (sent_as g asker interest.mode) n id interest, tt),
+            ),
+          ),
+        )
         (tt, (tt, tt))
 
     -- ---- calls

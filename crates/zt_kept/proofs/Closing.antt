@@ -1,5 +1,5 @@
 -- Closing a face leaves a gateway sound: the others hear all that its leaving says.
-use Rattle.std.proofs.Common.{◌≡◌, ℕ, ◌+◌, ◌≤◌, ◌<◌, Bool, true, false, not, if◌then◌else◌, ◌&&◌, ◌||◌, ◌==◌, List, [], ◌∷◌, ◌++◌, filter, map, Option, Some, None, refl, sym, ap, ◌∙◌, subst, arith, eq-eqb, eqb-true}
+use Rattle.std.proofs.Common.{◌≡◌, ℕ, Bool, true, false, not, if◌then◌else◌, ◌==◌, List, [], ◌∷◌, ◌++◌, filter, map, Option, Some, None, refl, sym, ap, ◌∙◌, subst, eq-eqb}
 use Rattle.std.proofs.lemmas.Bool.{not-true}
 use Rattle.std.specs.Cmp.{IsTotalOrder}
 use Rattle.std.specs.List.{flat_map}
@@ -9,17 +9,16 @@ use Rattle.zt_region.specs.declared.region.Region.{Region}
 use Rattle.zt_protocol.specs.declared.interests.InterestMode.{InterestMode}
 use Rattle.zt_protocol.specs.declared.messages.Message.{Message}
 use Rattle.zt_model.specs.Closing.{closing, leaving, without_asks, without_face}
-use Rattle.zt_model.specs.Hearing.{heard_all, messages_for, rows_heard}
-use Rattle.zt_model.specs.Lists.{at_id, first_where, without_id}
+use Rattle.zt_model.specs.Hearing.{messages_for, rows_heard}
+use Rattle.zt_model.specs.Lists.{at_id, without_id}
 use Rattle.zt_model.specs.Parts.{unsaid_to}
 use Rattle.zt_model.specs.Routing.{end_upstream_to, ended, ending, final_of_both, finalising, finish_to, unheld, untell_to}
-use Rattle.zt_model.specs.Rows.{Ask, ById, Face, InterestRow, Pending, Rows}
+use Rattle.zt_model.specs.Rows.{ById, Face, InterestRow, Pending, Rows}
 use Rattle.zt_model.specs.Says.{Alter, Part, Say, Sends, find_face, forget_to, is_routed, to_each, to_face, undeclared, undeclaring, unregistered, with_face}
 use Rattle.zt_model.specs.Transcript.{Each}
 use Rattle.zt_model.specs.Trees.{hide_to, hiding, without_own_rows}
-use Rattle.zt_model.specs.Visible.{live_rows, routed_rows, rows_of_face}
-use Rattle.zt_laws.specs.Kept.{told_of}
-use Rattle.zt_laws.specs.Order.{HasRowsInOrder, RowsAreInOrder}
+use Rattle.zt_model.specs.Visible.{routed_rows, rows_of_face}
+use Rattle.zt_laws.specs.Order.{HasRowsInOrder}
 use Rattle.zt_laws.specs.Sound.{IsToldInOrder, RiseFrom}
 use Rattle.zt_laws.proofs.CallsOrder.{without_face_in_order}
 use Rattle.zt_laws.proofs.Faces.{chosen_leaves}
@@ -30,13 +29,13 @@ use Rattle.zt_laws.proofs.Registering.{messages_but_for}
 use Rattle.zt_laws.proofs.ToldOrder.{DrawsNothing}
 use Rattle.zt_laws.proofs.Visible.{at_only}
 use Rattle.zt_kept.specs.Ran.{ran}
-use Rattle.zt_kept.specs.Sound.{AllKeepBut, AskIsHeld, AsksAreHeld, IsNamed, IsSoundBut, KeepsBut, NamedPending, PendingIsKnown, PendingsAreKnown, PendingsOfAskAreKnown, RoutedDeclareNothing, named_by_ask, nothing_left}
+use Rattle.zt_kept.specs.Sound.{AskIsHeld, IsNamed, IsSoundBut, KeepsBut, PendingIsKnown, PendingsOfAskAreKnown, named_by_ask, nothing_left}
 use Rattle.zt_kept.proofs.ById.{each_at, find_mapped, without_first}
 use Rattle.zt_kept.proofs.Ends.{sound_ended, with_face_same}
-use Rattle.zt_kept.proofs.Going.{FaceGoesOn, GoesOn, IsQuietMessage, goes_on_itself, hears, ordered_altered, sound_goes_on, sound_quiet}
+use Rattle.zt_kept.proofs.Going.{FaceGoesOn, IsQuietMessage, goes_on_itself, hears, ordered_altered, sound_goes_on, sound_quiet}
 use Rattle.zt_kept.proofs.Interests.{with_face_faces, with_face_made, with_face_mode}
 use Rattle.zt_kept.proofs.Keeping.{ShowSame, keeps_stays, stays_itself}
-use Rattle.zt_kept.proofs.Parts.{Spares, each_end_upstream, nobody, only, sound_forgot, sound_hid, sound_unregistered}
+use Rattle.zt_kept.proofs.Parts.{Spares, each_end_upstream, only, sound_forgot, sound_hid, sound_unregistered}
 use Rattle.zt_kept.proofs.Running.{ran-append}
 use Rattle.zt_kept.proofs.Tokens.{Sound}
 

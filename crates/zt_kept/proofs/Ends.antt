@@ -1,5 +1,5 @@
 -- Finals, expiry and entities leave a gateway sound.
-use Rattle.std.proofs.Common.{◌≡◌, ℕ, ◌+◌, ◌<◌, Bool, true, false, not, if◌then◌else◌, ◌==◌, List, [], ◌∷◌, ◌++◌, filter, map, Option, Some, None, refl, sym, ap, ◌∙◌, subst}
+use Rattle.std.proofs.Common.{◌≡◌, ℕ, Bool, true, not, if◌then◌else◌, ◌==◌, List, [], ◌∷◌, filter, map, refl, sym, ap, ◌∙◌, subst}
 use Rattle.std.specs.Cmp.{IsTotalOrder}
 use Rattle.std.specs.List.{flat_map}
 use Rattle.std.specs.declared.cmp.Ordering.{Ordering}
@@ -14,7 +14,7 @@ use Rattle.zt_model.specs.Hearing.{rows_heard}
 use Rattle.zt_model.specs.Lists.{at_id, has_id}
 use Rattle.zt_model.specs.Routing.{ended, ending, finish_to, finishing, initial_finalised}
 use Rattle.zt_model.specs.Rows.{ById, Face, InterestRow, Rows}
-use Rattle.zt_model.specs.Says.{Alter, Part, Say, Sends, to_each, with_face}
+use Rattle.zt_model.specs.Says.{Part, Sends, to_each, with_face}
 use Rattle.zt_model.specs.Transcript.{Each}
 use Rattle.zt_model.specs.Visible.{rows_of_face}
 use Rattle.zt_laws.specs.Order.{HasRowsInOrder}
@@ -28,7 +28,7 @@ use Rattle.zt_laws.proofs.Visible.{flat_map_map, live_rows_alike, rows_of_face_a
 use Rattle.zt_kept.specs.Ran.{ran}
 use Rattle.zt_kept.specs.Sound.{AskIsHeld, IsNamed, IsSoundBut, PendingsOfAskAreKnown, nothing_left}
 use Rattle.zt_kept.proofs.Going.{FaceGoesOn, IsQuietMessage, ordered_altered, sound_face, sound_quiet, sound_rows_same}
-use Rattle.zt_kept.proofs.Keeping.{ShowSame, Stays, keeps_stays}
+use Rattle.zt_kept.proofs.Keeping.{ShowSame, keeps_stays}
 use Rattle.zt_kept.proofs.Parts.{Spares, nobody, quiet_finish}
 use Rattle.zt_kept.proofs.Running.{ran-append}
 use Rattle.zt_kept.proofs.Tokens.{Sound, spares_nothing}

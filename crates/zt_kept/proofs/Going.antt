@@ -1,7 +1,6 @@
 -- A gateway stays sound, but for what is left to be done, while its faces hear and its rows change.
-use Rattle.std.proofs.Common.{◌≡◌, ℕ, ◌+◌, ◌≤◌, ◌<◌, max, Bool, true, false, cond, not, if◌then◌else◌, ◌&&◌, ◌||◌, ◌==◌, List, [], ◌∷◌, ◌++◌, filter, map, Option, Some, None, refl, sym, ap, ◌∙◌, subst, arith, ne_eqb, ⊎_elim, le_trans}
+use Rattle.std.proofs.Common.{◌≡◌, ℕ, ◌+◌, ◌≤◌, ◌<◌, Bool, true, false, not, if◌then◌else◌, ◌&&◌, ◌||◌, ◌==◌, List, [], ◌∷◌, ◌++◌, filter, map, Option, Some, None, refl, sym, ap, ◌∙◌, subst, arith, ne_eqb}
 use Rattle.std.proofs.lemmas.Cmp.{ranked}
-use Rattle.std.specs.Cmp.{IsTotalOrder}
 use Rattle.std.specs.FinMap.Entries.{by_order, put}
 use Rattle.std.specs.List.{list_any}
 use Rattle.std.specs.Ordering.{nat_cmp}
@@ -17,24 +16,20 @@ use Rattle.zt_model.specs.Hearing.{heard, heard_all, messages_for, put_if, rows_
 use Rattle.zt_region.specs.Region.{is_north}
 use Rattle.zt_model.specs.Lists.{at_id, same}
 use Rattle.zt_model.specs.Routing.{interests_from}
-use Rattle.zt_model.specs.Rows.{Ask, ById, Face, InterestRow, Pending, Rows}
-use Rattle.zt_model.specs.Says.{Alter, Part, Say, Sends, is_routed, to_each, to_face, with_face}
+use Rattle.zt_model.specs.Rows.{Ask, ById, Face, InterestRow, Rows}
+use Rattle.zt_model.specs.Says.{Say, Sends, is_routed, to_each, with_face}
 use Rattle.zt_model.specs.Strategy.{is_router_hat, strategy_of}
 use Rattle.zt_model.specs.Transcript.{Each}
-use Rattle.zt_model.specs.Visible.{live_rows}
-use Rattle.zt_laws.specs.Kept.{told_of}
-use Rattle.zt_laws.specs.Order.{ListsAreInOrder, RowsAreInOrder}
+use Rattle.zt_laws.specs.Order.{RowsAreInOrder}
 use Rattle.zt_laws.specs.Sound.{IsToldInOrder}
-use Rattle.zt_laws.proofs.Faces.{chosen_leaves}
-use Rattle.zt_laws.proofs.Hearing.{heard_all-held, heard_all-live, heard_all-number, heard_all-region, messages_for_each, messages_for_other, messages_for_own}
-use Rattle.zt_laws.proofs.Keeping.{told_alone}
-use Rattle.zt_laws.proofs.Lists.{by_test, each_always, each_append, each_both, each_filter, each_map, each_weaker, map_same, never, of_cond}
+use Rattle.zt_laws.proofs.Hearing.{heard_all-held, heard_all-live, heard_all-number, heard_all-region, messages_for_each}
+use Rattle.zt_laws.proofs.Lists.{each_always, each_both, each_filter, each_map, each_weaker, map_same, never, of_cond}
 use Rattle.zt_laws.proofs.PartsOrder.{IsOrderlyPart, IsQuiet, each_message_for, heard_in_order, in_order_by, lists_heard, nothing_told, tolds, tolds_in_order}
 use Rattle.zt_laws.proofs.Registering.{messages_but_for}
 use Rattle.zt_laws.proofs.ToldOrder.{DrawsNothing, tells_if_draws, TellsNothing}
 use Rattle.zt_kept.specs.Sound.{AllKeepBut, AskIsHeld, AsksAreHeld, IsNamed, IsSoundBut, KeepsBut, NamedPending, PendingIsKnown, PendingsAreKnown, PendingsOfAskAreKnown, RoutedDeclareNothing, named_by_ask}
 use Rattle.zt_kept.proofs.CallsRun.{live_rows_heard}
-use Rattle.zt_kept.proofs.Keeping.{ShowSame, ShowsLess, ShowsMore, Stays, keeps_stays, stays_itself}
+use Rattle.zt_kept.proofs.Keeping.{ShowSame, Stays, keeps_stays, stays_itself}
 
 -- ---- rows by id
 

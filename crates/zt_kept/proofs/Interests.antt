@@ -1,49 +1,36 @@
 -- Interests and their ends leave a gateway sound.
-use Rattle.std.proofs.Common.{◌≡◌, ℕ, ◌+◌, ◌≤◌, ◌<◌, Bool, true, false, not, if◌then◌else◌, ◌&&◌, ◌||◌, ◌==◌, List, [], ◌∷◌, ◌++◌, filter, map, Option, Some, None, refl, sym, ap, ◌∙◌, subst, arith, eqb-true, eq-eqb, ne_eqb}
-use Rattle.std.proofs.lemmas.Bool.{and_from, and_parts, or_parts}
+use Rattle.std.proofs.Common.{◌≡◌, ℕ, ◌≤◌, Bool, true, false, not, if◌then◌else◌, ◌&&◌, ◌==◌, List, map, Option, Some, refl, sym, ap, ◌∙◌, subst, arith, eqb-true}
+use Rattle.std.proofs.lemmas.Bool.{and_from}
 use Rattle.std.specs.Cmp.{IsTotalOrder}
-use Rattle.std.specs.List.{list_any}
-use Rattle.std.specs.Ordering.{nat_cmp}
-use Rattle.std.specs.FinMap.Entries.{put}
 use Rattle.std.specs.declared.cmp.Ordering.{Ordering}
 use Rattle.std.specs.declared.cmp.Ordering.TheVariants.{Equal}
-use Rattle.zt_region.specs.declared.region.Region.{Region}
 use Rattle.zt_region.specs.Region.{is_north}
 use Rattle.zt_protocol.specs.Interest.{is_current, is_future}
-use Rattle.zt_protocol.specs.declared.interests.InterestMode.{InterestMode}
 use Rattle.zt_protocol.specs.declared.messages.Message.{Message}
-use Rattle.zt_protocol.specs.declared.messages.Message.TheVariants as message
-use Rattle.zt_model.specs.Entities.{entities_for, numbered_by, with_numbers}
-use Rattle.zt_model.specs.Hearing.{heard, heard_all, messages_for, put_if, rows_heard}
-use Rattle.zt_model.specs.Lists.{at_id, first_where, has_id, is_some_and, without_id}
-use Rattle.zt_model.specs.Refusals.{is_interest_id_in_use}
-use Rattle.zt_model.specs.Routing.{asked_as, end_upstream_to, final_of, final_of_both, finalising, is_target, route_to, sent_as, unheld, untell_to}
-use Rattle.zt_model.specs.Rows.{Ask, ById, Face, InterestRow, Pending, Rows}
-use Rattle.zt_model.specs.Says.{Alter, Part, Say, Sends, answered_expressions, answers_from, answers_of, asking, find_face, interesting_above, is_routed, to_each, to_face, told_id, with_face}
+use Rattle.zt_model.specs.Hearing.{heard_all, rows_heard}
+use Rattle.zt_model.specs.Lists.{at_id, is_some_and, without_id}
+use Rattle.zt_model.specs.Routing.{end_upstream_to, final_of_both, finalising, unheld, untell_to}
+use Rattle.zt_model.specs.Rows.{Ask, ById, Face, InterestRow, Rows}
+use Rattle.zt_model.specs.Says.{find_face, is_routed, to_each, to_face, with_face}
 use Rattle.zt_model.specs.Transcript.{Each}
-use Rattle.zt_laws.specs.Kept.{told_of}
 use Rattle.zt_laws.specs.Order.{HasRowsInOrder, RowsAreInOrder}
-use Rattle.zt_laws.specs.Sound.{IsToldInOrder, RiseFrom}
-use Rattle.zt_laws.proofs.CallsOrder.{orderly_interesting, quiet_numbers}
-use Rattle.zt_laws.proofs.Faces.{chosen_leaves, with_face_twice}
-use Rattle.zt_laws.proofs.Hearing.{each_ruled, each_ruled_one, find_only, find_passes, heard_all-held, heard_all-live, heard_all-number, heard_all-region, messages_for_each, rows_heard-to_face}
-use Rattle.zt_laws.proofs.Lists.{by_test, each_always, each_both, each_filter, each_map, each_passes, each_weaker, map_same, never, of_cond}
-use Rattle.zt_laws.proofs.PartsOrder.{IsOrderlyPart, each_message_for, each_of_map, orderly_each, quiet_face, rise_put_if, rise_without_id, rows_in_order_heard_all}
+use Rattle.zt_laws.specs.Sound.{IsToldInOrder}
+use Rattle.zt_laws.proofs.Faces.{with_face_twice}
+use Rattle.zt_laws.proofs.Hearing.{each_ruled_one, find_only, heard_all-held, heard_all-live, heard_all-number, heard_all-region, rows_heard-to_face}
+use Rattle.zt_laws.proofs.Lists.{by_test, each_both, each_filter, each_passes, each_weaker, never, of_cond}
+use Rattle.zt_laws.proofs.PartsOrder.{quiet_face, rise_without_id, rows_in_order_heard_all}
 use Rattle.zt_laws.proofs.Said.{with_face_rises}
-use Rattle.zt_laws.proofs.Silent.{silent_final, silent_final_of_both, silent_route, silent_untell}
-use Rattle.zt_laws.proofs.ToldFrom.{found_by_number}
-use Rattle.zt_laws.proofs.ToldOrder.{DrawsNothing, in_order_nothings}
-use Rattle.zt_laws.proofs.Visible.{at_only, rise_put}
+use Rattle.zt_laws.proofs.Silent.{silent_final_of_both, silent_untell}
+use Rattle.zt_laws.proofs.ToldOrder.{DrawsNothing}
 use Rattle.zt_kept.specs.Ran.{ran}
-use Rattle.zt_kept.specs.Sound.{AskIsHeld, IsNamed, IsSoundBut, KeepsBut, NamedPending, PendingIsKnown, PendingsOfAskAreKnown, named_by_ask, nothing_left}
-use Rattle.zt_kept.proofs.Answered.{keeps_asked, keeps_finalised}
-use Rattle.zt_kept.proofs.ById.{at_put, at_put_other, at_has, at_without_other, each_at, find_mapped}
-use Rattle.zt_kept.proofs.CallsRun.{LeavesAsks, each_entity, route_leaves}
-use Rattle.zt_kept.proofs.Ends.{sound_numbers, with_face_same}
-use Rattle.zt_kept.proofs.Going.{FaceGoesOn, GoesOn, IsQuietMessage, MakesNoPending, asks_heard, each_put_if, goes_on_heard, goes_on_itself, hears, known_goes_on, named_heard, named_sent, none_if_drawn, ordered_altered, ordered_heard, silent_ordered, sound_goes_on, sound_heard, sound_quiet, speaks_each}
-use Rattle.zt_kept.proofs.Keeping.{ShowSame, Stays, keeps_stays, stays_itself}
-use Rattle.zt_kept.proofs.Parts.{Spares, all_named, each_end_upstream, nobody}
-use Rattle.zt_kept.proofs.Tokens.{Sound, spares_nothing}
+use Rattle.zt_kept.specs.Sound.{AskIsHeld, KeepsBut, PendingsOfAskAreKnown, nothing_left}
+use Rattle.zt_kept.proofs.Answered.{keeps_finalised}
+use Rattle.zt_kept.proofs.ById.{at_without_other, each_at}
+use Rattle.zt_kept.proofs.Ends.{with_face_same}
+use Rattle.zt_kept.proofs.Going.{FaceGoesOn, MakesNoPending, asks_heard, goes_on_itself, named_heard, none_if_drawn, ordered_altered, silent_ordered, sound_goes_on, sound_quiet}
+use Rattle.zt_kept.proofs.Keeping.{ShowSame, keeps_stays, stays_itself}
+use Rattle.zt_kept.proofs.Parts.{each_end_upstream, nobody}
+use Rattle.zt_kept.proofs.Tokens.{Sound}
 
 module _ {K : Type 0} where
   pub with_face_faces : (n : ℕ) (change : Face K → Face K) (g : Rows K) → (with_face n change g).faces ≡ map (λ f. if n == f.number then change f else f) g.faces

@@ -1,6 +1,5 @@
 -- What a face keeps, while live rows come and go and it is told so.
-use Rattle.std.proofs.Common.{◌≡◌, ◌⊎◌, ℕ, ◌+◌, Bool, true, false, not, if◌then◌else◌, ◌&&◌, ◌||◌, List, [], ◌∷◌, ◌++◌, refl, sym, ap, ◌∙◌, subst, ⊎_elim}
-use Rattle.std.proofs.Math.Bool.{or-false}
+use Rattle.std.proofs.Common.{◌≡◌, Bool, true, false, not, if◌then◌else◌, ◌&&◌, ◌||◌, List, ◌∷◌, refl, sym, ap, ◌∙◌, subst, ⊎_elim}
 use Rattle.std.proofs.lemmas.Bool.{and_parts, and_from, or_left, or_right, or_cases, not_from_false, not-true}
 use Rattle.std.specs.Cmp.{IsTotalOrder}
 use Rattle.std.specs.List.{list_any}
@@ -9,7 +8,7 @@ use Rattle.std.specs.declared.cmp.Ordering.TheVariants.{Equal}
 use Rattle.zt_region.specs.declared.region.Region.{Region}
 use Rattle.zt_region.specs.Admission.{admits}
 use Rattle.zt_model.specs.Lists.{is_among, same}
-use Rattle.zt_model.specs.Rows.{ById, Face, InterestRow, Rows}
+use Rattle.zt_model.specs.Rows.{ById, Face, Rows}
 use Rattle.zt_model.specs.Says.{is_routed, is_told}
 use Rattle.zt_model.specs.Visible.{is_admitted, is_visible, keeps, live_rows, shows}
 use Rattle.zt_model.specs.Wants.{covers, seeks, wants}
@@ -17,7 +16,7 @@ use Rattle.zt_laws.proofs.Forgetting.{forgotten, names-without_key}
 use Rattle.zt_laws.proofs.Keys.{same_is, same_itself}
 use Rattle.zt_laws.proofs.Lists.{any_weaker, by_test, never, of_cond}
 use Rattle.zt_laws.proofs.Telling.{covers_alike, covers_seeks, seeks_alike, told_anew}
-use Rattle.zt_laws.proofs.Told.{names, names-append}
+use Rattle.zt_laws.proofs.Told.{names-append}
 use Rattle.zt_laws.proofs.Visible.{admitted_visible}
 use Rattle.zt_kept.specs.Sound.{KeepsBut, any_of, nothing_left, shown_from, told_from}
 

@@ -12,3 +12,6 @@ pub mod Interests
 pub mod Asking
 pub mod Opening
 pub mod Closing
+pub mod Calls
+pub mod Lines
+pub mod Sound

@@ -1,5 +1,5 @@
 -- Opening a face leaves a gateway sound: a new face to the north is told what is there.
-use Rattle.std.proofs.Common.{◌≡◌, ℕ, ◌+◌, ◌≤◌, ◌<◌, Bool, true, false, not, if◌then◌else◌, ◌&&◌, ◌||◌, ◌==◌, List, [], ◌∷◌, ◌++◌, filter, map, Option, Some, None, refl, sym, ap, ◌∙◌, subst, arith, append-nil, append_assoc, ne_eqb, eq-eqb, eqb-true}
+use Rattle.std.proofs.Common.{◌≡◌, ℕ, ◌+◌, ◌≤◌, Bool, true, false, if◌then◌else◌, ◌==◌, List, [], ◌∷◌, ◌++◌, map, Option, Some, None, refl, sym, ap, ◌∙◌, subst, arith, append-nil, append_assoc, ne_eqb, eq-eqb, eqb-true}
 use Rattle.std.specs.Cmp.{IsTotalOrder}
 use Rattle.std.specs.List.{flat_map}
 use Rattle.std.specs.declared.cmp.Ordering.{Ordering}
@@ -11,30 +11,28 @@ use Rattle.zt_region.specs.declared.region.Region.TheVariants.{Local}
 use Rattle.zt_region.specs.declared.region.WhatAmI.{WhatAmI}
 use Rattle.zt_region.specs.declared.region.WhatAmI.TheVariants.{Client}
 use Rattle.zt_region.specs.declared.region.Zid.{Zid}
-use Rattle.zt_region.specs.Region.{is_north}
 use Rattle.zt_protocol.specs.declared.interests.InterestMode.{InterestMode}
 use Rattle.zt_protocol.specs.declared.messages.Message.{Message}
 use Rattle.zt_model.specs.Hearing.{heard_all, messages_for, rows_heard}
-use Rattle.zt_model.specs.Lists.{first_where}
 use Rattle.zt_model.specs.Routing.{face_opened, interests_from, opened, opening, opening_final, opening_interests, opening_tokens, tokens_from}
 use Rattle.zt_model.specs.Rows.{Face, InterestRow, Rows}
-use Rattle.zt_model.specs.Says.{Alter, Part, Say, Sends, find_face, is_routed, new_face, opened_session, to_each, to_face}
+use Rattle.zt_model.specs.Says.{Sends, find_face, is_routed, new_face, opened_session, to_face}
 use Rattle.zt_model.specs.Strategy.{is_router_hat, strategy_of}
 use Rattle.zt_model.specs.Transcript.{Each}
 use Rattle.zt_model.specs.Wants.{covers, seeks, wants}
-use Rattle.zt_model.specs.Visible.{is_visible, live_rows, routed_rows, rows_of_face}
+use Rattle.zt_model.specs.Visible.{routed_rows, rows_of_face}
 use Rattle.zt_laws.specs.Order.{RowsAreInOrder}
 use Rattle.zt_laws.specs.Sound.{IsToldInOrder, RiseFrom}
 use Rattle.zt_laws.proofs.CallsOrder.{greeted_in_order, none_after_interests, session_in_order, told_nothing_new, transport_in_order}
 use Rattle.zt_laws.proofs.Hearing.{each_ruled_one, find_none, find_only, heard_all-held, heard_all-number, heard_all-region, messages_for_other, messages_for_own}
-use Rattle.zt_laws.proofs.Lists.{by_test, each_always, each_append, each_both, each_map, each_weaker, never, of_cond}
+use Rattle.zt_laws.proofs.Lists.{by_test, each_append, each_both, each_map, each_weaker, never, of_cond}
 use Rattle.zt_laws.proofs.PartsOrder.{heard_in_order, in_order_by, lists_heard, nothing_told, tolds, tolds_in_order}
 use Rattle.zt_laws.proofs.ToldOrder.{TellsNothing, interests_tell_nothing}
 use Rattle.zt_kept.specs.Ran.{ran}
-use Rattle.zt_kept.specs.Sound.{AllKeepBut, AskIsHeld, AsksAreHeld, IsNamed, IsSoundBut, KeepsBut, NamedPending, PendingIsKnown, PendingsAreKnown, PendingsOfAskAreKnown, RoutedDeclareNothing, named_by_ask, nothing_left}
+use Rattle.zt_kept.specs.Sound.{AllKeepBut, AskIsHeld, AsksAreHeld, IsNamed, KeepsBut, NamedPending, PendingIsKnown, PendingsAreKnown, PendingsOfAskAreKnown, RoutedDeclareNothing, named_by_ask, nothing_left}
 use Rattle.zt_kept.proofs.Answered.{keeps_greeted}
 use Rattle.zt_kept.proofs.CallsRun.{live_rows_heard}
-use Rattle.zt_kept.proofs.Going.{FaceGoesOn, GoesOn, IsQuietMessage, MakesNoPending, goes_on_heard, held_go_on, hears, keeps_go_on, named_all_sent, named_heard, pendings_go_on, routed_go_on, sound_quiet}
+use Rattle.zt_kept.proofs.Going.{FaceGoesOn, GoesOn, IsQuietMessage, MakesNoPending, goes_on_heard, held_go_on, hears, keeps_go_on, named_all_sent, pendings_go_on, routed_go_on, sound_quiet}
 use Rattle.zt_kept.proofs.Keeping.{ShowSame, Stays, keeps_stays, stays_itself}
 use Rattle.zt_kept.proofs.Parts.{all_named, nobody, only, quiet_opening_final}
 use Rattle.zt_kept.proofs.Tokens.{Sound}

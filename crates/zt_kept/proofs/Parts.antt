@@ -1,14 +1,13 @@
 -- Each part of a call leaves a gateway sound, but for what is left to be done.
-use Rattle.std.proofs.Common.{◌≡◌, ℕ, ◌+◌, ◌≤◌, ◌<◌, Bool, true, false, not, if◌then◌else◌, ◌&&◌, ◌||◌, ◌==◌, List, [], ◌∷◌, ◌++◌, filter, map, Option, Some, None, refl, sym, ap, ◌∙◌, subst, arith, eqb-true}
-use Rattle.std.proofs.lemmas.Bool.{and_parts, or_right, or_left, and_from}
+use Rattle.std.proofs.Common.{◌≡◌, ℕ, Bool, true, false, not, if◌then◌else◌, ◌&&◌, ◌||◌, ◌==◌, List, [], ◌∷◌, filter, map, Option, Some, None, refl, sym, ap, ◌∙◌, subst}
+use Rattle.std.proofs.lemmas.Bool.{or_right, and_from}
 use Rattle.std.specs.Cmp.{IsTotalOrder}
-use Rattle.std.specs.List.{flat_map}
 use Rattle.std.specs.declared.cmp.Ordering.{Ordering}
 use Rattle.std.specs.declared.cmp.Ordering.TheVariants.{Equal}
 use Rattle.zt_region.specs.declared.region.Region.{Region}
 use Rattle.zt_region.specs.declared.region.Region.TheVariants.{North}
 use Rattle.zt_region.specs.declared.region.Zid.{Zid}
-use Rattle.zt_region.specs.Region.{is_north, region_eq, region_eq-same, zid_eq}
+use Rattle.zt_region.specs.Region.{is_north, region_eq, region_eq-same}
 use Rattle.zt_protocol.specs.Plain.{Trees}
 use Rattle.zt_protocol.specs.declared.interests.InterestMode.{InterestMode}
 use Rattle.zt_protocol.specs.declared.messages.Message.{Message}
@@ -17,9 +16,9 @@ use Rattle.zt_model.specs.Hearing.{heard_all, messages_for, rows_heard}
 use Rattle.zt_model.specs.Lists.{same, without_id}
 use Rattle.zt_laws.specs.Kept.{told_of}
 use Rattle.zt_model.specs.Refusals.{is_token_id_in_use}
-use Rattle.zt_model.specs.Routing.{asks_same, end_upstream_to, ended, final_of, final_of_both, finish_to, is_finished_by, is_held_south, opening_final, untell_to}
-use Rattle.zt_model.specs.Rows.{Ask, Face, InterestRow, Rows}
-use Rattle.zt_model.specs.Says.{Alter, Part, Say, Sends, find_face, forget_to, is_routed, is_told, registered, tell_to, to_each, to_face, unregistered, with_face}
+use Rattle.zt_model.specs.Routing.{asks_same, end_upstream_to, finish_to, is_finished_by, is_held_south, opening_final}
+use Rattle.zt_model.specs.Rows.{Face, InterestRow, Rows}
+use Rattle.zt_model.specs.Says.{Sends, find_face, forget_to, is_routed, is_told, registered, tell_to, to_each, unregistered, with_face}
 use Rattle.zt_model.specs.Strategy.{is_router_hat, strategy_of}
 use Rattle.zt_model.specs.Telling.{answer_to}
 use Rattle.zt_model.specs.Transcript.{Each}
@@ -27,21 +26,21 @@ use Rattle.zt_model.specs.Trees.{greet_to, hide_to, is_child, is_hidden, is_newl
 use Rattle.zt_model.specs.Visible.{is_visible, shows}
 use Rattle.zt_laws.specs.Order.{RowsAreInOrder}
 use Rattle.zt_laws.specs.Sound.{IsToldInOrder}
-use Rattle.zt_laws.proofs.CallsOrder.{orderly_showing, orderly_telling, quiet_own_rows, quiet_without_own_rows}
+use Rattle.zt_laws.proofs.CallsOrder.{orderly_telling, quiet_own_rows, quiet_without_own_rows}
 use Rattle.zt_laws.proofs.Forgetting.{forgotten, heard_forget}
-use Rattle.zt_laws.proofs.Hearing.{each_ruled, each_ruled_one, find_only, heard_all-held, heard_all-number, heard_all-region}
+use Rattle.zt_laws.proofs.Hearing.{each_ruled, find_only}
 use Rattle.zt_laws.proofs.Keys.{same_itself}
 use Rattle.zt_laws.proofs.Lists.{by_test, each_always, each_both, each_map, each_weaker, never, of_cond}
 use Rattle.zt_laws.proofs.PartsOrder.{each_flat_map, each_message_for, orderly_each, quiet_face, rise_without_id}
 use Rattle.zt_laws.proofs.Silent.{silent_forget, silent_hide}
-use Rattle.zt_laws.proofs.Telling.{heard_tell, told_anew}
+use Rattle.zt_laws.proofs.Telling.{heard_tell}
 use Rattle.zt_laws.proofs.ToldOrder.{DrawsNothing, TellsPair, answer_tells_pair, id_for, in_order_answer}
 use Rattle.zt_laws.proofs.Visible.{rise_put}
-use Rattle.zt_kept.specs.Sound.{AllKeepBut, AskIsHeld, IsNamed, IsSoundBut, KeepsBut, any_of, nothing_left, shown_from, told_from}
+use Rattle.zt_kept.specs.Sound.{AskIsHeld, IsNamed, IsSoundBut, KeepsBut, any_of, nothing_left, shown_from, told_from}
 use Rattle.zt_kept.proofs.Answered.{keeps_answered}
 use Rattle.zt_kept.proofs.CallsRun.{own_rows_leave}
-use Rattle.zt_kept.proofs.Going.{FaceGoesOn, IsQuietMessage, MakesNoPending, Speaks, hears, named_heard, none_if_drawn, ordered_altered, ordered_heard, silent_named, silent_ordered, sound_face, sound_heard, sound_quiet, sound_routed, sound_rows_same, speaks_each, speaks_unsaid}
-use Rattle.zt_kept.proofs.Keeping.{IsShown, ShowSame, ShowsLess, ShowsMore, Stays, keeps_forgotten, keeps_less, keeps_more, keeps_stays, keeps_told, visible_more}
+use Rattle.zt_kept.proofs.Going.{FaceGoesOn, IsQuietMessage, MakesNoPending, Speaks, hears, named_heard, ordered_altered, ordered_heard, silent_named, silent_ordered, sound_face, sound_heard, sound_quiet, sound_routed, sound_rows_same, speaks_each}
+use Rattle.zt_kept.proofs.Keeping.{IsShown, keeps_forgotten, keeps_less, keeps_more, keeps_told, visible_more}
 use Rattle.zt_kept.proofs.Showing.{hidden_same, own_rows_same, registered_more, unregistered_less}
 
 -- no face is left aside

@@ -1,12 +1,12 @@
 -- Which live rows a gateway shows, after its rows change.
-use Rattle.std.proofs.Common.{◌≡◌, ℕ, ◌+◌, Bool, true, false, not, if◌then◌else◌, ◌&&◌, ◌||◌, ◌==◌, List, [], ◌∷◌, ◌++◌, filter, map, Option, Some, None, refl, sym, ap, ◌∙◌, subst, ⊎_elim, arith, eq-eqb}
+use Rattle.std.proofs.Common.{◌≡◌, ℕ, Bool, true, false, not, ◌&&◌, ◌||◌, ◌==◌, List, [], ◌∷◌, ◌++◌, filter, map, Some, refl, sym, ap, ◌∙◌, ⊎_elim, arith, eq-eqb}
 use Rattle.std.proofs.Math.Bool.{or-false}
-use Rattle.std.proofs.lemmas.Bool.{and_parts, and_from, or_left, or_right, or_cases, not_from_false, not-true, not-false}
+use Rattle.std.proofs.lemmas.Bool.{and_parts, or_left, or_right, or_cases, not-false}
 use Rattle.std.proofs.lemmas.Cmp.{ranked}
 use Rattle.std.specs.Cmp.{IsTotalOrder}
 use Rattle.std.specs.FinMap.Entries.{by_order}
 use Rattle.std.specs.List.{flat_map, list_any}
-use Rattle.std.specs.Ordering.{is_eq, nat_cmp, ordering_then}
+use Rattle.std.specs.Ordering.{nat_cmp, ordering_then}
 use Rattle.std.specs.declared.cmp.Ordering.{Ordering}
 use Rattle.std.specs.declared.cmp.Ordering.TheVariants.{Less, Equal, Greater}
 use Rattle.zt_region.specs.declared.region.Region.{Region}
@@ -16,7 +16,7 @@ use Rattle.zt_region.specs.declared.region.WhatAmI.TheVariants.{Router, Peer, Cl
 use Rattle.zt_region.specs.declared.region.Zid.{Zid}
 use Rattle.zt_region.specs.Region.{region_eq, region_eq-same, zid_eq}
 use Rattle.zt_protocol.specs.Plain.{Trees}
-use Rattle.zt_model.specs.Lists.{in_key_order, is_among, same, with_key}
+use Rattle.zt_model.specs.Lists.{in_key_order, same, with_key}
 use Rattle.zt_model.specs.Refusals.{is_token_id_in_use}
 use Rattle.zt_model.specs.Rows.{Face, RoutedRow, Rows}
 use Rattle.zt_model.specs.Says.{find_face, registered, unregistered, with_face}
@@ -25,7 +25,7 @@ use Rattle.zt_model.specs.Trees.{is_hidden, is_left_out, is_listed, is_routed_ro
 use Rattle.zt_model.specs.Visible.{live_rows, routed_rows, rows_of_face}
 use Rattle.zt_laws.specs.Sound.{RiseFrom}
 use Rattle.zt_laws.proofs.Keys.{is_equal}
-use Rattle.zt_laws.proofs.Lists.{any-append, any-filter, any-map, any_alike, any_from_filter, any_weaker, by_test, each_always, never}
+use Rattle.zt_laws.proofs.Lists.{any-append, any-filter, any-map, any_from_filter, by_test, never}
 use Rattle.zt_laws.proofs.Visible.{any_registered, any_still, any_unregistered}
 use Rattle.zt_kept.proofs.Keeping.{ShowSame, ShowsLess, ShowsMore}
 

@@ -1,8 +1,8 @@
 -- Declarations, undeclarations and tree tables leave a gateway sound.
-use Rattle.std.proofs.Common.{◌≡◌, ℕ, ◌+◌, Bool, true, false, not, if◌then◌else◌, ◌&&◌, ◌||◌, ◌==◌, List, [], ◌∷◌, ◌++◌, filter, map, Option, Some, None, refl, sym, ap, ◌∙◌, subst, eqb-true, eq-eqb}
+use Rattle.std.proofs.Common.{◌≡◌, ℕ, Bool, true, false, not, if◌then◌else◌, ◌&&◌, ◌==◌, List, [], ◌∷◌, ◌++◌, filter, Option, Some, None, refl, sym, ap, ◌∙◌, subst, eqb-true}
 use Rattle.std.proofs.lemmas.Bool.{and_from, and_parts, or_right}
 use Rattle.std.specs.Cmp.{IsTotalOrder}
-use Rattle.std.specs.List.{flat_map, list_any}
+use Rattle.std.specs.List.{list_any}
 use Rattle.std.specs.declared.cmp.Ordering.{Ordering}
 use Rattle.std.specs.declared.cmp.Ordering.TheVariants.{Equal}
 use Rattle.zt_region.specs.declared.region.Region.{Region}
@@ -11,7 +11,6 @@ use Rattle.zt_region.specs.declared.region.Zid.{Zid}
 use Rattle.zt_region.specs.Region.{is_north, region_eq-same, zid_eq}
 use Rattle.zt_protocol.specs.Interest.{is_future}
 use Rattle.zt_protocol.specs.Plain.{Trees}
-use Rattle.zt_protocol.specs.declared.interests.InterestMode.{InterestMode}
 use Rattle.zt_protocol.specs.declared.messages.Message.{Message}
 use Rattle.zt_model.specs.Hearing.{heard_all, messages_for, rows_heard}
 use Rattle.zt_model.specs.Lists.{at_id, first_where, has_id, is_some_and, same}
@@ -21,26 +20,26 @@ use Rattle.zt_model.specs.Says.{Alter, Part, Say, answering, declaring, declarin
 use Rattle.zt_model.specs.Strategy.{is_router_hat, strategy_of}
 use Rattle.zt_model.specs.Telling.{answer_to, is_answered_by, was_sent_as}
 use Rattle.zt_model.specs.Transcript.{Each}
-use Rattle.zt_model.specs.Trees.{changing_table, counted_table, declaring_routed, forgetting, greet_to, hiding, left_out, pass_to, showing, source_of, table_of, undeclaring_routed, unpass_to, with_routed, with_table, without_left_out, without_routed}
+use Rattle.zt_model.specs.Trees.{changing_table, counted_table, forgetting, greet_to, hiding, left_out, pass_to, showing, source_of, table_of, unpass_to, with_routed, with_table, without_left_out, without_routed}
 use Rattle.zt_model.specs.Visible.{is_visible, shows}
 use Rattle.zt_laws.specs.Order.{HasRowsInOrder}
 use Rattle.zt_laws.specs.Sound.{RiseFrom}
 use Rattle.zt_laws.proofs.CallsOrder.{quiet_table, quiet_with_routed, quiet_without_left_out, quiet_without_routed}
 use Rattle.zt_laws.proofs.Hearing.{each_ruled, find_each, find_passes, heard_all-live, heard_all-number, heard_all-region}
 use Rattle.zt_laws.proofs.Keys.{same_itself}
-use Rattle.zt_laws.proofs.Lists.{any_member, any_none, by_test, each_always, each_both, each_filter, each_weaker, never, of_cond}
+use Rattle.zt_laws.proofs.Lists.{any_member, any_none, by_test, each_both, each_filter, each_weaker, never, of_cond}
 use Rattle.zt_laws.proofs.PartsOrder.{each_of_map, orderly_each}
 use Rattle.zt_laws.proofs.Registering.{messages_but_for}
 use Rattle.zt_laws.proofs.Silent.{silent_unpass}
 use Rattle.zt_laws.proofs.ToldOrder.{DrawsNothing, in_order_answer}
 use Rattle.zt_laws.proofs.Undeclaring.{undeclared_only}
 use Rattle.zt_kept.specs.Ran.{ran}
-use Rattle.zt_kept.specs.Sound.{IsNamed, IsSoundBut, KeepsBut, NamedPending, PendingIsKnown, PendingsOfAskAreKnown, any_of, named_by_ask, nothing_left, shown_from, told_from}
+use Rattle.zt_kept.specs.Sound.{IsNamed, IsSoundBut, KeepsBut, PendingIsKnown, PendingsOfAskAreKnown, any_of, nothing_left, shown_from, told_from}
 use Rattle.zt_kept.proofs.Answered.{is_answered_later, keeps_answered_now}
 use Rattle.zt_kept.proofs.ById.{at_each, at_has, at_none_has, find_mapped}
 use Rattle.zt_kept.proofs.CallsRun.{visible_heard}
-use Rattle.zt_kept.proofs.Going.{IsQuietMessage, Speaks, hears, ordered_altered, ordered_heard, sound_heard, sound_quiet, sound_routed, sound_rows, sound_rows_same, speaks_each}
-use Rattle.zt_kept.proofs.Keeping.{IsShown, ShowSame, keeps_less, keeps_more, stays_itself, visible_more}
+use Rattle.zt_kept.proofs.Going.{IsQuietMessage, hears, ordered_altered, ordered_heard, sound_heard, sound_quiet, sound_routed, sound_rows, sound_rows_same, speaks_each}
+use Rattle.zt_kept.proofs.Keeping.{IsShown, keeps_less, keeps_more, stays_itself, visible_more}
 use Rattle.zt_kept.proofs.Parts.{Spares, all_named, each_greet, each_pass, makes_none_answer, nobody, sound_answered, sound_forgot, sound_hid, sound_registered, sound_shown, sound_tell, sound_unregistered, unpasses_routed}
 use Rattle.zt_kept.proofs.Running.{ran-append}
 use Rattle.zt_kept.proofs.Showing.{left_out_gone, routed_gone, routed_more}
