@@ -69,21 +69,21 @@ module _ {K : Type 0} (cmp : K → K → Ordering) (matching : K → K → Bool)
 
   -- ---- changes of the gateway's own lists
 
-  quiet_routed : (change : Rows K → List (RoutedRow K)) → ((g : Rows K) → InKeyOrder (routed_order cmp) g.routed → InKeyOrder (routed_order cmp) (change g)) → IsQuiet cmp matching (λ g. record g { routed = change g })
+  pub quiet_routed : (change : Rows K → List (RoutedRow K)) → ((g : Rows K) → InKeyOrder (routed_order cmp) g.routed → InKeyOrder (routed_order cmp) (change g)) → IsQuiet cmp matching (λ g. record g { routed = change g })
   quiet_routed change ordered = λ g lists. (
     record { faces_rise = lists.faces_rise; faces_made = lists.faces_made; rows = lists.rows; routed = ordered g lists.routed; trees = lists.trees; dictionary = lists.dictionary },
     refl,
     refl,
   )
 
-  quiet_moment : (now : ℕ) → IsQuiet cmp matching (λ g. record g { moment = now })
+  pub quiet_moment : (now : ℕ) → IsQuiet cmp matching (λ g. record g { moment = now })
   quiet_moment now = λ g lists. (
     record { faces_rise = lists.faces_rise; faces_made = lists.faces_made; rows = lists.rows; routed = lists.routed; trees = lists.trees; dictionary = lists.dictionary },
     refl,
     refl,
   )
 
-  quiet_table : (region : Region) (t : Trees) → IsQuiet cmp matching (with_table cmp region t)
+  pub quiet_table : (region : Region) (t : Trees) → IsQuiet cmp matching (with_table cmp region t)
   quiet_table region t = λ g lists. (
     record {
       faces_rise = lists.faces_rise;
@@ -97,26 +97,26 @@ module _ {K : Type 0} (cmp : K → K → Ordering) (matching : K → K → Bool)
     refl,
   )
 
-  quiet_without_routed : (region : Region) (source : Zid) (e : K) → IsQuiet cmp matching (without_routed cmp region source e)
+  pub quiet_without_routed : (region : Region) (source : Zid) (e : K) → IsQuiet cmp matching (without_routed cmp region source e)
   unfolding without_routed
   quiet_without_routed region source e =
       quiet_routed (λ g. filter (λ row. not (is_routed_row cmp (row_at cmp region source e) row)) g.routed)
       (λ g ordered. in_order_filtered (routed_order cmp) (λ row. not (is_routed_row cmp (row_at cmp region source e) row)) g.routed ordered)
 
-  quiet_without_own_rows : (source : Region) (e : K) → IsQuiet cmp matching (without_own_rows cmp source e)
+  pub quiet_without_own_rows : (source : Region) (e : K) → IsQuiet cmp matching (without_own_rows cmp source e)
   unfolding without_own_rows
   quiet_without_own_rows source e = quiet_routed (λ g. (without_own_rows cmp source e g).routed) (λ g ordered. in_order_filtered (routed_order cmp) _ g.routed ordered)
 
-  quiet_without_left_out : (region : Region) (t : Trees) → IsQuiet cmp matching (without_left_out cmp region t)
+  pub quiet_without_left_out : (region : Region) (t : Trees) → IsQuiet cmp matching (without_left_out cmp region t)
   quiet_without_left_out region t =
       quiet_routed (λ g. filter (λ row. not (is_left_out cmp region t row)) g.routed) (λ g ordered. in_order_filtered (routed_order cmp) (λ row. not (is_left_out cmp region t row)) g.routed ordered)
 
   -- ---- silent parts
 
-  silent_hiding : (source : Region) (e : K) → Each (IsSilentPart cmp matching) (hiding cmp source e)
+  pub silent_hiding : (source : Region) (e : K) → Each (IsSilentPart cmp matching) (hiding cmp source e)
   silent_hiding source e = (λ g. each_ruled DrawsNothing (hide_to cmp g source e) g.faces (silent_hide cmp matching g source e), (quiet_without_own_rows source e, tt))
 
-  silent_forgetting : (source : Region) (e : K) → IsSilentPart cmp matching (Say (λ g. to_each (forget_to cmp matching g source e) g.faces))
+  pub silent_forgetting : (source : Region) (e : K) → IsSilentPart cmp matching (Say (λ g. to_each (forget_to cmp matching g source e) g.faces))
   silent_forgetting source e = λ g. each_ruled DrawsNothing (forget_to cmp matching g source e) g.faces (silent_forget cmp matching g source e)
 
   pub silent_undeclaring : (n id : ℕ) (given : Option K) (f : Face K) → Each (IsSilentPart cmp matching) (undeclaring cmp matching n id given f)
@@ -136,7 +136,7 @@ module _ {K : Type 0} (cmp : K → K → Ordering) (matching : K → K → Bool)
   pub silent_finalising : (n id : ℕ) (interest : InterestRow K) → Each (IsSilentPart cmp matching) (finalising cmp matching n id interest)
   silent_finalising n id interest = (quiet_face cmp matching n (unheld id) (λ k. refl) (λ k rows. record { live = rows.live; held = rise_without_id id k.held rows.held; locals = rows.locals; pendings = rows.pendings; asks = rows.asks }), (λ g. each_ruled_one DrawsNothing n (untell_to cmp matching) g (silent_untell cmp matching), (λ g. each_ruled_one DrawsNothing n (final_of_both id interest) g (silent_final_of_both id interest), (λ g. each_ruled DrawsNothing (end_upstream_to cmp matching g interest) g.faces (silent_end_upstream cmp matching g interest), tt))))
 
-  silent_ending : (n id : ℕ) → Each (IsSilentPart cmp matching) (ending n id)
+  pub silent_ending : (n id : ℕ) → Each (IsSilentPart cmp matching) (ending n id)
   silent_ending n id = (quiet_face cmp matching n (ended id) (λ k. refl) (λ k rows. record { live = rows.live; held = rows.held; locals = rows.locals; pendings = rise_without_id id k.pendings rows.pendings; asks = rows.asks }), (λ g. each_ruled DrawsNothing (finish_to g n id) g.faces (silent_finish g n id), tt))
 
   pub silent_finishing : (n id : ℕ) (f : Face K) → Each (IsSilentPart cmp matching) (finishing n id f)
@@ -165,7 +165,7 @@ module _ {K : Type 0} (cmp : K → K → Ordering) (matching : K → K → Bool)
         each_flat_map (IsSilentPart cmp matching) (λ row. ending n row.0) f.pendings (λ row. silent_ending n row.0),
       )
 
-  silent_undeclaring_routed : (n : ℕ) (source : Zid) (e : K) (f : Face K) → Each (IsSilentPart cmp matching) (undeclaring_routed cmp matching n source e f)
+  pub silent_undeclaring_routed : (n : ℕ) (source : Zid) (e : K) (f : Face K) → Each (IsSilentPart cmp matching) (undeclaring_routed cmp matching n source e f)
   silent_undeclaring_routed n source e f = (quiet_without_routed f.region source e, (λ g. each_filter (λ s. DrawsNothing s.1) (λ s. not (n == s.0)) (to_each (unpass_to cmp g f.region source e) g.faces) (each_ruled DrawsNothing (unpass_to cmp g f.region source e) g.faces (silent_unpass cmp matching g f.region source e)), (silent_forgetting f.region e, silent_hiding f.region e)))
 
   pub silent_undeclaring_of : (n : ℕ) (source : Option Zid) (given : Option K) (f : Face K) → Each (IsSilentPart cmp matching) (undeclaring_of cmp matching n source given f)
@@ -189,12 +189,12 @@ module _ {K : Type 0} (cmp : K → K → Ordering) (matching : K → K → Bool)
       )
 
   module _ (total : IsTotalOrder cmp) where
-    quiet_with_routed : (region : Region) (source : Zid) (e : K) → IsQuiet cmp matching (with_routed cmp region source e)
+    pub quiet_with_routed : (region : Region) (source : Zid) (e : K) → IsQuiet cmp matching (with_routed cmp region source e)
     unfolding with_routed
     quiet_with_routed region source e =
         quiet_routed (λ g. with_key (routed_order cmp) (row_at cmp region source e) g.routed) (λ g ordered. in_order_with_key (routed_order cmp) (routed_total total) (row_at cmp region source e) g.routed ordered)
 
-    quiet_own_rows : (rs : List Region) (e : K) → IsQuiet cmp matching (with_own_rows cmp rs e)
+    pub quiet_own_rows : (rs : List Region) (e : K) → IsQuiet cmp matching (with_own_rows cmp rs e)
     unfolding with_own_rows
     quiet_own_rows [] e = λ g lists. (lists, refl, refl)
     quiet_own_rows (r ∷ rs) e = λ g lists.
@@ -219,7 +219,7 @@ module _ {K : Type 0} (cmp : K → K → Ordering) (matching : K → K → Bool)
     numbered_once (e ∷ es) known once =
         numbered_once es (if is_among cmp e known then known else known ++ e ∷ []) (of_cond (KeysOnce cmp) (is_among cmp e known) known (known ++ e ∷ []) (λ _. once) (λ new_. keys_once_push e known new_ once))
 
-    quiet_numbers : (es : List K) → IsQuiet cmp matching (with_numbers cmp es)
+    pub quiet_numbers : (es : List K) → IsQuiet cmp matching (with_numbers cmp es)
     quiet_numbers es = λ g lists. (
       record { faces_rise = lists.faces_rise; faces_made = lists.faces_made; rows = lists.rows; routed = lists.routed; trees = lists.trees; dictionary = numbered_once es g.dictionary lists.dictionary },
       refl,
@@ -234,22 +234,22 @@ module _ {K : Type 0} (cmp : K → K → Ordering) (matching : K → K → Bool)
 
     -- ---- parts that tell
 
-    orderly_telling : (source : Region) (e : K) → IsOrderlyPart cmp matching (Say (λ g. to_each (tell_to cmp matching g source e) g.faces))
+    pub orderly_telling : (source : Region) (e : K) → IsOrderlyPart cmp matching (Say (λ g. to_each (tell_to cmp matching g source e) g.faces))
     orderly_telling source e = orderly_each cmp matching (λ g f. tell_to cmp matching g source e f) (λ g f ordered. in_order_tell cmp total matching g source e f ordered)
 
-    orderly_showing : (source : Region) (e : K) → Each (IsOrderlyPart cmp matching) (showing cmp source e)
+    pub orderly_showing : (source : Region) (e : K) → Each (IsOrderlyPart cmp matching) (showing cmp source e)
     orderly_showing source e = (orderly_if_silent cmp matching (Say (λ g. to_each (show_to cmp g source e) g.faces)) (λ g. each_ruled DrawsNothing (show_to cmp g source e) g.faces (silent_show cmp matching g source e)), (λ g lists. quiet_own_rows (filter (is_newly_shown cmp g source e) (router_regions g)) e g lists, tt))
 
-    orderly_answering : (n : ℕ) (interest : Option ℕ) (e : K) (f : Face K) → Each (IsOrderlyPart cmp matching) (answering cmp matching n interest e f)
+    pub orderly_answering : (n : ℕ) (interest : Option ℕ) (e : K) (f : Face K) → Each (IsOrderlyPart cmp matching) (answering cmp matching n interest e f)
     orderly_answering n None e f = tt
     orderly_answering n (Some id) e f =
         of_cond (Each (IsOrderlyPart cmp matching)) (has_id id f.pendings) (Say (λ g. to_each (answer_to cmp matching n id e) g.faces) ∷ []) []
         (λ _. (orderly_each cmp matching (λ g f. answer_to cmp matching n id e f) (λ g f ordered. in_order_answer cmp total matching n id e f ordered), tt)) (λ _. tt)
 
-    orderly_declaring : (n id : ℕ) (e : K) (f : Face K) → Each (IsOrderlyPart cmp matching) (declaring cmp matching n id e f)
+    pub orderly_declaring : (n id : ℕ) (e : K) (f : Face K) → Each (IsOrderlyPart cmp matching) (declaring cmp matching n id e f)
     orderly_declaring n id e f = (quiet_face cmp matching n (registered id e) (λ k. refl) (λ k rows. record { live = rise_put id e k.live rows.live; held = rows.held; locals = rows.locals; pendings = rows.pendings; asks = rows.asks }), (orderly_telling f.region e, tt))
 
-    orderly_declaring_of : (n : ℕ) (source : Option Zid) (e : K) (f : Face K) → Each (IsOrderlyPart cmp matching) (declaring_of cmp matching n source e f)
+    pub orderly_declaring_of : (n : ℕ) (source : Option Zid) (e : K) (f : Face K) → Each (IsOrderlyPart cmp matching) (declaring_of cmp matching n source e f)
     orderly_declaring_of n None e f = tt
     orderly_declaring_of n (Some source) e f = (
       quiet_with_routed f.region source e,
@@ -260,7 +260,7 @@ module _ {K : Type 0} (cmp : K → K → Ordering) (matching : K → K → Bool)
       ),
     )
 
-    orderly_interesting : (pendings : List (ℕ × ℕ)) (n id : ℕ) (interest : InterestRow K) → Each (IsOrderlyPart cmp matching) (interesting_above cmp matching pendings n id interest)
+    pub orderly_interesting : (pendings : List (ℕ × ℕ)) (n id : ℕ) (interest : InterestRow K) → Each (IsOrderlyPart cmp matching) (interesting_above cmp matching pendings n id interest)
     orderly_interesting pendings n id interest = (
       quiet_face cmp matching n (asked_as pendings id interest) (λ k. refl) (λ k rows. record { live = rows.live; held = rise_put_if (is_future interest.mode) id _ k.held rows.held; locals = rows.locals; pendings = rows.pendings; asks = rise_put_if (is_current interest.mode) id _ k.asks rows.asks }),
       (
@@ -270,7 +270,7 @@ module _ {K : Type 0} (cmp : K → K → Ordering) (matching : K → K → Bool)
       ),
     )
 
-    orderly_asking : (n id : ℕ) (interest : InterestRow K) (asker : Region) (g : Rows K) → Each (IsOrderlyPart cmp matching) (asking cmp matching n id interest asker g)
+    pub orderly_asking : (n id : ℕ) (interest : InterestRow K) (asker : Region) (g : Rows K) → Each (IsOrderlyPart cmp matching) (asking cmp matching n id interest asker g)
     orderly_asking n id interest asker g = (quiet_numbers (numbered_by cmp interest), (orderly_each cmp matching (λ h f. route_to h asker interest f) (λ h f ordered. in_order_nothings cmp (route_to h asker interest f) (told_of f) (silent_route h asker interest f) ordered), (orderly_if_silent cmp matching (Say (λ h. to_face n (entities_for cmp matching h id interest) h)) (λ h. each_ruled_one DrawsNothing n (entities_for cmp matching h id interest) h (silent_entities cmp matching h id interest)), orderly_interesting (sent_as g asker interest.mode) n id interest)))
 
     -- ---- opening and closing
@@ -298,18 +298,18 @@ module _ {K : Type 0} (cmp : K → K → Ordering) (matching : K → K → Bool)
         opened_in_order (face_opened zid whatami region bound first g) g refl (record { live = tt; held = tt; locals = tt; pendings = tt; asks = tt }) (record { next_is_real = real; rises = tt; below = tt; once = tt }) ordered
 
     -- the face of a new number was told nothing
-    told_nothing_new : (f : Face K) (g : Rows K) → f.told ≡ [] → ListsAreInOrder cmp matching g → Each (λ h. (g.made + 1 == h.number) ≡ true → h.told ≡ []) (g.faces ++ f ∷ [])
+    pub told_nothing_new : (f : Face K) (g : Rows K) → f.told ≡ [] → ListsAreInOrder cmp matching g → Each (λ h. (g.made + 1 == h.number) ≡ true → h.told ≡ []) (g.faces ++ f ∷ [])
     told_nothing_new f g none_ lists =
         each_append (λ h. (g.made + 1 == h.number) ≡ true → h.told ≡ []) g.faces (f ∷ [])
         (each_weaker (λ h. h.number ≤ g.made) (λ h. (g.made + 1 == h.number) ≡ true → h.told ≡ []) (λ h up hit. never hit (ne_eqb (g.made + 1) h.number (λ e. omega arith))) g.faces lists.faces_made)
         ((λ hit. none_), tt)
 
-    opening_tokens_once : (g : Rows K) (f : Face K) → KeysOnce cmp (opening_tokens cmp matching g f)
+    pub opening_tokens_once : (g : Rows K) (f : Face K) → KeysOnce cmp (opening_tokens cmp matching g f)
     opening_tokens_once g f =
         of_cond (KeysOnce cmp) (is_greeted cmp matching g f) (visible_expressions cmp g f.region) [] (λ _. once_in_order cmp (visible_expressions cmp g f.region) (visible_expressions_in_order cmp total g f.region)) (λ _. tt)
 
     -- tokens for a face that was told nothing
-    greeted_in_order : (n : ℕ) (g : Rows K) → ListsAreInOrder cmp matching g → AreInOrder cmp (tolds cmp g) → Each (λ f. (n == f.number) ≡ true → f.told ≡ []) g.faces → AreInOrder cmp (tolds_after cmp (to_face n (λ f. tokens_from f.next (opening_tokens cmp matching g f)) g) (tolds cmp g))
+    pub greeted_in_order : (n : ℕ) (g : Rows K) → ListsAreInOrder cmp matching g → AreInOrder cmp (tolds cmp g) → Each (λ f. (n == f.number) ≡ true → f.told ≡ []) g.faces → AreInOrder cmp (tolds_after cmp (to_face n (λ f. tokens_from f.next (opening_tokens cmp matching g f)) g) (tolds cmp g))
     greeted_in_order n g lists ordered none_ =
         orderly_at cmp matching n (λ f. tokens_from f.next (opening_tokens cmp matching g f)) g lists
         (each_both (λ f. IsInOrder cmp (told_of f)) (λ f. (n == f.number) ≡ true → f.told ≡ []) (λ f. IsInOrder cmp (told_of f) × (IsInOrder cmp (told_of f) → (n == f.number) ≡ true → IsInOrder cmp (told_of (heard_all cmp g.moment (tokens_from f.next (opening_tokens cmp matching g f)) f))))
@@ -323,7 +323,7 @@ module _ {K : Type 0} (cmp : K → K → Ordering) (matching : K → K → Bool)
         g.faces (each_of_map (IsInOrder cmp) told_of g.faces ordered) none_)
 
     -- interests for one face leave what was told there
-    none_after_interests : (n : ℕ) (is : Face K → List (InterestRow K)) (g : Rows K) → ListsAreInOrder cmp matching g → Each (λ f. (n == f.number) ≡ true → f.told ≡ []) g.faces → Each (λ f. (n == f.number) ≡ true → f.told ≡ []) (rows_heard cmp (to_face n (λ f. interests_from f.next (is f)) g) g).faces
+    pub none_after_interests : (n : ℕ) (is : Face K → List (InterestRow K)) (g : Rows K) → ListsAreInOrder cmp matching g → Each (λ f. (n == f.number) ≡ true → f.told ≡ []) g.faces → Each (λ f. (n == f.number) ≡ true → f.told ≡ []) (rows_heard cmp (to_face n (λ f. interests_from f.next (is f)) g) g).faces
     unfolding with_face
     none_after_interests n is g lists none_ =
         let hears = λ (f : Face K). heard_all cmp g.moment (interests_from f.next (is f)) f in
@@ -335,7 +335,7 @@ module _ {K : Type 0} (cmp : K → K → Ordering) (matching : K → K → Bool)
         (each_map (λ f. (n == f.number) ≡ true → f.told ≡ []) changes g.faces
         (each_weaker (λ f. (n == f.number) ≡ true → f.told ≡ []) (λ f. (n == (changes f).number) ≡ true → (changes f).told ≡ []) (λ f nothing hit. rows_ f ∙ nothing (ap (λ k. n == k) (sym (number_ f)) ∙ hit)) g.faces none_))
 
-    opening_in_order : (zid : Zid) (whatami : WhatAmI) (region : Region) (bound : Bound) (first : ℕ) (g : Rows K) → 1 ≤ first → RowsAreInOrder cmp matching g
+    pub opening_in_order : (zid : Zid) (whatami : WhatAmI) (region : Region) (bound : Bound) (first : ℕ) (g : Rows K) → 1 ≤ first → RowsAreInOrder cmp matching g
         → AreInOrder cmp (tolds_after cmp (said_by cmp matching (opening cmp matching zid whatami region bound first g) g) (tolds cmp (opened zid whatami region bound first g)))
     unfolding said_by
     opening_in_order zid whatami region bound first g real rows =
@@ -358,7 +358,7 @@ module _ {K : Type 0} (cmp : K → K → Ordering) (matching : K → K → Bool)
         (orderly_if_silent cmp matching (Say (λ h. to_face n (opening_final cmp matching) h)) (λ h. each_ruled_one DrawsNothing n (opening_final cmp matching) h (silent_opening_final cmp matching)), tt)
         (lists_heard cmp matching tokens two two_lists) (heard_in_order cmp matching tokens two greets)))
 
-    without_face_in_order : (n : ℕ) (g : Rows K) → ListsAreInOrder cmp matching g → ListsAreInOrder cmp matching (without_face n g)
+    pub without_face_in_order : (n : ℕ) (g : Rows K) → ListsAreInOrder cmp matching g → ListsAreInOrder cmp matching (without_face n g)
     without_face_in_order n g lists = record {
       faces_rise = rise_filter (λ f. f.number) 1 (λ f. not (n == f.number)) g.faces lists.faces_rise;
       faces_made = each_filter (λ f. f.number ≤ g.made) (λ f. not (n == f.number)) g.faces lists.faces_made;
@@ -451,7 +451,7 @@ module _ {K : Type 0} (cmp : K → K → Ordering) (matching : K → K → Bool)
     keeps_faces (CloseFace n) = false
     keeps_faces _ = true
 
-    orderly_found : (n : ℕ) (g : Rows K) (parts : Face K → List (Part K)) → ((f : Face K) → Each (IsOrderlyPart cmp matching) (parts f)) → Each (IsOrderlyPart cmp matching) (elim (find_face n g) [ None ↦ [] | Some f ↦ parts f ])
+    pub orderly_found : (n : ℕ) (g : Rows K) (parts : Face K → List (Part K)) → ((f : Face K) → Each (IsOrderlyPart cmp matching) (parts f)) → Each (IsOrderlyPart cmp matching) (elim (find_face n g) [ None ↦ [] | Some f ↦ parts f ])
     orderly_found n g parts h = cases (find_face n g)
       where
         cases : (o : Option (Face K)) → Each (IsOrderlyPart cmp matching) (elim o [ None ↦ [] | Some f ↦ parts f ])

@@ -168,7 +168,7 @@ module _ {K : Type 0} (cmp : K → K → Ordering) (matching : K → K → Bool)
       }
 
   -- the faces of all gateways still have numbers when one more face is placed
-  faces_still_placed : (p : Place) (s : Fabric K) → FabricIsInOrder cmp matching s → EachFrom (λ j (node : Node K). FacesArePlaced (s.faces ++ p ∷ []) j node.rows) 1 s.gateways
+  pub faces_still_placed : (p : Place) (s : Fabric K) → FabricIsInOrder cmp matching s → EachFrom (λ j (node : Node K). FacesArePlaced (s.faces ++ p ∷ []) j node.rows) 1 s.gateways
   faces_still_placed p s fine =
       each_from_weaker (λ j (node : Node K). FacesArePlaced s.faces j node.rows) (λ j node. FacesArePlaced (s.faces ++ p ∷ []) j node.rows)
       (λ j node placed. each_weaker (λ f. is_placed j f.number s.faces ≡ true) (λ f. is_placed j f.number (s.faces ++ p ∷ []) ≡ true) (λ f there. placed_still j f.number s.faces p there) node.rows.faces placed)
@@ -187,7 +187,7 @@ module _ {K : Type 0} (cmp : K → K → Ordering) (matching : K → K → Bool)
       ∙ ap (λ (gs : List (Node K)). record s { gateways = gs })
       (at_nth_alike n (λ (x : Node K). record x { rows = rows_heard cmp ss (altered cmp matching c x.rows) }) (λ (x : Node K). record x { rows = rows_after_call cmp matching c x.rows }) s.gateways node at_ refl)
 
-  heard_faces_placed : (places : List Place) (n : ℕ) (ss : Sends K) (g : Rows K) → FacesArePlaced places n g → FacesArePlaced places n (rows_heard cmp ss g)
+  pub heard_faces_placed : (places : List Place) (n : ℕ) (ss : Sends K) (g : Rows K) → FacesArePlaced places n g → FacesArePlaced places n (rows_heard cmp ss g)
   unfolding rows_heard
   heard_faces_placed places n ss g placed =
       let hears = λ (f : Face K). heard_all cmp g.moment (messages_for f.number ss) f in

@@ -80,7 +80,7 @@ module _ {K : Type 0} (cmp : K → K → Ordering) where
   rows_in_order_heard now (DeclareSubscriber id e interest) f rows = rows
   rows_in_order_heard now (DeclareQueryable id e info interest) f rows = rows
 
-  rows_in_order_heard_all : (now : ℕ) (ms : List (Message K)) (f : Face K) → HasRowsInOrder f → HasRowsInOrder (heard_all cmp now ms f)
+  pub rows_in_order_heard_all : (now : ℕ) (ms : List (Message K)) (f : Face K) → HasRowsInOrder f → HasRowsInOrder (heard_all cmp now ms f)
   unfolding heard_all
   rows_in_order_heard_all now [] f rows = rows
   rows_in_order_heard_all now (m ∷ ms) f rows = rows_in_order_heard_all now ms (heard cmp now m f) (rows_in_order_heard now m f rows)

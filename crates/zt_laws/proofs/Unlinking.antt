@@ -109,7 +109,7 @@ module _ {K : Type 0} (cmp : K → K → Ordering) (matching : K → K → Bool)
       rw (dropped, miss) (printed_but_for fs k ms apart))
       (λ kept. rw kept (by_test (k == m.face) (λ here. rw here (ap (λ xs. m.message ∷ xs) (printed_but_for fs k ms apart))) (λ here. rw here (printed_but_for fs k ms apart))))
 
-  but_for_alike : (fs : List ℕ) (ms : List (Sent K)) (X : Fabric K) → EachFrom (λ j (node : Node K). Each (λ f. list_any (λ face. face == number_from 1 j f.number X.faces) fs ≡ false) node.rows.faces) 1 X.gateways → after_hearing cmp (filter (λ m. not (is_of fs m)) ms) X ≡ after_hearing cmp ms X
+  pub but_for_alike : (fs : List ℕ) (ms : List (Sent K)) (X : Fabric K) → EachFrom (λ j (node : Node K). Each (λ f. list_any (λ face. face == number_from 1 j f.number X.faces) fs ≡ false) node.rows.faces) 1 X.gateways → after_hearing cmp (filter (λ m. not (is_of fs m)) ms) X ≡ after_hearing cmp ms X
   unfolding gateways_after_hearing
   but_for_alike fs ms X apart = ap (λ (gs : List (Node K)). record X { gateways = gs }) (gateways 1 X.gateways apart)
     where

@@ -1,0 +1,17 @@
+pub mod Running
+pub mod CallsRun
+pub mod Keeping
+pub mod Answered
+pub mod Going
+pub mod Showing
+pub mod Parts
+pub mod ById
+pub mod Tokens
+pub mod Ends
+pub mod Interests
+pub mod Asking
+pub mod Opening
+pub mod Closing
+pub mod Calls
+pub mod Lines
+pub mod Sound
