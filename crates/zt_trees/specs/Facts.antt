@@ -101,13 +101,11 @@ pub record LeadsUp {K : Type 0} (g : Rows K) (f : Face K) : Type 0 where
   pub held : f.held ≡ []
   pub asks : f.asks ≡ []
 
--- Any other is a client's, in a region whose faces are shown each other's tokens; nothing is asked of it.
+-- Any other is a client's, in a region whose faces are shown each other's tokens.
 pub record LeadsDown {K : Type 0} (f : Face K) : Type 0 where
   pub broker : is_broker f.region ≡ true
   pub mode : f.mode ≡ Client
   pub held : Each (λ row. kept_options Client row.1.options ≡ row.1.options) f.held
-  pub locals : f.locals ≡ []
-  pub pendings : f.pendings ≡ []
 
 pub record IsTreeFace {K : Type 0} (g : Rows K) (f : Face K) : Type 0 where
   pub up : is_north f.region ≡ true → LeadsUp g f
@@ -150,6 +148,10 @@ module _ {K : Type 0} (cmp : K → K → Ordering) where
     pub clear_below : AreClear falling lower.live
     pub ids_rise : InterestsRise (max (top_of upper.held) (top_of upper.asks)) rising lower.next
     pub locals_below : Each (λ row. row.0 < lower.next) lower.locals
+    pub pendings_below : Each (λ row. row.0 < lower.next) lower.pendings
+    pub told_below_above : Each (λ row. row.0 < upper.next) upper.told
+    pub told_below : Each (λ row. row.0 < lower.next) lower.told
+    pub live_real : Each (λ row. 1 ≤ row.0) lower.live
     pub for_above : Each IsForAbove rising
     pub for_below : Each (IsForBelow lower.next) falling
     pub modes : Each (FitsModes upper rising falling) lower.pendings
