@@ -1,3 +1,4 @@
+pub mod Calls
 pub mod Climbing
 pub mod Hears
 pub mod Knowledge

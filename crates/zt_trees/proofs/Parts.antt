@@ -16,7 +16,7 @@ use Rattle.zt_model.specs.Closing.{expiring, is_expired, leaving, without_asks, 
 use Rattle.zt_model.specs.Entities.{with_entities, with_numbers}
 use Rattle.zt_model.specs.Hearing.{rows_heard}
 use Rattle.zt_model.specs.Lists.{at_id, first_where, has_id, without_id}
-use Rattle.zt_model.specs.Parts.{Alter, Part, Say, find_face, to_each, unsaid_to, with_face}
+use Rattle.zt_model.specs.Parts.{Alter, Part, Say, Sends, find_face, to_each, unsaid_to, with_face}
 use Rattle.zt_model.specs.Routing.{ended, end_upstream_to, ending, final_of_both, finalising, finish_to, finishing, initial_finalised, unheld, untell_to}
 use Rattle.zt_model.specs.Rows.{Ask, ById, Face, InterestRow, Pending, Rows}
 use Rattle.zt_model.specs.Says.{forget_to, tell_to, finalising_held, hiding_undeclared}
@@ -36,22 +36,31 @@ use Rattle.zt_trees.proofs.Saying.{IsReal, SaidWell, TreeRows, tree_rows_heard}
 use Rattle.zt_trees.proofs.Tracking.{IsGood, SameEar, Unmoved, find_with_face, good_each, good_one, good_unsaid, with_face_rows}
 
 -- a change that leaves of a face its region, bound and mode, and holds and asks no more than before, leaves it one of a tree
-tree_face_less : {K : Type 0} (mode : WhatAmI) (f h : Face K) → h.region ≡ f.region → h.bound ≡ f.bound → h.mode ≡ f.mode → (f.held ≡ [] → h.held ≡ []) → (Each (λ row. kept_options Client row.1.options ≡ row.1.options) f.held → Each (λ row. kept_options Client row.1.options ≡ row.1.options) h.held) → (f.asks ≡ [] → h.asks ≡ []) → IsTreeFace mode f → IsTreeFace mode h
+pub tree_face_less : {K : Type 0} (mode : WhatAmI) (f h : Face K) → h.region ≡ f.region → h.bound ≡ f.bound → h.mode ≡ f.mode → (f.held ≡ [] → h.held ≡ []) → (Each (λ row. kept_options Client row.1.options ≡ row.1.options) f.held → Each (λ row. kept_options Client row.1.options ≡ row.1.options) h.held) → (f.asks ≡ [] → h.asks ≡ []) → IsTreeFace mode f → IsTreeFace mode h
 tree_face_less mode f h region_ bound_ mode_ held_ kept_ asks_ face = record {
   up = λ up. let leads = face.up (ap is_north (sym region_) ∙ up) in record { own = leads.own; bound = bound_ ∙ leads.bound; held = held_ leads.held; asks = asks_ leads.asks };
   down = λ down. let leads = face.down (ap is_north (sym region_) ∙ down) in record { broker = ap is_broker region_ ∙ leads.broker; mode = mode_ ∙ leads.mode; held = kept_ leads.held };
 }
 
 module _ {K : Type 0} (cmp : K → K → Ordering) (matching : K → K → Bool) (p n : ℕ) (up : Bool) (R : Face K → Face K → Type 0) (itself : (f : Face K) → R f f) (trans : (f h k : Face K) → R f h → R h k → R f k) (ear : (f h : Face K) → R f h → SameEar f h)
-  (own : n ≡ p → (f h : Face K) → SameEar f h → R f h) (ends : (id : ℕ) (f : Face K) → R f (ended id f)) where
+  (own : n ≡ p → (f h : Face K) → SameEar f h → R f h) (ends : (id : ℕ) (f : Face K) → R f (ended id f)) (mode : WhatAmI) where
+  -- the rows are those of a tree, at a gateway of the mode
+  abbrev pub Inside : Rows K → Type 0
+  Inside g = TreeRows cmp g × (g.mode ≡ mode)
+
+  pub still_inside : (ss : Sends K) (g : Rows K) → Inside g → Inside (rows_heard cmp ss g)
+  unfolding rows_heard
+  still_inside ss g inside = (tree_rows_heard cmp ss g inside.0, inside.1)
+
   abbrev pub Good : Part K → Type 0
-  Good part = IsGood cmp matching p up (TreeRows cmp) (λ g rows. rows) (λ ss g rows. tree_rows_heard cmp ss g rows) R itself trans ear part
+  Good part = IsGood cmp matching p up Inside (λ g inside. inside.0) still_inside R itself trans ear part
 
   -- ---- the face that a call names
 
   changed : (change : Face K → Face K) → ((f : Face K) → (change f).number ≡ f.number) → ((mode : WhatAmI) (f : Face K) → IsTreeFace mode f → IsTreeFace mode (change f)) → ((f : Face K) → IsReal cmp f → IsReal cmp (change f)) → ((f : Face K) → SameEar f (change f)) → Good (Alter (with_face n change))
-  changed change still tree real same_ = λ g f rows found. (
-    with_face_rows cmp matching n change g still (each_always (λ f. (n == f.number) ≡ true → IsTreeFace g.mode f → IsTreeFace g.mode (change f)) (λ f _ face. tree g.mode f face) g.faces) real rows,
+  unfolding with_face
+  changed change still tree real same_ = λ g f inside found. (
+    (with_face_rows cmp matching n change g still (each_always (λ f. (n == f.number) ≡ true → IsTreeFace g.mode f → IsTreeFace g.mode (change f)) (λ f _ face. tree g.mode f face) g.faces) real inside.0, inside.1),
     (
       (if n == p then change f else f),
       find_with_face cmp matching p n change g f still found,
@@ -82,9 +91,10 @@ module _ {K : Type 0} (cmp : K → K → Ordering) (matching : K → K → Bool)
 
   -- pendings end, at any face
   pub good_ended : (k id : ℕ) → Good (Alter (with_face k (ended id)))
-  good_ended k id = λ g f rows found. (
-    with_face_rows cmp matching k (ended id) g (λ f. refl) (each_always (λ f. (k == f.number) ≡ true → IsTreeFace g.mode f → IsTreeFace g.mode (ended id f)) (λ f _ face. tree_face_less g.mode f (ended id f) refl refl refl (λ h. h) (λ h. h) (λ h. h) face) g.faces)
-    (λ f r. record { next = r.next; told = r.told }) rows,
+  unfolding with_face
+  good_ended k id = λ g f inside found. (
+    (with_face_rows cmp matching k (ended id) g (λ f. refl) (each_always (λ f. (k == f.number) ≡ true → IsTreeFace g.mode f → IsTreeFace g.mode (ended id f)) (λ f _ face. tree_face_less g.mode f (ended id f) refl refl refl (λ h. h) (λ h. h) (λ h. h) face) g.faces)
+    (λ f r. record { next = r.next; told = r.told }) inside.0, inside.1),
     ((if k == p then ended id f else f), find_with_face cmp matching p k (ended id) g f (λ f. refl) found, of_cond (R f) (k == p) (ended id f) f (λ _. ends id f) (λ _. itself f)),
   )
 
@@ -92,7 +102,7 @@ module _ {K : Type 0} (cmp : K → K → Ordering) (matching : K → K → Bool)
   good_ending k id = (
     good_ended k id,
     (
-      (λ g f rows found side. good_each cmp matching p up (TreeRows cmp) (λ g rows. rows) (λ ss g rows. tree_rows_heard cmp ss g rows) R itself trans ear (λ g f. finish_to g k id f) (λ g f face real side_. rw (← side_) (finish_well cmp matching g k id f face)) g f rows found side),
+      good_each cmp matching p up Inside (λ g inside. inside.0) still_inside R itself trans ear (λ g f. finish_to g k id f) (λ g f face real side_. subst (λ b. SaidWell cmp b (finish_to g k id f) f.told f.asks) side_ (finish_well cmp matching g k id f face)),
       tt,
     ),
   )
@@ -100,7 +110,7 @@ module _ {K : Type 0} (cmp : K → K → Ordering) (matching : K → K → Bool)
   -- ---- what each face hears
 
   each_good : (rule : Rows K → Face K → List (Message K)) → ((g : Rows K) (f : Face K) → IsTreeFace g.mode f → IsReal cmp f → SaidWell cmp (is_north f.region) (rule g f) f.told f.asks) → Good (Say (λ g. to_each (rule g) g.faces))
-  each_good rule well = good_each cmp matching p up (TreeRows cmp) (λ g rows. rows) (λ ss g rows. tree_rows_heard cmp ss g rows) R itself trans ear rule (λ g f face real side_. subst (λ b. SaidWell cmp b (rule g f) f.told f.asks) side_ (well g f face real))
+  each_good rule well = good_each cmp matching p up Inside (λ g inside. inside.0) still_inside R itself trans ear rule (λ g f face real side_. subst (λ b. SaidWell cmp b (rule g f) f.told f.asks) side_ (well g f face real))
 
   pub good_tell : (source : Region) (e : K) → Good (Say (λ g. to_each (tell_to cmp matching g source e) g.faces))
   good_tell source e = each_good (λ g f. tell_to cmp matching g source e f) (λ g f face real. tell_well cmp matching g source e f (is_north f.region))
@@ -124,12 +134,15 @@ module _ {K : Type 0} (cmp : K → K → Ordering) (matching : K → K → Bool)
 
   -- only routed rows, tables, the dictionary or the moment change
   beside : (change : Rows K → Rows K) → ((g : Rows K) → (change g).faces ≡ g.faces) → ((g : Rows K) → (change g).mode ≡ g.mode) → Good (Alter change)
-  beside change faces_ mode_ = λ g f rows found. (
-    record {
-      rises = subst (RiseFrom (λ (f : Face K). f.number) 1) (sym (faces_ g)) rows.rises;
-      faces = subst (λ (fs : List (Face K)). Each (IsTreeFace (change g).mode) fs) (sym (faces_ g)) (subst (λ m. Each (IsTreeFace m) g.faces) (sym (mode_ g)) rows.faces);
-      real = subst (Each (IsReal cmp)) (sym (faces_ g)) rows.real;
-    },
+  beside change faces_ mode_ = λ g f inside found. (
+    (
+      record {
+        rises = subst (RiseFrom (λ (f : Face K). f.number) 1) (sym (faces_ g)) inside.0.rises;
+        faces = subst (λ (fs : List (Face K)). Each (IsTreeFace (change g).mode) fs) (sym (faces_ g)) (subst (λ m. Each (IsTreeFace m) g.faces) (sym (mode_ g)) inside.0.faces);
+        real = subst (Each (IsReal cmp)) (sym (faces_ g)) inside.0.real;
+      },
+      mode_ g ∙ inside.1,
+    ),
     (f, ap (first_where (λ (h : Face K). p == h.number)) (faces_ g) ∙ found, itself f),
   )
 
@@ -186,9 +199,9 @@ module _ {K : Type 0} (cmp : K → K → Ordering) (matching : K → K → Bool)
   good_finalising down id interest = (
     good_unheld id,
     (
-      good_one cmp matching p up (TreeRows cmp) (λ g rows. rows) (λ ss g rows. tree_rows_heard cmp ss g rows) R itself trans ear n (λ g f. untell_to cmp matching f) (λ is g f face real side. untell_well cmp matching f up),
+      good_one cmp matching p up Inside (λ g inside. inside.0) still_inside R itself trans ear n (λ g f. untell_to cmp matching f) (λ is g f face real side. untell_well cmp matching f up),
       (
-        good_one cmp matching p up (TreeRows cmp) (λ g rows. rows) (λ ss g rows. tree_rows_heard cmp ss g rows) R itself trans ear n (λ g f. final_of_both id interest f) (λ is g f face real side. subst (λ b. SaidWell cmp b (final_of_both id interest f) f.told f.asks) (sym (down is)) (final_of_both_well cmp matching id interest f)),
+        good_one cmp matching p up Inside (λ g inside. inside.0) still_inside R itself trans ear n (λ g f. final_of_both id interest f) (λ is g f face real side. subst (λ b. SaidWell cmp b (final_of_both id interest f) f.told f.asks) (sym (down is)) (final_of_both_well cmp matching id interest f)),
         (good_end_upstream interest, tt),
       ),
     ),
