@@ -26,7 +26,7 @@ use Rattle.zt_laws.proofs.Lists.{by_test, each_always, each_weaker, map-map, map
 use Rattle.zt_laws.proofs.PartsOrder.{said_by_last}
 
 -- a row that is put where it is
-put_there : {A : Type 0} (id low : ℕ) (v : A) (rows : ById A) → RiseFrom (λ row. row.0) low rows → at_id id rows ≡ Some v → put nat_cmp id v rows ≡ rows
+pub put_there : {A : Type 0} (id low : ℕ) (v : A) (rows : ById A) → RiseFrom (λ row. row.0) low rows → at_id id rows ≡ Some v → put nat_cmp id v rows ≡ rows
 put_there {A} id low v [] rises at_ = cc
 put_there {A} id low v (row ∷ rows) rises at_ =
     by_test (id == row.0)

@@ -42,10 +42,10 @@ north_shows region own up shown =
 shows_north : (region own : Region) → is_north own ≡ true → is_north region ≡ false → shows own region ≡ true
 shows_north region own up elsewhere = let own_is : own ≡ North = region_eq-same own North up in subst (λ r. shows r region ≡ true) (sym own_is) (rw elsewhere refl)
 
-is_no_router : {K : Type 0} (g : Rows K) (f : Face K) → IsTreeFace g f → is_routed g f ≡ false
+pub is_no_router : {K : Type 0} (g : Rows K) (f : Face K) → IsTreeFace g.mode f → is_routed g f ≡ false
 is_no_router g f face =
     by_test (is_north f.region)
-    (λ up. let leads = face.up up in rw (leads.mode, region_eq-same f.region North up) refl)
+    (λ up. let leads = face.up up in rw (leads.own, region_eq-same f.region North up) refl)
     (λ down. broker g.mode f.region (face.down down).broker)
   where
     broker : (mode : WhatAmI) (r : Region) → is_broker r ≡ true → is_router_hat (strategy_of mode r) ≡ false
@@ -81,7 +81,7 @@ module _ {K : Type 0} (cmp : K → K → Ordering) (matching : K → K → Bool)
     node_is : nth x.gateway s.gateways ≡ Some node
     rows_are : node.rows ≡ x.rows
     gateway : IsTreeGateway cmp matching x.rows
-    face : IsTreeFace x.rows x.face
+    face : IsTreeFace x.rows.mode x.face
     keeps_ : KeepsWhatItShould cmp matching x.rows x.face
     refused : x.rows.refused ≡ []
 
@@ -89,7 +89,7 @@ module _ {K : Type 0} (cmp : K → K → Ordering) (matching : K → K → Bool)
   known k x found =
       let at_ = is_there s k x found in
       let gateway = gateway_of cmp matching s k x agree found in
-      let face = find_each (IsTreeFace x.rows) (λ (f : Face K). x.face.number == f.number) x.rows.faces x.face gateway.faces at_.face_is in
+      let face = find_each (IsTreeFace x.rows.mode) (λ (f : Face K). x.face.number == f.number) x.rows.faces x.face gateway.faces at_.face_is in
       let keep_all : FacesKeepWhatTheyShould cmp matching x.rows = subst (FacesKeepWhatTheyShould cmp matching) at_.rows_are (each_nth (λ (node : Node K). FacesKeepWhatTheyShould cmp matching node.rows) x.gateway s.gateways at_.node keep at_.node_is) in
       record {
         node = at_.node;

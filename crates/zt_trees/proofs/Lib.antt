@@ -1,5 +1,13 @@
+pub mod Calls
 pub mod Climbing
+pub mod Hears
 pub mod Knowledge
 pub mod Members
+pub mod Parts
 pub mod Quiet
+pub mod Rules
+pub mod Saying
+pub mod Speaks
 pub mod Start
+pub mod Tracking
+pub mod Waiting

@@ -5,6 +5,7 @@ use Rattle.std.specs.Prelude.{◌≡◌, ◌⊎◌, ℕ, ◌≤◌, ◌<◌, ◌
 use Rattle.std.specs.List.{list_any}
 use Rattle.std.specs.declared.cmp.Ordering.{Ordering}
 use Rattle.zt_region.specs.declared.region.Bound.TheVariants.{South as SouthBound}
+use Rattle.zt_region.specs.declared.region.WhatAmI.{WhatAmI}
 use Rattle.zt_region.specs.declared.region.WhatAmI.TheVariants.{Client}
 use Rattle.zt_region.specs.Region.{is_north, zid_eq}
 use Rattle.zt_protocol.specs.Interest.{is_current, is_future, has_tokens}
@@ -95,22 +96,20 @@ pub record FitsModes {K : Type 0} (upper : Face K) (rising falling : List (Messa
 -- ---- a gateway
 
 -- A face that leads up is a client's, to a gateway above; what speaks there holds and asks nothing.
-pub record LeadsUp {K : Type 0} (g : Rows K) (f : Face K) : Type 0 where
-  pub mode : g.mode ≡ Client
+pub record LeadsUp {K : Type 0} (mode : WhatAmI) (f : Face K) : Type 0 where
+  pub own : mode ≡ Client
   pub bound : f.bound ≡ SouthBound
   pub held : f.held ≡ []
   pub asks : f.asks ≡ []
 
--- Any other is a client's, in a region whose faces are shown each other's tokens; nothing is asked of it.
+-- Any other is a client's, in a region whose faces are shown each other's tokens.
 pub record LeadsDown {K : Type 0} (f : Face K) : Type 0 where
   pub broker : is_broker f.region ≡ true
   pub mode : f.mode ≡ Client
   pub held : Each (λ row. kept_options Client row.1.options ≡ row.1.options) f.held
-  pub locals : f.locals ≡ []
-  pub pendings : f.pendings ≡ []
 
-pub record IsTreeFace {K : Type 0} (g : Rows K) (f : Face K) : Type 0 where
-  pub up : is_north f.region ≡ true → LeadsUp g f
+pub record IsTreeFace {K : Type 0} (mode : WhatAmI) (f : Face K) : Type 0 where
+  pub up : is_north f.region ≡ true → LeadsUp mode f
   pub down : is_north f.region ≡ false → LeadsDown f
 
 module _ {K : Type 0} (cmp : K → K → Ordering) where
@@ -150,6 +149,10 @@ module _ {K : Type 0} (cmp : K → K → Ordering) where
     pub clear_below : AreClear falling lower.live
     pub ids_rise : InterestsRise (max (top_of upper.held) (top_of upper.asks)) rising lower.next
     pub locals_below : Each (λ row. row.0 < lower.next) lower.locals
+    pub pendings_below : Each (λ row. row.0 < lower.next) lower.pendings
+    pub told_below_above : Each (λ row. row.0 < upper.next) upper.told
+    pub told_below : Each (λ row. row.0 < lower.next) lower.told
+    pub live_real : Each (λ row. 1 ≤ row.0) lower.live
     pub for_above : Each IsForAbove rising
     pub for_below : Each (IsForBelow lower.next) falling
     pub modes : Each (FitsModes upper rising falling) lower.pendings
@@ -161,7 +164,7 @@ module _ {K : Type 0} (cmp : K → K → Ordering) (matching : K → K → Bool)
       Each (λ f. is_north f.region ≡ true → list_any (λ row. (is_current row.1.mode && is_future row.1.mode) && asks_same cmp matching i row.1) f.locals ≡ true) g.faces
 
   pub record IsTreeGateway (g : Rows K) : Type 0 where
-    pub faces : Each (IsTreeFace g) g.faces
+    pub faces : Each (IsTreeFace g.mode) g.faces
     pub one_north : length (filter (λ f. is_north f.region) g.faces) ≤ 1
     pub own_rows : Each (λ row. zid_eq row.source g.zid ≡ true) g.routed
     pub asks_above :
