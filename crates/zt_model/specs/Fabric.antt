@@ -18,7 +18,7 @@ use Rattle.zt_protocol.specs.declared.messages.Message.{Message}
 use Rattle.zt_model.specs.Hearing.{heard_all}
 use Rattle.zt_model.specs.Lists.{is_some_and, nth}
 use Rattle.zt_model.specs.Linking.{LinkEnd, call_of_message, closes_loop, end_call, is_end, is_refused_end, link_ends, oldest, sending_end, speaking_end, with_link, with_taken, without_link}
-use Rattle.zt_model.specs.Refusals.{Causes, call_causes, could_spend_ids, first_cause, is_north_taken, spends_ids, GREATEST_NUMBER}
+use Rattle.zt_model.specs.Refusals.{Causes, call_causes, first_cause, is_north_taken, spends_ids, GREATEST_NUMBER}
 use Rattle.zt_model.specs.Rows.{Rows}
 use Rattle.zt_model.specs.Says.{altered, opened_session, said}
 use Rattle.zt_model.specs.Strategy.{fits}
@@ -287,10 +287,6 @@ module _ {K : Type 0} (cmp : K → K → Ordering) (matching : K → K → Bool)
   abbrev pub line_spends_ids : PlainLine K → Fabric K → Bool
   line_spends_ids (LinkLine one two first back) s = list_any (λ at. spends_ids cmp matching at.call at.rows) (opening_calls (link_ends s one two first back) s)
   line_spends_ids line s = is_some_and (call_of line s) (λ at. spends_ids cmp matching at.call at.rows)
-
-  abbrev pub line_could_spend_ids : PlainLine K → Fabric K → Bool
-  line_could_spend_ids (LinkLine one two first back) s = list_any (λ at. could_spend_ids cmp matching at.call at.rows) (opening_calls (link_ends s one two first back) s)
-  line_could_spend_ids line s = is_some_and (call_of line s) (λ at. could_spend_ids cmp matching at.call at.rows)
 
   -- ---- lines
 

@@ -1,11 +1,11 @@
 -- The meaning of a call on one gateway, whole: whether it is refused, what it sends, the face that it makes and the
 -- rows that it leaves. A journal is a list of calls with their outcomes, and its replay carries them out again.
-use Rattle.std.specs.Prelude.{◌≡◌, ℕ, ◌+◌, ◌==◌, ◌&&◌, ◌||◌, Bool, true, false, not, List, [], ◌∷◌, length, Option, Some, None, map, filter}
+use Rattle.std.specs.Prelude.{◌≡◌, ℕ, ◌+◌, ◌==◌, ◌&&◌, ◌||◌, Bool, true, false, not, List, [], ◌∷◌, length, Option, Some, None, is_some, map, filter}
 use Rattle.std.specs.List.{list_all}
 use Rattle.std.specs.declared.cmp.Ordering.{Ordering}
 use Rattle.zt_protocol.specs.Plain.{PlainCall, NewSession, NewTransport, PlainEntry, PlainLine, Gateway, Session, Face as FaceLine, Speak}
 use Rattle.zt_protocol.specs.declared.errors.Refusal.{Refusal}
-use Rattle.zt_model.specs.Fabric.{call_face, entry_by, sorted_by_face}
+use Rattle.zt_model.specs.Fabric.{built_causes, call_face, empty_fabric, entry_by, sorted_by_face}
 use Rattle.zt_model.specs.Hearing.{rows_heard}
 use Rattle.zt_model.specs.Lists.{is_some_and}
 use Rattle.zt_model.specs.Refusals.{call_causes, first_cause, spends_ids}
@@ -81,10 +81,18 @@ is_driven (line ∷ lines) = false
 abbrev pub speaks_for : {K : Type 0} → ℕ → ℕ × PlainLine K → Bool
 speaks_for face line = elim line.1 [ Speak call ↦ is_some_and (call_face call) (λ n. n == face) | _ ↦ false ]
 
--- The same lines, each with its number in the script, in another order: the gateway and the makings stand as they
--- stood, and so do, among each other, the lines that name one face.
-pub record IsReordered {K : Type 0} (script order : List (ℕ × PlainLine K)) : Type 0 where
-  pub same_length : length order ≡ length script
-  pub makings : filter (λ (line : ℕ × PlainLine K). not (is_speaking line.1)) order ≡ filter (λ (line : ℕ × PlainLine K). not (is_speaking line.1)) script
-  pub makings_first : is_driven (map (λ line. line.1) order) ≡ true
-  pub each_face : (face : ℕ) → filter (speaks_for face) order ≡ filter (speaks_for face) script
+module _ {K : Type 0} (cmp : K → K → Ordering) (matching : K → K → Bool) where
+  -- the gateway's line, with which a script begins, is refused: then no worker is started
+  abbrev pub starts_none : List (ℕ × PlainLine K) → Bool
+  starts_none [] = false
+  starts_none (line ∷ lines) = is_some (first_cause (built_causes cmp matching false line.1 empty_fabric))
+
+  -- The same lines, each with its number in the script, in another order: the gateway and the makings stand as they
+  -- stood, and so do, among each other, the lines that name one face. Where the gateway's line is refused all stand as
+  -- they stood.
+  pub record IsReordered (script order : List (ℕ × PlainLine K)) : Type 0 where
+    pub same_length : length order ≡ length script
+    pub makings : filter (λ (line : ℕ × PlainLine K). not (is_speaking line.1)) order ≡ filter (λ (line : ℕ × PlainLine K). not (is_speaking line.1)) script
+    pub makings_first : is_driven (map (λ line. line.1) order) ≡ true
+    pub each_face : (face : ℕ) → filter (speaks_for face) order ≡ filter (speaks_for face) script
+    pub unstarted : starts_none script ≡ true → order ≡ script

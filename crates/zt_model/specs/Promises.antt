@@ -1,6 +1,8 @@
 -- What a transcript promises, as relations of its lines and entries: what faces keep, which tokens they are told,
--- what asks get and when they end, and what goes upstream. They are read off the lines and the printed messages,
--- from the empty fabric on, and know nothing of what a call says.
+-- what asks get and when they end, and what goes upstream. They are read off the lines and the printed messages alone,
+-- from the empty fabric on, as `fabric_shown` goes on from one entry to the next.
+--     MeetsPromises           the promises as they are stated
+--     MeetsStricterPromises   what holds beside, where a promise could be read in two ways
 use Rattle.std.specs.Prelude.{◌≡◌, ℕ, Bool, true, false, ◌+◌, ◌==◌, ◌&&◌, ◌||◌, not, nat_lt, if◌then◌else◌, List, [], ◌∷◌, ◌++◌, length, Option, Some, None, is_some, Ok, Err, filter}
 use Rattle.std.specs.List.{list_any, flat_map}
 use Rattle.std.specs.Option.{option_to_list}
@@ -16,16 +18,16 @@ use Rattle.zt_protocol.specs.Plain.{NewTransport, DeclareToken, Interest, Intere
 use Rattle.zt_protocol.specs.declared.entries.Sent.{Sent}
 use Rattle.zt_protocol.specs.declared.messages.Message.{Message}
 use Rattle.zt_protocol.specs.declared.messages.Message.TheVariants as message
-use Rattle.zt_model.specs.Fabric.{CallAt, Fabric, Node, altered_by_line, call_of, closing_call, both_ends, fabric_after, number_of_place, opening_calls, printed_for}
+use Rattle.zt_model.specs.Fabric.{CallAt, Fabric, Node, call_of, closing_call, both_ends, number_of_place, printed_for}
 use Rattle.zt_model.specs.Hearing.{heard}
 use Rattle.zt_model.specs.Linking.{link_ends}
 use Rattle.zt_model.specs.Lists.{at_id, has_id, is_among, is_some_and, nth, same}
 use Rattle.zt_model.specs.Parts.{find_face, is_routed}
-use Rattle.zt_model.specs.Routing.{asks_same, interests_from, is_held_south, opening_interests, route_to, stands}
+use Rattle.zt_model.specs.Routing.{asks_same, is_held_south, is_target, opening_interests, stands}
 use Rattle.zt_model.specs.Rows.{Ask, Face, InterestRow, Rows}
-use Rattle.zt_model.specs.Says.{row_of}
+use Rattle.zt_model.specs.Shown.{interest_kept}
 use Rattle.zt_model.specs.Telling.{registers, was_sent_as}
-use Rattle.zt_model.specs.Transcript.{Each, IsEntry, messages_of}
+use Rattle.zt_model.specs.Transcript.{Each, fabric_shown, fabric_with, messages_of, openings}
 use Rattle.zt_model.specs.Visible.{is_admitted, is_visible, keeps, shows}
 use Rattle.zt_model.specs.Wants.{asks_token, covers, is_about, seeks, wants}
 pub use Rattle.zt_model.specs.Transcript.{FaceAt}
@@ -77,9 +79,11 @@ abbrev pub is_final_of : {K : Type 0} → ℕ → Message K → Bool
 is_final_of id (message.DeclareFinal interest) = id == interest
 is_final_of id _ = false
 
-abbrev pub is_interest : {K : Type 0} → Message K → Bool
-is_interest (message.Interest id mode options e) = true
-is_interest _ = false
+-- the interests among messages, whatever their ids
+abbrev pub interests_in : {K : Type 0} → List (Message K) → List (InterestRow K)
+interests_in [] = []
+interests_in (message.Interest id mode options e ∷ ms) = record { mode = mode; options = options; expr = e } ∷ interests_in ms
+interests_in (m ∷ ms) = interests_in ms
 
 -- the expression of a token that answers an interest of this id
 abbrev pub answered_by : {K : Type 0} → ℕ → Message K → List K
@@ -105,7 +109,7 @@ module _ {K : Type 0} (cmp : K → K → Ordering) (matching : K → K → Bool)
   turns_from [] entries s = []
   turns_from (line ∷ lines) [] s = []
   turns_from (line ∷ lines) (entry ∷ entries) s =
-      let after = fabric_after cmp matching line entry s in
+      let after = fabric_shown cmp matching line entry s in
       record { line = line; entry = entry; before = s; after = after } ∷ turns_from lines entries after
 
   -- the calls of a turn, where its line is accepted: a link opens two faces, and closes them
@@ -113,14 +117,14 @@ module _ {K : Type 0} (cmp : K → K → Ordering) (matching : K → K → Bool)
   calls_in t = if is_accepted t.entry then calls_by t.line t.before else []
     where
       calls_by : PlainLine K → Fabric K → List (CallAt K)
-      calls_by (LinkLine one two first back) s = opening_calls cmp matching (link_ends s one two first back) s
+      calls_by (LinkLine one two first back) s = openings cmp matching (link_ends s one two first back) s
       calls_by (Unlink link) s = flat_map (λ face. option_to_list (closing_call s face)) (both_ends cmp matching s link)
       calls_by line s = option_to_list (call_of line s)
 
   -- the fabric with what an accepted line itself changes, before its messages are heard: the asks that stood before
   -- and those that the line makes stand in it
   abbrev pub with_line : Turn K → Fabric K
-  with_line t = if is_accepted t.entry then altered_by_line cmp matching t.line t.before else t.before
+  with_line t = if is_accepted t.entry then fabric_with cmp matching t.line (printed t) t.before else t.before
 
   -- ---- equality
 
@@ -130,42 +134,61 @@ module _ {K : Type 0} (cmp : K → K → Ordering) (matching : K → K → Bool)
 
   -- ---- sparing
 
-  -- A token that answers nobody is printed for a face outside router regions only with a real id, only if the face
-  -- seeks it then, and, but where the face is new, only if it is admitted. An answer is printed only for a token ask
-  -- of its id that stood or was made, and that it matches.
+  -- an ask of the id that asks for the expression's tokens stood at the face, or was made
+  abbrev pub is_asked_for : Turn K → ℕ → ℕ → K → Bool
+  is_asked_for t n id e =
+      is_some_and (face_numbered (with_line t) n) (λ x. is_some_and (at_id id x.face.asks) (λ ask. asks_token matching ask.interest e))
+
+  -- Outside router regions a token that answers nobody is printed for a face only with a real id, and only if the face
+  -- seeks it then; an answer only for a token ask of its id that it matches.
   abbrev pub SparesMessage : Turn K → ℕ → Message K → Option (FaceAt K) → Type 0
   SparesMessage t n (message.DeclareToken id e None node) (Some x) =
-      is_routed x.rows x.face ≡ false →
-      (nat_lt 0 id ≡ true) × (seeks matching x.face e ≡ true) × (is_open_face t.before n ≡ true → is_admitted cmp x.rows x.face.region e ≡ true)
-  SparesMessage t n (message.DeclareToken id e (Some interest) node) at =
-      is_some_and (face_numbered (with_line t) n) (λ x. is_some_and (at_id interest x.face.asks) (λ ask. asks_token matching ask.interest e)) ≡ true
+      is_routed x.rows x.face ≡ false → (nat_lt 0 id ≡ true) × (seeks matching x.face e ≡ true)
+  SparesMessage t n (message.DeclareToken id e (Some interest) node) (Some x) =
+      is_routed x.rows x.face ≡ false → is_asked_for t n interest e ≡ true
   SparesMessage t n _ at = Unit {0}
 
   abbrev pub IsSparing : Turn K → Type 0
   IsSparing t = Each (λ m. SparesMessage t m.face m.message (face_numbered t.after m.face)) (printed t)
 
+  -- And, but where the face is new, the token is admitted to it; and an answer is printed so for faces of every region.
+  abbrev pub SparesMore : Turn K → ℕ → Message K → Option (FaceAt K) → Type 0
+  SparesMore t n (message.DeclareToken id e None node) (Some x) =
+      is_routed x.rows x.face ≡ false → is_open_face t.before n ≡ true → is_admitted cmp x.rows x.face.region e ≡ true
+  SparesMore t n (message.DeclareToken id e (Some interest) node) at = is_asked_for t n interest e ≡ true
+  SparesMore t n _ at = Unit {0}
+
+  abbrev pub IsMoreSparing : Turn K → Type 0
+  IsMoreSparing t = Each (λ m. SparesMore t m.face m.message (face_numbered t.after m.face)) (printed t)
+
   -- ---- the future
 
-  -- After an accepted declaration that registers or is made in a router region, each face outside router regions
-  -- keeps the expression that wants it, to which the pair of regions is admitted and the region shown.
+  -- Each face outside router regions keeps the expression that wants it, to which the pair of regions is admitted and
+  -- the region shown.
   abbrev pub TellsWhoWants : Region → K → Rows K → Type 0
   TellsWhoWants source e g =
       Each (λ f. is_routed g f ≡ false → wants matching f e ≡ true → admits g.refused source f.region ≡ true → shows f.region source ≡ true → keeps cmp f e ≡ true) g.faces
 
-  abbrev pub TellsAfter : Fabric K → CallAt K → Type 0
-  TellsAfter after at = elim at.call [
+  -- they do after an accepted declaration that passes a test
+  abbrev pub TellsAfter : (Rows K → Face K → Option ℕ → Bool) → Fabric K → CallAt K → Type 0
+  TellsAfter test after at = elim at.call [
     | DeclareToken n id e node interest ↦
         elim (find_face n at.rows) [
           | None ↦ Unit {0}
           | Some from ↦
-              (is_routed at.rows from || registers from interest) ≡ true →
+              test at.rows from interest ≡ true →
               elim (nth at.gateway after.gateways) [ None ↦ Unit {0} | Some node ↦ TellsWhoWants from.region e node.rows ]
         ]
     | _ ↦ Unit {0}
   ]
 
+  -- after a declaration that registers
   abbrev pub TellsTheFuture : Turn K → Type 0
-  TellsTheFuture t = Each (TellsAfter t.after) (calls_in t)
+  TellsTheFuture t = Each (TellsAfter (λ g f interest. not (is_routed g f) && registers f interest) t.after) (calls_in t)
+
+  -- and after one in a router region
+  abbrev pub TellsOfRouters : Turn K → Type 0
+  TellsOfRouters t = Each (TellsAfter (λ g f interest. is_routed g f) t.after) (calls_in t)
 
   -- ---- asks
 
@@ -234,7 +257,6 @@ module _ {K : Type 0} (cmp : K → K → Ordering) (matching : K → K → Bool)
 
   pub record SendsFinals (t : Turn K) : Type 0 where
     pub asks : FinishesAsks t
-    pub initial : FinishesInitial t
     pub no_others : Each (λ m. IsFinalOfSome t m.face m.message) (printed t)
     pub come_last : EachFace (λ n g f. NothingFollowsFinals (printed_to t n f)) t.after
 
@@ -242,7 +264,7 @@ module _ {K : Type 0} (cmp : K → K → Ordering) (matching : K → K → Bool)
 
   -- The interests that a call sends to a face: its own to each of its targets, and to a new face to the north what
   -- south-bound faces hold.
-  abbrev pub interests_due : ℕ → Face K → CallAt K → List (Message K)
+  abbrev pub interests_due : ℕ → Face K → CallAt K → List (InterestRow K)
   interests_due gateway f at =
       if not (gateway == at.gateway) then []
       else elim at.call [
@@ -252,18 +274,19 @@ module _ {K : Type 0} (cmp : K → K → Ordering) (matching : K → K → Bool)
               | Some from ↦
                   elim (find_face f.number at.rows) [
                     | None ↦ []
-                    | Some target ↦ route_to at.rows from.region (row_of cmp matching from mode options e) target
+                    | Some target ↦ if is_target at.rows from.region mode target then interest_kept from mode options e ∷ [] else []
                   ]
             ]
-        | NewTransport zid whatami region bound first ↦ if f.number == at.rows.made + 1 then interests_from first (opening_interests cmp matching at.rows f) else []
+        | NewTransport zid whatami region bound first ↦ if f.number == at.rows.made + 1 then opening_interests cmp matching at.rows f else []
         | _ ↦ []
       ]
 
   -- no other interest is printed
   abbrev pub SendsUpstream : Turn K → Type 0
-  SendsUpstream t = EachFace (λ n g f. filter is_interest (printed_to t n f) ≡ flat_map (interests_due n f) (calls_in t)) t.after
+  SendsUpstream t = EachFace (λ n g f. interests_in (printed_to t n f) ≡ flat_map (interests_due n f) (calls_in t)) t.after
 
-  -- a client's face to the north, and a peer's faces to the north with remote bound South, are sent all interests
+  -- A client's face to the north, and a peer's faces to the north with remote bound South, are sent all interests in what
+  -- comes later; a peer's question about now alone goes to the lowest of these alone.
   abbrev pub is_sent_all : WhatAmI → Face K → Bool
   is_sent_all Client f = is_north f.region
   is_sent_all Peer f = is_north f.region && bound_eq f.bound SouthBound
@@ -276,15 +299,20 @@ module _ {K : Type 0} (cmp : K → K → Ordering) (matching : K → K → Bool)
   -- ---- undeclarations
 
   -- Outside router regions an undeclaration by expression is printed only where the expression isn't visible.
-  -- Anywhere one by id is printed only where the face kept a pair of the id.
-  abbrev pub IsGone : Turn K → ℕ → Message K → Option (FaceAt K) → Type 0
-  IsGone t n (message.UndeclareToken id (Some e) node) (Some x) = is_routed x.rows x.face ≡ false → is_visible cmp x.rows x.face.region e ≡ false
-  IsGone t n (message.UndeclareToken id None node) (Some x) =
-      is_some_and (face_numbered t.before n) (λ y. has_id id y.face.told) ≡ true
-  IsGone t n _ at = Unit {0}
+  abbrev pub IsGone : Message K → Option (FaceAt K) → Type 0
+  IsGone (message.UndeclareToken id (Some e) node) (Some x) = is_routed x.rows x.face ≡ false → is_visible cmp x.rows x.face.region e ≡ false
+  IsGone _ at = Unit {0}
 
   abbrev pub UndeclaresWhatIsGone : Turn K → Type 0
-  UndeclaresWhatIsGone t = Each (λ m. IsGone t m.face m.message (face_numbered t.after m.face)) (printed t)
+  UndeclaresWhatIsGone t = Each (λ m. IsGone m.message (face_numbered t.after m.face)) (printed t)
+
+  -- Anywhere one by id is printed only where the face kept a pair of the id before the line.
+  abbrev pub WasKept : Turn K → ℕ → Message K → Type 0
+  WasKept t n (message.UndeclareToken id None node) = is_some_and (face_numbered t.before n) (λ x. has_id id x.face.told) ≡ true
+  WasKept t n _ = Unit {0}
+
+  abbrev pub UndeclaresWhatWasKept : Turn K → Type 0
+  UndeclaresWhatWasKept t = Each (λ m. WasKept t m.face m.message) (printed t)
 
   -- ---- ids
 
@@ -322,7 +350,6 @@ module _ {K : Type 0} (cmp : K → K → Ordering) (matching : K → K → Bool)
 
   -- what holds of each turn of a transcript
   pub record MeetsPromises (t : Turn K) : Type 0 where
-    pub entry : IsEntry t.entry t.after
     pub exact : KeepsExactly t
     pub sparing : IsSparing t
     pub future : TellsTheFuture t
@@ -331,8 +358,19 @@ module _ {K : Type 0} (cmp : K → K → Ordering) (matching : K → K → Bool)
     pub upstream : SendsUpstream t
     pub upstream_ends : EndsUpstream t
     pub undeclarations : UndeclaresWhatIsGone t
+
+  -- and beside these
+  pub record MeetsStricterPromises (t : Turn K) : Type 0 where
+    pub sparing : IsMoreSparing t
+    pub future : TellsOfRouters t
+    pub initial : FinishesInitial t
+    pub undeclarations : UndeclaresWhatWasKept t
     pub ids : DrawsNextIds t
     pub ends : EndsWhatStands t
 
+  -- a transcript has an entry for each line, and each turn keeps the promises
   abbrev pub MeetPromisesFrom : List (PlainLine K) → List (PlainEntry K) → Fabric K → Type 0
   MeetPromisesFrom lines entries s = (length entries ≡ length lines) × Each MeetsPromises (turns_from lines entries s)
+
+  abbrev pub MeetStricterPromisesFrom : List (PlainLine K) → List (PlainEntry K) → Fabric K → Type 0
+  MeetStricterPromisesFrom lines entries s = Each MeetsStricterPromises (turns_from lines entries s)

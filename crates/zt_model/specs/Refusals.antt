@@ -13,9 +13,10 @@ use Rattle.zt_protocol.specs.declared.interests.InterestMode.{InterestMode}
 use Rattle.zt_protocol.specs.declared.interests.InterestOptions.{InterestOptions}
 use Rattle.zt_model.specs.Entities.{entity_expressions, numbered_by, numbered_with}
 use Rattle.zt_model.specs.Lists.{same, at_id, has_id, is_some_and}
-use Rattle.zt_model.specs.Routing.{is_target, opened, opening_interests, opening_tokens}
+use Rattle.zt_model.specs.Routing.{is_target, opened, opening_interests, opening_tokens, sent_as}
 use Rattle.zt_model.specs.Rows.{Face, Rows}
-use Rattle.zt_model.specs.Says.{answered_expressions, find_face, is_routed, is_told, registers, row_of, altered}
+use Rattle.zt_model.specs.Says.{answered_expressions, find_face, is_routed, is_told, registers, row_of}
+use Rattle.zt_model.specs.Shown.{rows_shown}
 use Rattle.zt_model.specs.Strategy.{fits, is_region_of, is_router_hat, strategy_of}
 use Rattle.zt_model.specs.Telling.{is_answered_by}
 use Rattle.zt_model.specs.Trees.{counted_table, is_listed, source_of}
@@ -66,7 +67,7 @@ abbrev pub answers_nothing : {K : Type 0} → ℕ → Option ℕ → Face K → 
 answers_nothing id None f = false
 answers_nothing id (Some interest) f = (id == 0) && names_nothing interest f
 
--- an answer names an interest: in a router region there is none, and a token that is none itself must name one
+-- a token with the id 0 must name an interest that was sent to its face; in a router region none may be named
 abbrev pub is_unknown_ask : {K : Type 0} → ℕ → Option ℕ → Rows K → Face K → Bool
 is_unknown_ask id interest g f = if is_routed g f then is_some interest else answers_nothing id interest f
 
@@ -217,15 +218,21 @@ module _ {K : Type 0} (cmp : K → K → Ordering) (matching : K → K → Bool)
 
   -- ---- what a transcript shows of ids
 
+  -- the interests that a call would send upstream, each by its face and id
+  abbrev pub would_send : PlainCall K → Rows K → List (ℕ × ℕ)
+  would_send (Interest n id mode options e) g = elim (find_face n g) [ None ↦ [] | Some f ↦ sent_as g f.region mode ]
+  would_send _ g = []
+
   -- the asks of a face that were sent upstream
   abbrev pub asks_upstream : Face K → ℕ
   asks_upstream f = length (filter (λ row. nat_lt 0 (length row.1.pendings)) f.asks)
 
   -- At the most so many ids could the call draw for a face: one for each visible expression that the face
-  -- didn't keep, and one for each interest held and each ask standing at the gateway, once the call is accepted.
+  -- didn't keep, and one for each interest held and each ask sent upstream that stands at the gateway, once the call
+  -- is accepted.
   unfoldable pub could : PlainCall K → Rows K → Face K → ℕ
   could c g f =
-      let after = altered cmp matching c g in
+      let after = rows_shown cmp (would_send c g) c g in
       length (filter (λ e. not (keeps cmp f e)) (visible_expressions cmp after f.region))
       + (sum_by (λ x. length x.held) after.faces + sum_by asks_upstream after.faces)
 

@@ -17,7 +17,7 @@ use Rattle.zt_model.specs.Linking.{is_end_of}
 use Rattle.zt_model.specs.Lists.{is_among, is_some_and, nth, same}
 use Rattle.zt_model.specs.Promises.{EachFace, EachGateway, FaceAt, Turn, answers_in, face_numbered, finals_in, is_accepted, printed}
 use Rattle.zt_model.specs.Rows.{Face, InterestRow, Rows}
-use Rattle.zt_model.specs.Says.{row_of}
+use Rattle.zt_model.specs.Shown.{interest_kept}
 use Rattle.zt_model.specs.Transcript.{Each}
 use Rattle.zt_model.specs.Visible.{keeps}
 use Rattle.zt_model.specs.Wants.{covers, is_about}
@@ -110,7 +110,7 @@ module _ {K : Type 0} (cmp : K → K → Ordering) (matching : K → K → Bool)
     pub at : FaceAt K
     pub line : t.line ≡ Speak (Interest face id interest.mode options interest.expr)
     pub there : face_numbered t.before face ≡ Some at
-    pub kept : interest ≡ row_of cmp matching at.face interest.mode options interest.expr
+    pub kept : interest ≡ interest_kept at.face interest.mode options interest.expr
     pub current : is_current interest.mode ≡ true
     pub tokens : has_tokens interest.options ≡ true
 
