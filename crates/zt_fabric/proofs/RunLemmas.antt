@@ -17,7 +17,7 @@ use Rattle.zt_protocol.specs.declared.errors.RunError.TheVariants as errors
 use Rattle.zt_wire.specs.Text.{entries_text, report_text}
 use Rattle.zt_model.specs.Fabric.{Fabric, empty_fabric, entries_from}
 use Rattle.zt_model.specs.Sessions.{is_session_line}
-use Rattle.zt_model.specs.Transcript.{Each, IsFaithfulFrom, report_of}
+use Rattle.zt_model.specs.Transcript.{Each, IsFaithfulFrom, IsStrictFrom, report_of}
 use Rattle.zt_laws.specs.Sound.{HasFirstIds}
 use Rattle.zt_fabric.specs.Transcripts.{Answers, BeginsWith, FailedToRead, FailedToWrite, FoundTooMuch, IsTranscript, RanToItsEnd, most_bytes, streams}
 use Rattle.zt_fabric.specs.Carrying.{Carries, Ends, EndsInPart, Shows, StopsWriting, Writes, WritesUntil, no_totals, with_entries}
@@ -116,11 +116,18 @@ module _ {K : Type 0} (cmp : K → K → Ordering) (matching : K → K → Bool)
   unfolding with_entries report_of
   totals-from_none es = same_totals (zero-add _) (zero-add _) (zero-add _)
 
-  -- The law: what the machine comes to on lines with first ids is faithful.
-  module _ (law : (lines : List (PlainLine K)) → Each HasFirstIds lines → IsFaithfulFrom cmp matching is_session_line lines (entries_from cmp matching is_session_line lines empty_fabric) empty_fabric) where
+  -- the entries are faithful and strict
+  abbrev pub AreRight : List (PlainLine K) → List (PlainEntry K) → Type 0
+  AreRight lines entries =
+      IsFaithfulFrom cmp matching is_session_line lines entries empty_fabric × IsStrictFrom cmp matching is_session_line lines entries empty_fabric
+
+  -- The law: what the machine comes to on lines with first ids is right.
+  module _ (law : (lines : List (PlainLine K)) → Each HasFirstIds lines → AreRight lines (entries_from cmp matching is_session_line lines empty_fabric)) where
     transcript_of : (texts : List (List ℕ)) (text : List ℕ) (p : Shows cmp matching reading printed texts empty_fabric 1 text)
         → IsTranscript cmp matching reading texts (entries_from cmp matching is_session_line p.lines empty_fabric)
-    transcript_of texts text p = record { lines = p.lines; are_read = p.are_read; are_the_machines = refl; are_faithful = law p.lines (first_ids_of reading texts p.lines p.are_read) }
+    transcript_of texts text p =
+        let right = law p.lines (first_ids_of reading texts p.lines p.are_read) in
+        record { lines = p.lines; are_read = p.are_read; are_the_machines = refl; are_faithful = right.0; are_strict = right.1 }
 
     -- what was shown of a transcript
     record Told (texts : List (List ℕ)) (text : List ℕ) : Type 0 where

@@ -14,7 +14,7 @@ use Rattle.zt_wire.specs.Reading.{line_read}
 use Rattle.zt_wire.specs.Text.{entries_text, report_text}
 use Rattle.zt_model.specs.Fabric.{empty_fabric, entries_from}
 use Rattle.zt_model.specs.Sessions.{is_session_line}
-use Rattle.zt_model.specs.Transcript.{IsFaithfulFrom, report_of}
+use Rattle.zt_model.specs.Transcript.{IsFaithfulFrom, IsStrictFrom, report_of}
 
 -- the most bytes of a script
 abbrev pub most_bytes : ℕ
@@ -40,12 +40,14 @@ BeginsWith left read texts =
 
 module _ {K : Type 0} (cmp : K → K → Ordering) (matching : K → K → Bool) (reading : List ℕ → Result K KeyError) where
   -- Each of these texts is a line of the grammar, and the entries are what the machine comes to on these lines:
-  -- each is refused exactly by its cause, and after each entry every face keeps what it should.
+  -- each is refused exactly by its cause, and after each entry every face keeps what it should. Each message names an
+  -- open face and its gateway, and too few ids are left only for a line's own call.
   pub record IsTranscript (texts : List (List ℕ)) (entries : List (PlainEntry K)) : Type 0 where
     pub lines : List (PlainLine K)
     pub are_read : map (line_read reading) texts ≡ map (λ line. Ok line) lines
     pub are_the_machines : entries ≡ entries_from cmp matching is_session_line lines empty_fabric
     pub are_faithful : IsFaithfulFrom cmp matching is_session_line lines entries empty_fabric
+    pub are_strict : IsStrictFrom cmp matching is_session_line lines entries empty_fabric
 
 module _ {K : Type 0} (cmp : K → K → Ordering) (matching : K → K → Bool) (reading : List ℕ → Result K KeyError) (printed : K → List ℕ) where
   -- The source was read to its end. Exactly the transcript of all its lines was written, with its totals, which

@@ -18,7 +18,7 @@ use Rattle.zt_model.specs.Refusals.{first_cause}
 use Rattle.zt_model.specs.Rows.{Ask, ById, Face, Rows}
 use Rattle.zt_model.specs.Says.{altered, answered_expressions, altered_by, answers_from, answers_of, asked, final_of, find_face, forget_to, forget_untold, is_routed, is_told, parts_of, registered, said, said_by, tell_to, to_each, to_face, told_id, unregistered, with_face}
 use Rattle.zt_model.specs.Sessions.{is_session_call, is_session_line}
-use Rattle.zt_model.specs.Transcript.{Each, FaceAt, IsEntry, NamesOpenFace, face_numbered, has_named_options}
+use Rattle.zt_model.specs.Transcript.{Each, FaceAt, IsEntry, NamesOpenFace, NamesOpenFaces, face_numbered, has_named_options}
 use Rattle.zt_model.specs.Strategy.{is_client_hat, strategy_of}
 use Rattle.zt_model.specs.Visible.{is_visible, shows}
 use Rattle.zt_model.specs.Wants.{wants}
@@ -229,51 +229,74 @@ module _ {K : Type 0} (cmp : K → K → Ordering) (matching : K → K → Bool)
 
   -- ---- entries
 
-  entry_of_nothing : (ms : List (Sent K)) (after : Fabric K) → ms ≡ [] → IsEntry (Ok ms) after
-  entry_of_nothing ms after none_ = subst (λ xs. IsEntry (Ok xs) after) (sym none_) (record { in_order = tt; open_faces = tt; named_options = refl })
+  entry_of_nothing : (ms : List (Sent K)) → ms ≡ [] → IsEntry (Ok ms)
+  entry_of_nothing ms none_ = subst (λ xs. IsEntry (Ok xs)) (sym none_) (record { in_order = tt; named_options = refl })
+
+  names_nothing_closed : (ms : List (Sent K)) (after : Fabric K) → ms ≡ [] → NamesOpenFaces (Ok ms) after
+  names_nothing_closed ms after none_ = subst (λ xs. NamesOpenFaces (Ok xs) after) (sym none_) tt
 
   entry_of_call : (n : ℕ) (node : Node K) (c : PlainCall K) (s : Fabric K) → nth n s.gateways ≡ Some node → is_session_call c ≡ true → FabricIsSound cmp matching s
-      → (let ms = sorted_by_face (map (printed_message s n) (said cmp matching c node.rows)) in IsEntry (Ok ms) (with_waiting ms (after_hearing cmp ms (with_rows n (altered cmp matching c) s))))
-  unfolding face_numbered
+      → IsEntry (Ok (sorted_by_face (map (printed_message s n) (said cmp matching c node.rows))))
   entry_of_call n node c s at_ built sound =
       let prints = map (printed_message s n) (said cmp matching c node.rows) in
       let ms = sorted_by_face prints in
       let gateway = gateway_is_sound cmp matching s n node at_ sound in
       record {
         in_order = stand_in_order ms (sorted_stands prints);
-        open_faces =
-            subst (λ (after : Fabric K). Each (NamesOpenFace after) ms) (sym (fabric_after_call cmp matching n node c s at_ built sound))
-            (sorted_each (NamesOpenFace (with_rows n (rows_after_call cmp matching c) s)) prints (open_faces n node c s at_ built sound));
         named_options =
             all_of_each (λ m. has_named_options m.message) ms
             (sorted_each (λ m. has_named_options m.message ≡ true) prints
             (each_map (λ m. has_named_options m.message ≡ true) (printed_message s n) (said cmp matching c node.rows) (named_said c node.rows built gateway.rows.of_sessions)));
       }
 
-  entry_accepted : (line : PlainLine K) (s : Fabric K) → is_session_line line ≡ true → FabricIsSound cmp matching s
-      → (let ms = sorted_by_face (said_by_line cmp matching line s) in IsEntry (Ok ms) (with_waiting ms (after_hearing cmp ms (altered_by_line cmp matching line s))))
+  call_names_open : (n : ℕ) (node : Node K) (c : PlainCall K) (s : Fabric K) → nth n s.gateways ≡ Some node → is_session_call c ≡ true → FabricIsSound cmp matching s
+      → (let ms = sorted_by_face (map (printed_message s n) (said cmp matching c node.rows)) in NamesOpenFaces (Ok ms) (with_waiting ms (after_hearing cmp ms (with_rows n (altered cmp matching c) s))))
+  unfolding face_numbered
+  call_names_open n node c s at_ built sound =
+      let prints = map (printed_message s n) (said cmp matching c node.rows) in
+      let ms = sorted_by_face prints in
+      subst (λ (after : Fabric K). Each (NamesOpenFace after) ms) (sym (fabric_after_call cmp matching n node c s at_ built sound))
+      (sorted_each (NamesOpenFace (with_rows n (rows_after_call cmp matching c) s)) prints (open_faces n node c s at_ built sound))
+
+  -- what holds of the entry of an accepted line of sessions: of no messages, and of a call's
+  accepted : (G : List (Sent K) → Fabric K → Type 0) (line : PlainLine K) (s : Fabric K) → is_session_line line ≡ true
+      → ((ms : List (Sent K)) (after : Fabric K) → ms ≡ [] → G ms after)
+      → ((n : ℕ) (node : Node K) (c : PlainCall K) → nth n s.gateways ≡ Some node → is_session_call c ≡ true → (let ms = sorted_by_face (map (printed_message s n) (said cmp matching c node.rows)) in G ms (with_waiting ms (after_hearing cmp ms (with_rows n (altered cmp matching c) s)))))
+      → (let ms = sorted_by_face (said_by_line cmp matching line s) in G ms (with_waiting ms (after_hearing cmp ms (altered_by_line cmp matching line s))))
   unfolding altered_by_line call_of said_by_line sorted_by_face parts_of said_by is_session_line
-  entry_accepted (Gateway mode zid regions south name timeout refused) s built sound = entry_of_nothing [] _ refl
-  entry_accepted (Session n first) s built sound = entry_of_nothing _ _ (silent (nth n s.gateways))
+  accepted G (Gateway mode zid regions south name timeout refused) s built nothing called = nothing [] _ refl
+  accepted G (Session n first) s built nothing called = nothing _ _ (silent (nth n s.gateways))
     where
       silent : (o : Option (Node K)) → sorted_by_face (said_at cmp matching s (elim o [ None ↦ None | Some node ↦ Some (record { gateway = n; rows = node.rows; call = NewSession first }) ])) ≡ []
       silent None = refl
       silent (Some node) = refl
-  entry_accepted (Speak c) s built sound =
-      speaking (λ at. let ms = sorted_by_face (said_at cmp matching s at) in IsEntry (Ok ms) (with_waiting ms (after_hearing cmp ms (altered_at cmp matching s at)))) c s built
-      (entry_of_nothing [] _ refl)
-      (λ n node call at_ built_. entry_of_call n node call s at_ built_ sound)
-  entry_accepted line s built sound = never built refl
+  accepted G (Speak c) s built nothing called =
+      speaking (λ at. let ms = sorted_by_face (said_at cmp matching s at) in G ms (with_waiting ms (after_hearing cmp ms (altered_at cmp matching s at)))) c s built
+      (nothing [] _ refl)
+      (λ n node call at_ built_. called n node call at_ built_)
+  accepted G line s built nothing called = never built refl
 
   -- What the machine prints for a line is an entry.
-  pub is_entry : (line : PlainLine K) (s : Fabric K) → FabricIsSound cmp matching s → (let entry = entry_of cmp matching is_session_line line s in IsEntry entry (fabric_after cmp matching line entry s))
-  unfolding fabric_after entry_of first_cause
+  pub is_entry : (line : PlainLine K) (s : Fabric K) → FabricIsSound cmp matching s → IsEntry (entry_of cmp matching is_session_line line s)
+  unfolding entry_of first_cause
   is_entry line s sound =
       by_test (is_session_line line)
       (λ built. rw built (cases built (first_cause (built_causes cmp matching (line_spends_ids cmp matching line s) line s))))
-      (λ unbuilt. rw unbuilt (record { in_order = tt; open_faces = tt; named_options = refl }))
+      (λ unbuilt. rw unbuilt (record { in_order = tt; named_options = refl }))
+    where
+      cases : is_session_line line ≡ true → (o : Option Refusal) → IsEntry (entry_by cmp matching o (sorted_by_face (said_by_line cmp matching line s)))
+      cases built None = accepted (λ ms after. IsEntry (Ok ms)) line s built (λ ms after none_. entry_of_nothing ms none_) (λ n node c at_ built_. entry_of_call n node c s at_ built_ sound)
+      cases built (Some r) = record { in_order = tt; named_options = refl }
+
+  -- Its messages name open faces.
+  pub names_open : (line : PlainLine K) (s : Fabric K) → FabricIsSound cmp matching s → (let entry = entry_of cmp matching is_session_line line s in NamesOpenFaces entry (fabric_after cmp matching line entry s))
+  unfolding fabric_after entry_of first_cause
+  names_open line s sound =
+      by_test (is_session_line line)
+      (λ built. rw built (cases built (first_cause (built_causes cmp matching (line_spends_ids cmp matching line s) line s))))
+      (λ unbuilt. rw unbuilt tt)
     where
       cases : is_session_line line ≡ true → (o : Option Refusal)
-          → (let entry = entry_by cmp matching o (sorted_by_face (said_by_line cmp matching line s)) in IsEntry entry (fabric_after cmp matching line entry s))
-      cases built None = entry_accepted line s built sound
-      cases built (Some r) = record { in_order = tt; open_faces = tt; named_options = refl }
+          → (let entry = entry_by cmp matching o (sorted_by_face (said_by_line cmp matching line s)) in NamesOpenFaces entry (fabric_after cmp matching line entry s))
+      cases built None = accepted (λ ms after. NamesOpenFaces (Ok ms) after) line s built names_nothing_closed (λ n node c at_ built_. call_names_open n node c s at_ built_ sound)
+      cases built (Some r) = tt

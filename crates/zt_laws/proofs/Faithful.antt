@@ -1,23 +1,30 @@
 -- The machine's entries are right, whatever the lines of sessions are.
-use Rattle.std.proofs.Common.{◌≡◌, Bool, true, List, [], ◌∷◌, map, Option, Some, None, refl, sym, subst}
+use Rattle.std.proofs.Common.{◌≡◌, Bool, true, List, [], ◌∷◌, map, filter, Option, Some, None, refl, sym, ap, ◌∙◌, subst}
 use Rattle.std.specs.Cmp.{IsTotalOrder}
 use Rattle.std.specs.declared.cmp.Ordering.{Ordering}
 use Rattle.std.specs.declared.cmp.Ordering.TheVariants.{Equal}
+use Rattle.zt_region.specs.declared.region.Zid.{Zid}
 use Rattle.zt_protocol.specs.Plain.{NewSession, PlainLine, Gateway, Session, Face as FaceLine, Link as LinkLine, Unlink, Step, Speak, Moment, SetTreesAt}
 use Rattle.zt_protocol.specs.declared.errors.Refusal.{Refusal}
 use Rattle.zt_protocol.specs.declared.errors.Refusal.TheVariants as refusal
 use Rattle.zt_model.specs.Fabric.{CallAt, Fabric, Node, after_refusal, built_causes, call_of, empty_fabric, entries_from, entry_by, entry_of, fabric_after, line_spends_ids, printed_message, said_at, said_by_line, sorted_by_face}
 use Rattle.zt_model.specs.Lists.{nth}
 use Rattle.zt_model.specs.Refusals.{first_cause}
+use Rattle.zt_model.specs.Rows.{RoutedRow}
 use Rattle.zt_model.specs.Says.{parts_of, said, said_by}
 use Rattle.zt_model.specs.Sessions.{is_session_line}
-use Rattle.zt_model.specs.Transcript.{AllKeepWhatTheyShould, Each, FacesKeepWhatTheyShould, IsFaithfulFrom}
+use Rattle.zt_model.specs.Transcript.{AllKeepWhatTheyShould, Each, FacesKeepWhatTheyShould, IsFaithfulFrom, IsStrictFrom, NamesOpenFaces, fabric_shown}
+use Rattle.zt_laws.specs.Order.{FabricIsInOrder}
+use Rattle.zt_laws.specs.Shown.{as_shown, is_from_other, node_shown}
 use Rattle.zt_laws.specs.Sound.{FabricIsSound, GatewayIsSound, HasFirstIds, is_placed}
-use Rattle.zt_laws.proofs.Entries.{is_entry}
+use Rattle.zt_laws.proofs.AllLines.{in_order_after_line}
+use Rattle.zt_laws.proofs.LinesOrder.{in_order_empty}
+use Rattle.zt_laws.proofs.Entries.{is_entry, names_open}
 use Rattle.zt_laws.proofs.Lines.{gateway_is_sound, sound_accepted, speaking}
-use Rattle.zt_laws.proofs.Lists.{by_test, each_from_each, never}
-use Rattle.zt_laws.proofs.Refusing.{refused_by_cause}
+use Rattle.zt_laws.proofs.Lists.{by_test, each_from_each, map_same, never}
+use Rattle.zt_laws.proofs.Refusing.{lacks_by_call, refused_by_cause}
 use Rattle.zt_laws.proofs.Said.{said_each, said_in_face_order}
+use Rattle.zt_laws.proofs.ShownLines.{fabric_is_shown}
 use Rattle.zt_laws.proofs.Sorting.{printed_in_order, sorted_in_order}
 
 module _ {K : Type 0} (cmp : K → K → Ordering) (matching : K → K → Bool) where
@@ -83,15 +90,60 @@ module _ {K : Type 0} (cmp : K → K → Ordering) (matching : K → K → Bool)
         cases built None accepted = sound_accepted cmp matching total equal_is_same (line_spends_ids cmp matching line s) line s built real accepted sound
         cases built (Some r) refused = subst (FabricIsSound cmp matching) (sym (refused_is_still line r s built)) sound
 
-    -- From a sound fabric on each entry is right: a refusal exactly by its line's cause, and messages in order of face
-    -- for open faces, and after it each face keeps what it should.
-    pub faithful_from : (lines : List (PlainLine K)) (s : Fabric K) → Each HasFirstIds lines → FabricIsSound cmp matching s → IsFaithfulFrom cmp matching is_session_line lines (entries_from cmp matching is_session_line lines s) s
+    -- A fabric of sessions has no own rows, so the transcript shows it whole.
+    shown_whole : (s : Fabric K) → FabricIsSound cmp matching s → as_shown s ≡ s
+    shown_whole s sound =
+        ap (λ (gs : List (Node K)). record s { gateways = gs })
+        (map_same node_shown s.gateways
+        (each_from_each (λ n (node : Node K). GatewayIsSound cmp matching s.faces n node.rows) (λ node. node_shown node ≡ node)
+        (λ n node g. ap (λ (rows : List (RoutedRow K)). record node { rows = record node.rows { routed = rows } }) (none_own node.rows.zid node.rows.routed g.rows.of_sessions.routed)) 1 s.gateways sound.gateways))
+      where
+        none_own : (zid : Zid) (rows : List (RoutedRow K)) → rows ≡ [] → filter (is_from_other zid) rows ≡ rows
+        none_own zid [] is = refl
+        none_own zid (row ∷ rows) is = cc
+
+    shown_after : (line : PlainLine K) (s : Fabric K) → HasFirstIds line → FabricIsInOrder cmp matching s → FabricIsSound cmp matching s
+        → (let entry = entry_of cmp matching is_session_line line s in fabric_shown cmp matching line entry s ≡ fabric_after cmp matching line entry s)
+    shown_after line s real fine sound =
+        let entry = entry_of cmp matching is_session_line line s in
+        ap (fabric_shown cmp matching line entry) (sym (shown_whole s sound))
+        ∙ fabric_is_shown cmp matching total is_session_line line s fine
+        ∙ shown_whole (fabric_after cmp matching line entry s) (sound_after line s real sound)
+
+    -- From a sound fabric on each entry is right: a refusal exactly by its line's cause, and messages in order of face,
+    -- and after it each face keeps what it should.
+    pub faithful_from : (lines : List (PlainLine K)) (s : Fabric K) → Each HasFirstIds lines → FabricIsInOrder cmp matching s → FabricIsSound cmp matching s → IsFaithfulFrom cmp matching is_session_line lines (entries_from cmp matching is_session_line lines s) s
     unfolding entries_from
-    faithful_from [] s real sound = tt
-    faithful_from (line ∷ lines) s real sound =
-        let after = sound_after line s real.0 sound in (
+    faithful_from [] s real fine sound = tt
+    faithful_from (line ∷ lines) s real fine sound =
+        let entry = entry_of cmp matching is_session_line line s in
+        let next = fabric_after cmp matching line entry s in
+        let after = sound_after line s real.0 sound in
+        let is = sym (shown_after line s real.0 fine sound) in (
           refused_by_cause cmp matching total equal_is_same line s sound,
           is_entry cmp matching line s sound,
-          sound_keeps (fabric_after cmp matching line (entry_of cmp matching is_session_line line s) s) after,
-          faithful_from lines (fabric_after cmp matching line (entry_of cmp matching is_session_line line s) s) real.1 after,
+          subst (AllKeepWhatTheyShould cmp matching) is (sound_keeps next after),
+          subst (IsFaithfulFrom cmp matching is_session_line lines (entries_from cmp matching is_session_line lines next)) is
+              (faithful_from lines next real.1 (in_order_after_line cmp matching total is_session_line line s real.0 fine) after),
         )
+
+    -- And each is right beside this, where that could be read in two ways.
+    pub strict_from : (lines : List (PlainLine K)) (s : Fabric K) → Each HasFirstIds lines → FabricIsInOrder cmp matching s → FabricIsSound cmp matching s → IsStrictFrom cmp matching is_session_line lines (entries_from cmp matching is_session_line lines s) s
+    unfolding entries_from
+    strict_from [] s real fine sound = tt
+    strict_from (line ∷ lines) s real fine sound =
+        let entry = entry_of cmp matching is_session_line line s in
+        let next = fabric_after cmp matching line entry s in
+        let is = sym (shown_after line s real.0 fine sound) in (
+          lacks_by_call cmp matching total equal_is_same line s sound,
+          subst (NamesOpenFaces entry) is (names_open cmp matching line s sound),
+          subst (IsStrictFrom cmp matching is_session_line lines (entries_from cmp matching is_session_line lines next)) is
+              (strict_from lines next real.1 (in_order_after_line cmp matching total is_session_line line s real.0 fine) (sound_after line s real.0 sound)),
+        )
+
+    -- Both, from the empty fabric on.
+    pub right_from_start : (lines : List (PlainLine K)) → Each HasFirstIds lines
+        → (let entries = entries_from cmp matching is_session_line lines empty_fabric in
+        IsFaithfulFrom cmp matching is_session_line lines entries empty_fabric × IsStrictFrom cmp matching is_session_line lines entries empty_fabric)
+    right_from_start lines real =
+        (faithful_from lines empty_fabric real (in_order_empty cmp matching) sound_empty, strict_from lines empty_fabric real (in_order_empty cmp matching) sound_empty)

@@ -1,5 +1,5 @@
 -- A call draws no more ids than the transcript shows that it could.
-use Rattle.std.proofs.Common.{◌≡◌, ℕ, ◌+◌, ◌≤◌, ◌<◌, Bool, true, false, cond, not, if◌then◌else◌, ◌&&◌, ◌||◌, ◌==◌, nat_lt, List, [], ◌∷◌, map, filter, length, sum_by, Option, Some, None, refl, sym, ap, ◌∙◌, subst, arith, ltb-true, lt-ltb, le-ltb}
+use Rattle.std.proofs.Common.{◌≡◌, ℕ, ◌+◌, ◌≤◌, ◌<◌, Bool, true, false, cond, not, if◌then◌else◌, ◌&&◌, ◌||◌, ◌==◌, nat_lt, List, [], ◌∷◌, ◌++◌, map, filter, flat_map, length, sum_by, Option, Some, None, refl, sym, ap, ◌∙◌, subst, arith, ltb-true, lt-ltb, le-ltb}
 use Rattle.std.proofs.Math.Bool.{or-false}
 use Rattle.std.proofs.lemmas.Bool.{and_parts, and_from, and_right, or_left, or_right, not-true}
 use Rattle.std.specs.Cmp.{IsTotalOrder}
@@ -15,20 +15,23 @@ use Rattle.zt_protocol.specs.Interest.{is_current, is_future, has_tokens}
 use Rattle.zt_protocol.specs.Plain.{PlainCall, DeclareToken, UndeclareToken, Interest}
 use Rattle.zt_protocol.specs.declared.interests.InterestMode.{InterestMode}
 use Rattle.zt_protocol.specs.declared.interests.InterestOptions.{InterestOptions}
-use Rattle.zt_model.specs.Lists.{first_where, is_among, same}
-use Rattle.zt_model.specs.Refusals.{asks_upstream, can_draw, could, could_spend_ids, faces_with, ids_for_interest, ids_for_target, ids_for_token, is_answered_anew, left_ids, need, spends_ids}
+use Rattle.zt_model.specs.Lists.{first_where, in_key_order, is_among, same}
+use Rattle.zt_model.specs.Refusals.{asks_upstream, can_draw, could, could_spend_ids, faces_with, ids_for_interest, ids_for_target, ids_for_token, is_answered_anew, left_ids, need, spends_ids, would_send}
 use Rattle.zt_model.specs.Routing.{is_target}
-use Rattle.zt_model.specs.Rows.{ById, Face, InterestRow, Rows}
-use Rattle.zt_model.specs.Says.{altered_by, answered_expressions, asked, declaring, find_face, interesting, is_routed, is_told, registered, registers, row_of, with_face}
-use Rattle.zt_model.specs.Visible.{is_visible, keeps, routed_rows, rows_of_face, shows, visible_expressions}
+use Rattle.zt_model.specs.Rows.{ById, Face, InterestRow, RoutedRow, Rows}
+use Rattle.zt_model.specs.Says.{altered, altered_by, answered_expressions, asked, declaring, find_face, interesting, is_routed, is_told, registered, registers, row_of, with_face}
+use Rattle.zt_model.specs.Shown.{rows_shown}
+use Rattle.zt_model.specs.Visible.{is_visible, keeps, live_rows, routed_rows, rows_of_face, shows, visible_expressions}
 use Rattle.zt_model.specs.Wants.{is_about, seeks}
 use Rattle.zt_model.specs.Sessions.{is_session_call}
 use Rattle.zt_model.specs.Transcript.{Each}
 use Rattle.zt_laws.specs.Sessions.{IsOfSessions, session_parts}
+use Rattle.zt_laws.specs.Shown.{is_from_other, without_own}
 use Rattle.zt_laws.proofs.Faces.{chosen_leaves}
 use Rattle.zt_laws.proofs.Hearing.{find_passes}
 use Rattle.zt_laws.proofs.Keys.{among-filter, same_itself}
 use Rattle.zt_laws.proofs.Lists.{any-map, any_none, by_test, each_always, never}
+use Rattle.zt_laws.proofs.ShownRows.{declared_shown, filter_within, interest_shown}
 use Rattle.zt_laws.proofs.SessionCalls.{session_call, session_is_no_target}
 use Rattle.zt_laws.proofs.Visible.{any_live_rows, among-visible_expressions, flat_map_map, visible_expressions_alike}
 
@@ -97,6 +100,22 @@ module _ {K : Type 0} (cmp : K → K → Ordering) (matching : K → K → Bool)
       length (filter (λ e. not (keeps cmp f e)) (visible_expressions cmp after f.region))
       + (sum_by (λ x. length x.held) after.faces + sum_by (asks_upstream cmp matching) after.faces)
 
+  -- own rows aside it is the same
+  could_aside : (h : Rows K) (f : Face K) → could_from (without_own h) f ≡ could_from h f
+  unfolding visible_expressions
+  could_aside h f =
+      ap (λ (rows : List (Region × K)).
+      length (filter (λ e. not (keeps cmp f e)) (in_key_order cmp (map (λ row. row.1) (filter (λ row. shows f.region row.0) rows))))
+      + (sum_by (λ x. length x.held) h.faces + sum_by (asks_upstream cmp matching) h.faces)) (live_of_others h)
+    where
+      live_of_others : (g : Rows K) → live_rows (without_own g) ≡ live_rows g
+      live_of_others g = ap (λ (rows : List (RoutedRow K)). flat_map rows_of_face g.faces ++ map (λ row. (row.region, row.expr)) rows) (filter_within (is_from_other g.zid) (is_from_other g.zid) (λ row other. other) g.routed)
+
+  -- What a call could draw, read off what the call changes.
+  pub could_is : (c : PlainCall K) (g : Rows K) (f : Face K) → without_own (altered cmp matching c g) ≡ without_own (rows_shown cmp (would_send cmp matching c g) c g) → could cmp matching c g f ≡ could_from (altered cmp matching c g) f
+  unfolding could
+  could_is c g f same_ = sym (could_aside (rows_shown cmp (would_send cmp matching c g) c g) f) ∙ ap (λ h. could_from h f) (sym same_) ∙ could_aside (altered cmp matching c g) f
+
   -- what a session's token needs, over the rows that its parts leave
   need_declare : (n id : ℕ) (e : K) (g : Rows K) (f : Face K) → ids_for_token cmp matching n None e g f ≤ could_from (altered_by cmp matching (elim (find_face n g) [ None ↦ [] | Some from ↦ declaring cmp matching n id e from ]) g) f
   unfolding altered_by
@@ -146,14 +165,16 @@ module _ {K : Type 0} (cmp : K → K → Ordering) (matching : K → K → Bool)
 
   -- what a session's call needs is at most what it could draw
   need_is_less : (c : PlainCall K) (g : Rows K) → is_session_call c ≡ true → IsOfSessions g → (f : Face K) → f.region ≡ Local → need cmp matching c g f ≤ could cmp matching c g f
-  unfolding need could
+  unfolding need
   need_is_less (DeclareToken n id e node None) g built sessions f local =
-      subst (λ (after : Rows K). ids_for_token cmp matching n None e g f ≤ could_from after f) (sym (session_call cmp matching (DeclareToken n id e node None) g built sessions).1) (need_declare n id e g f)
+      subst (λ k. ids_for_token cmp matching n None e g f ≤ k) (sym (could_is (DeclareToken n id e node None) g f (declared_shown cmp matching n id node e None [] g)))
+      (subst (λ (after : Rows K). ids_for_token cmp matching n None e g f ≤ could_from after f) (sym (session_call cmp matching (DeclareToken n id e node None) g built sessions).1) (need_declare n id e g f))
   need_is_less (DeclareToken n id e node (Some interest)) g built sessions f local = never (and_parts (node == 0) false built).1 refl
   need_is_less (Interest n id mode options e) g built sessions f local =
-      subst (λ (after : Rows K). ids_for_interest cmp matching n mode options e g f + ids_for_target cmp matching n mode g f ≤ could_from after f) (sym (session_call cmp matching (Interest n id mode options e) g built sessions).1)
+      subst (λ k. ids_for_interest cmp matching n mode options e g f + ids_for_target cmp matching n mode g f ≤ k) (sym (could_is (Interest n id mode options e) g f (interest_shown cmp matching n id mode options e g)))
+      (subst (λ (after : Rows K). ids_for_interest cmp matching n mode options e g f + ids_for_target cmp matching n mode g f ≤ could_from after f) (sym (session_call cmp matching (Interest n id mode options e) g built sessions).1)
       (subst (λ k. ids_for_interest cmp matching n mode options e g f + k ≤ could_from (altered_by cmp matching (session_parts cmp matching (Interest n id mode options e) g) g) f) (sym (untargeted (find_face n g)))
-      (let less = need_interest n id mode options e g f in omega arith))
+      (let less = need_interest n id mode options e g f in omega arith)))
     where
       untargeted : (o : Option (Face K)) → (let k : ℕ = elim o [ None ↦ 0 | Some from ↦ if is_target g from.region mode f then 1 else 0 ] in k) ≡ 0
       untargeted None = refl

@@ -15,6 +15,7 @@ pub mod Opening
 pub mod Acting
 pub mod Calls
 pub mod Ids
+pub mod MostIds
 pub mod Refusing
 pub mod Places
 pub mod Sorting
@@ -33,6 +34,7 @@ pub mod ToldOrder
 pub mod PartsOrder
 pub mod Silent
 pub mod CallsOrder
+pub mod ShownRows
 pub mod LinesOrder
 pub mod Ends
 pub mod Closed
@@ -43,4 +45,5 @@ pub mod AllLines
 pub mod LinesTell
 pub mod Drawing
 pub mod NextIds
+pub mod ShownLines
 pub mod LinesDraw

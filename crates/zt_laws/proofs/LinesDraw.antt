@@ -9,7 +9,7 @@ use Rattle.zt_region.specs.declared.region.WhatAmI.{WhatAmI}
 use Rattle.zt_region.specs.declared.region.Zid.{Zid}
 use Rattle.zt_protocol.specs.Plain.{PlainCall, NewSession, NewTransport, CloseFace, Expire, SetTrees, PlainLine, Gateway, Session, Face as FaceLine, Link as LinkLine, Unlink, Step, Speak, Moment, SetTreesAt}
 use Rattle.zt_protocol.specs.declared.entries.Sent.{Sent}
-use Rattle.zt_model.specs.Fabric.{CallAt, Fabric, Node, Place, after_hearing, altered_at, altered_by_line, at_nth, both_ends, call_at, call_of, call_of_step, closed_ends, closing_call, entry_by, entry_of, fabric_after, gateways_after_hearing, line_causes, line_spends_ids, new_rows, next_face, number_from, opened_at, opened_ends, opening_at, printed_for, said_at, said_by_line, said_closing, said_opening, sorted_by_face, table_at, with_gateway, with_place, with_rows, with_session}
+use Rattle.zt_model.specs.Fabric.{CallAt, Fabric, Node, Place, after_hearing, altered_at, altered_by_line, at_nth, both_ends, call_at, call_of, call_of_step, closed_ends, closing_call, entry_by, entry_of, gateways_after_hearing, line_causes, line_spends_ids, new_rows, next_face, number_from, opened_at, opened_ends, opening_at, printed_for, said_at, said_by_line, said_closing, said_opening, sorted_by_face, table_at, with_gateway, with_place, with_rows, with_session}
 use Rattle.zt_model.specs.Hearing.{heard_all, messages_for}
 use Rattle.zt_model.specs.Linking.{LinkEnd, link_ends, with_link, without_link}
 use Rattle.zt_model.specs.Lists.{nth, without_id}
@@ -19,9 +19,10 @@ use Rattle.zt_model.specs.Refusals.{first_cause}
 use Rattle.zt_model.specs.Routing.{face_opened}
 use Rattle.zt_model.specs.Rows.{Face, Rows}
 use Rattle.zt_model.specs.Says.{altered, altered_by, parts_of, said, said_by}
-use Rattle.zt_model.specs.Transcript.{Each}
+use Rattle.zt_model.specs.Transcript.{Each, fabric_shown}
 use Rattle.zt_laws.specs.Kept.{Told, told_of}
 use Rattle.zt_laws.specs.Order.{FabricIsInOrder, GatewayIsInOrder}
+use Rattle.zt_laws.specs.Shown.{as_shown, node_shown}
 use Rattle.zt_laws.specs.Sound.{CallHasFirstIds, EachFrom, HasFirstIds, is_placed, opens_face, places_of}
 use Rattle.zt_protocol.specs.declared.errors.Refusal.{Refusal}
 use Rattle.zt_laws.proofs.AllLines.{starts_real, without_message_is}
@@ -36,6 +37,7 @@ use Rattle.zt_laws.proofs.NextIds.{DrawNext, call_draws, draw_append, have_next_
 use Rattle.zt_laws.proofs.Numbered.{each_from_at, nth_real}
 use Rattle.zt_laws.proofs.PartsOrder.{each_of_map}
 use Rattle.zt_laws.proofs.Places.{not_placed_yet, number_new, number_still, placed_new, placed_still}
+use Rattle.zt_laws.proofs.ShownLines.{line_is_shown}
 use Rattle.zt_laws.proofs.Sorting.{printed, printed_sorted}
 use Rattle.zt_laws.proofs.Unlinking.{Apart, all_apart, ends_apart, printed_but_for, closing_alone, closing_case, closing_in_order, closings_commute, each_from_always, each_from_both}
 
@@ -282,12 +284,25 @@ module _ {K : Type 0} (cmp : K → K → Ordering) (matching : K → K → Bool)
       (each_from_weaker (RowsDraw cmp X.faces ms) (λ n (node : Node K). Each (λ f. HaveNextIds cmp matching (printed_for (number_from 1 n f.number X.faces) ms) f) node.rows.faces)
       (λ n node rows. each_weaker (λ f. DrawNext cmp (printed_for (number_from 1 n f.number X.faces) ms) (told_of f)) (λ f. HaveNextIds cmp matching (printed_for (number_from 1 n f.number X.faces) ms) f) (λ f own. have_next_ids cmp matching (printed_for (number_from 1 n f.number X.faces) ms) f own) node.rows.faces rows) 1 X.gateways all)
 
+  -- a fact of each face, own rows aside
+  faces_shown : (P : ℕ → Face K → Type 0) (i : ℕ) (gs : List (Node K)) → EachGateway (λ n (node : Node K). Each (P n) node.rows.faces) i gs → EachGateway (λ n (node : Node K). Each (P n) node.rows.faces) i (map node_shown gs)
+  faces_shown P i [] all = tt
+  faces_shown P i (node ∷ gs) all = (all.0, faces_shown P (i + 1) gs all.1)
+
   -- Each line of a script draws the next ids of its faces.
   pub turn_draws : (is_built : PlainLine K → Bool) (line : PlainLine K) (s : Fabric K) → HasFirstIds line → FabricIsInOrder cmp matching s
-      → (let entry = entry_of cmp matching is_built line s in DrawsNextIds cmp matching (record { line = line; entry = entry; before = s; after = fabric_after cmp matching line entry s }))
-  unfolding entry_of fabric_after printed_for
+      → (let entry = entry_of cmp matching is_built line s in DrawsNextIds cmp matching (record { line = line; entry = entry; before = as_shown s; after = fabric_shown cmp matching line entry (as_shown s) }))
+  unfolding entry_of fabric_shown printed_for
   turn_draws is_built line s real fine = cases (first_cause (line_causes cmp matching is_built (line_spends_ids cmp matching line s) line s))
     where
-      cases : (o : Option Refusal) → (let entry = entry_by cmp matching o (sorted_by_face (said_by_line cmp matching line s)) in DrawsNextIds cmp matching (record { line = line; entry = entry; before = s; after = fabric_after cmp matching line entry s }))
-      cases None = faces_have (altered_by_line cmp matching line s) (sorted_by_face (said_by_line cmp matching line s)) (line_draws line s real fine)
-      cases (Some r) = each_gateway (λ n (node : Node K). Each (λ f. Unit {0}) node.rows.faces) 1 s.gateways (each_from_always (λ n (node : Node K). Each (λ f. Unit {0}) node.rows.faces) (λ n node. each_always (λ f. Unit {0}) (λ f. tt) node.rows.faces) 1 s.gateways)
+      ms : List (Sent K)
+      ms = sorted_by_face (said_by_line cmp matching line s)
+
+      cases : (o : Option Refusal) → (let entry = entry_by cmp matching o ms in DrawsNextIds cmp matching (record { line = line; entry = entry; before = as_shown s; after = fabric_shown cmp matching line entry (as_shown s) }))
+      cases None =
+          let X = altered_by_line cmp matching line s in
+          subst (λ (t : Fabric K). EachFace (λ n g f. HaveNextIds cmp matching (printed_for (number_from 1 n f.number t.faces) ms) f) t) (sym (line_is_shown cmp matching total line s fine))
+          (faces_shown (λ n f. HaveNextIds cmp matching (printed_for (number_from 1 n f.number X.faces) ms) f) 1 X.gateways (faces_have X ms (line_draws line s real fine)))
+      cases (Some r) =
+          let t = as_shown s in
+          each_gateway (λ n (node : Node K). Each (λ f. Unit {0}) node.rows.faces) 1 t.gateways (each_from_always (λ n (node : Node K). Each (λ f. Unit {0}) node.rows.faces) (λ n node. each_always (λ f. Unit {0}) (λ f. tt) node.rows.faces) 1 t.gateways)

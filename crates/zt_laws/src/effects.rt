@@ -5,7 +5,7 @@ ghost use Rattle.std.specs.Prelude.{◌≡◌, ◌==◌, ◌+◌, ◌≤◌, ℕ
 ghost use Rattle.zt_protocol.specs.Plain.{PlainCall, DeclareToken, CloseFace, PlainLine};
 ghost use Rattle.zt_protocol.specs.declared.entries.Sent.{Sent};
 ghost use Rattle.zt_model.specs.Closing.{leaving};
-ghost use Rattle.zt_model.specs.Fabric.{Fabric, after_hearing, closed_ends, entry_of, fabric_after, opened_ends};
+ghost use Rattle.zt_model.specs.Fabric.{Fabric, after_hearing, closed_ends, entry_of, opened_ends};
 ghost use Rattle.zt_model.specs.Hearing.{messages_for};
 ghost use Rattle.zt_model.specs.Linking.{LinkEnd};
 ghost use Rattle.zt_model.specs.Lists.{at_id, same};
@@ -14,8 +14,9 @@ ghost use Rattle.zt_model.specs.Promises.{DrawsNextIds, HaveNextIds};
 ghost use Rattle.zt_model.specs.Refusals.{can_draw, need};
 ghost use Rattle.zt_model.specs.Rows.{Face, Rows};
 ghost use Rattle.zt_model.specs.Says.{Sends, altered, find_face, is_routed, said, said_by};
-ghost use Rattle.zt_model.specs.Transcript.{Each};
+ghost use Rattle.zt_model.specs.Transcript.{Each, fabric_shown};
 ghost use Rattle.zt_laws.specs.Order.{FabricIsInOrder, RowsAreInOrder};
+ghost use Rattle.zt_laws.specs.Shown.{as_shown};
 ghost use Rattle.zt_laws.specs.Sound.{CallHasFirstIds, HasFirstIds, rows_after_call};
 
 use zt_keys::Key;
@@ -53,11 +54,12 @@ pub fn calls_draw_next_ids<K: Key>()
 {}
 
 /// The promise of ids, for every line of a script and whichever lines are built: what a line's entry prints for a face
-/// draws its next ids, as `DrawsNextIds` has it of a turn.
+/// draws its next ids, as `DrawsNextIds` has it of a turn, from the fabric that a transcript shows of the machine's.
 pub fn lines_draw_next_ids<K: Key>()
     ensures { (is_built : PlainLine K → Bool) (line : PlainLine K) (s : Fabric K) → HasFirstIds line → FabricIsInOrder K.cmp K.matching s
         → (let entry = entry_of K.cmp K.matching is_built line s in
-        DrawsNextIds K.cmp K.matching (record { line = line; entry = entry; before = s; after = fabric_after K.cmp K.matching line entry s })) }
+        let before = as_shown s in
+        DrawsNextIds K.cmp K.matching (record { line = line; entry = entry; before = before; after = fabric_shown K.cmp K.matching line entry before })) }
 {}
 
 /// What the first call of a link's line says may be heard before the second call or after it: closing faces and hearing

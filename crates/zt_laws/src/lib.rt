@@ -16,7 +16,7 @@ ghost use Rattle.zt_model.specs.Refusals.{call_causes, could_spend_ids, first_ca
 ghost use Rattle.zt_model.specs.Rows.{Face, Rows};
 ghost use Rattle.zt_model.specs.Says.{altered, altered_by, answers_from, forget_to, is_routed, is_told, said, said_by, tell_to, to_each, to_face, with_face};
 ghost use Rattle.zt_model.specs.Sessions.{is_session_call, is_session_line};
-ghost use Rattle.zt_model.specs.Transcript.{Each, IsFaithfulFrom};
+ghost use Rattle.zt_model.specs.Transcript.{Each, IsFaithfulFrom, IsStrictFrom};
 ghost use Rattle.zt_model.specs.Visible.{is_visible};
 ghost use Rattle.zt_laws.specs.Effects.{forgotten, told_after_answers, told_anew};
 ghost use Rattle.zt_laws.specs.Sessions.{IsOfSessions, session_parts};
@@ -26,6 +26,7 @@ mod acts;
 mod effects;
 mod messages;
 mod order;
+mod shown;
 
 pub use acts::changes_are_heard;
 pub use effects::{
@@ -37,15 +38,19 @@ pub use messages::{
     sorting_keeps_each_faces_messages, told_is_kept,
 };
 pub use order::{calls_keep_order, lines_keep_order};
+pub use shown::transcripts_show_what_is_kept;
 use zt_keys::Key;
 
 /// The transcript theorem for scripts of sessions: to any lines, the machine's entries are faithful. Each is a
-/// refusal exactly by its line's first cause, or messages in order of face, each for an open face of its gateway. After
-/// each entry every face keeps, by its own messages alone, only visible tokens that it seeks, among them every
-/// admitted one that it covers. First ids are at least 1.
+/// refusal exactly by its line's first cause, or messages in order of face. After each entry every face keeps, by its
+/// own messages alone, only visible tokens that it seeks, among them every admitted one that it covers. And they are
+/// strict: too few ids are left only for a line's own call, and each message is for an open face of its gateway. First
+/// ids are at least 1.
 pub fn scripts_are_faithful<K: Key>()
-    ensures { (lines : List (PlainLine K)) → Each HasFirstIds lines
+    ensures faithful { (lines : List (PlainLine K)) → Each HasFirstIds lines
         → IsFaithfulFrom K.cmp K.matching is_session_line lines (entries_from K.cmp K.matching is_session_line lines empty_fabric) empty_fabric }
+    ensures strict { (lines : List (PlainLine K)) → Each HasFirstIds lines
+        → IsStrictFrom K.cmp K.matching is_session_line lines (entries_from K.cmp K.matching is_session_line lines empty_fabric) empty_fabric }
 {}
 
 /// What stays true while a script of sessions is carried out: the empty fabric is sound, and each line leaves a
