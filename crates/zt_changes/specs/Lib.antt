@@ -16,6 +16,7 @@ pub mod KeysAdded
 pub mod Picked
 pub mod RoutedKeys
 pub mod Wanted
+pub mod Pairs
 pub mod Opened
 pub mod Weights
 pub mod NextFace

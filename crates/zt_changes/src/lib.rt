@@ -19,6 +19,7 @@ mod listed;
 mod live;
 mod numbers;
 mod opened;
+mod pairs;
 mod regions;
 mod routed;
 
@@ -32,5 +33,6 @@ pub use listed::{answers_any, names_pending};
 pub use live::adds_any_token;
 pub use numbers::{asks_added, dictionary_len_after, number_after};
 pub use opened::{face_after, face_stays, next_opened};
+pub use pairs::same_added;
 pub use regions::RegionTest;
 pub use routed::routed_after;
