@@ -28,6 +28,9 @@ pub mod Regions
 pub mod RoutedActs
 pub mod LiveRows
 pub mod NumberActs
+pub mod Settings
+pub mod Entities
+pub mod Initial
 pub mod AsksMade
 pub mod AskPlaces
 pub mod PlaceNumbers
