@@ -16,6 +16,7 @@ pub mod KeysAdded
 pub mod Picked
 pub mod RoutedKeys
 pub mod Wanted
+pub mod Pairs
 pub mod Opened
 pub mod Weights
 pub mod NextFace
@@ -27,6 +28,9 @@ pub mod Regions
 pub mod RoutedActs
 pub mod LiveRows
 pub mod NumberActs
+pub mod Settings
+pub mod Entities
+pub mod Initial
 pub mod AsksMade
 pub mod AskPlaces
 pub mod PlaceNumbers

@@ -62,7 +62,7 @@ module _ {K : Type 0} (cmp : K → K → Ordering) (matching : K → K → Bool)
   given-touched (CloseFace n) s h = given-left (λ m. not (n == m)) s.rows.made (numbers_of s.rows.faces) h.given
   given-touched _ s h = h.given
 
-  orderly-acted : (act : Act K) (s : Store K) → IsOrderly s → IsOrderly (acted cmp act s)
+  pub orderly-acted : (act : Act K) (s : Store K) → IsOrderly s → IsOrderly (acted cmp act s)
   orderly-acted act s h =
       let numbers = numbers-acted cmp matching act s in
       let made = made-acted cmp matching act s in

@@ -35,7 +35,7 @@ pub fn held_stays<K>(changes: &[Change<K>], f: u32, id: u32) -> bool
 }
 
 // The interest that the change adds to those of the face.
-fn held_added<K>(change: &Change<K>, f: u32) -> Option<&HeldRow<K>>
+pub(crate) fn held_added<K>(change: &Change<K>, f: u32) -> Option<&HeldRow<K>>
     ensures { option_map (λ row. (row.id, interest_held row)) (option_copied result) ≡ put_of (held_edit f (plain_change change.now)) }
 {
     match change {

@@ -10,8 +10,10 @@
 #![tactic(auto)]
 
 mod asks;
+mod entities;
 mod faces;
 mod ids;
+mod initial;
 mod interests;
 mod keys;
 mod kinds;
@@ -19,12 +21,16 @@ mod listed;
 mod live;
 mod numbers;
 mod opened;
+mod pairs;
 mod regions;
 mod routed;
+mod settings;
 
 pub use asks::{ask_after, ask_number_after};
+pub use entities::{queryables_after, subscribers_after};
 pub use faces::{held_after, live_after, local_after, pending_after, told_after};
 pub use ids::drawn;
+pub use initial::{initial_after, initial_of};
 pub use interests::{held_stays, wants_added};
 pub use keys::{next_routed_added, next_source_added, next_told_added};
 pub use kinds::{RowKind, next_added};
@@ -32,5 +38,7 @@ pub use listed::{answers_any, names_pending};
 pub use live::adds_any_token;
 pub use numbers::{asks_added, dictionary_len_after, number_after};
 pub use opened::{face_after, face_stays, next_opened};
+pub use pairs::same_added;
 pub use regions::RegionTest;
 pub use routed::routed_after;
+pub use settings::{moment_after, tree_after};

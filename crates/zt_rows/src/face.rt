@@ -9,24 +9,24 @@ ghost use Rattle.zt_model.specs.Acts.{answered_with, ask_added, ask_dropped, ent
 ghost use Rattle.std.specs.List.{count_by, list_any};
 ghost use Rattle.zt_model.specs.Lists.{at_id, first_where, has_id, in_key_order, is_among, is_some_and, same, without_id};
 ghost use Rattle.zt_model.specs.Parts.{new_face, told_id};
-ghost use Rattle.zt_model.specs.Routing.{ended, unheld};
+ghost use Rattle.zt_model.specs.Routing.{asks_same, ended, unheld};
 ghost use Rattle.zt_model.specs.Telling.{registered, unregistered};
 ghost use Rattle.zt_model.specs.Visible.{keeps};
 ghost use Rattle.zt_model.specs.Wants.{wants};
-ghost use Rattle.zt_rows.specs.ById.{next_id};
+ghost use Rattle.zt_rows.specs.ById.{map_rows, next_id};
 ghost use Rattle.zt_ordered.specs.Next.{is_after};
 ghost use Rattle.zt_rows.specs.AskEdits.{listed_at};
 ghost use Rattle.zt_rows.specs.AskView.{keys_by_id};
 ghost use Rattle.zt_rows.specs.KeyIds.{IsBelow};
 ghost use Rattle.zt_rows.specs.Rooms.{ask_room, room_needed, room_of_ask, HasAskRoom, HasAtLeast, KeepsAskRooms, LosesNoAskRoom};
-ghost use Rattle.zt_rows.specs.Plain.{interest_held, interest_sent, plain_pending};
+ghost use Rattle.zt_rows.specs.Plain.{interest_held, interest_sent, plain_interest, plain_pending};
 ghost use Rattle.std.specs.Prelude.{IsTrue};
 ghost use Rattle.std.specs.FinMap.Entries.{is_sorted};
 
 use crate::ask::{AskRows, unlist_each};
 use crate::key_ids::KeyIds;
 use crate::needs::FaceNeeds;
-use crate::rows::{FaceRow, HeldRow, PendingRow, UpstreamRow};
+use crate::rows::{FaceRow, HeldRow, PendingRow, RemoteInterest, UpstreamRow};
 use crate::spare::SpareFace;
 use std::alloc::{AllocError, Global};
 use std::marker::Model;
@@ -217,6 +217,13 @@ impl<K: Key> FaceRows<K> {
         self.held.any(|_, row| row.interest.asks_token(expr))
     }
 
+    /// Whether the face holds an interest of the same expression and options, in whatever mode. A scan of what it holds.
+    pub fn holds(&self, interest: &RemoteInterest<K>) -> bool
+        ensures { result ≡ list_any (λ row. asks_same K.cmp K.matching (plain_interest interest.now) row.1) self.now.face.held }
+    {
+        self.held.any(|_, row| interest.asks_same(&row.interest))
+    }
+
     /// The future-mode interest that was sent to the face under the id.
     pub fn local(&self, id: u32) -> Option<&UpstreamRow<K>>
         ensures interest { option_map interest_sent (option_copied result) ≡ at_id id self.now.face.locals }
@@ -270,6 +277,20 @@ impl<K: Key> FaceRows<K> {
         ensures { IfOk result (λ v. map deref_pair v.items ≡ self.now.face.live) }
     {
         self.live.in_order(alloc)
+    }
+
+    /// The interests that the face holds, with their ids, in order. The only error is want of memory.
+    pub fn held_rows(&self, alloc: Global) -> Result<Vec<(&u32, &HeldRow<K>)>, AllocError>
+        ensures { IfOk result (λ v. map_rows interest_held (map deref_pair v.items) ≡ self.now.face.held) }
+    {
+        self.held.in_order(alloc)
+    }
+
+    /// The locals with their ids, in order. The only error is want of memory.
+    pub fn local_rows(&self, alloc: Global) -> Result<Vec<(&u32, &UpstreamRow<K>)>, AllocError>
+        ensures { IfOk result (λ v. map_rows interest_sent (map deref_pair v.items) ≡ self.now.face.locals) }
+    {
+        self.locals.in_order(alloc)
     }
 
     /// The ids of the live tokens, in order. The only error is want of memory.

@@ -1,4 +1,6 @@
 ghost use Rattle.std.specs.Prelude.{◌≡◌, IfOk};
+ghost use Rattle.std.specs.Ordering.{is_eq};
+ghost use Rattle.zt_model.specs.Routing.{asks_same, expression_order};
 ghost use Rattle.zt_model.specs.Wants.{asks_token, is_about};
 ghost use Rattle.zt_rows.specs.Plain.{plain_interest};
 
@@ -17,7 +19,25 @@ pub struct RemoteInterest<K> {
     pub mode: InterestMode,
 }
 
+// Whether both name one expression, or both none.
+fn is_same_expression<K: Key>(a: &Option<K>, b: &Option<K>) -> bool
+    ensures { result ≡ is_eq (expression_order K.cmp K.matching a.now b.now) }
+{
+    match (a, b) {
+        (None, None) => true,
+        (Some(first), Some(second)) => first == second,
+        _ => false,
+    }
+}
+
 impl<K: Key> RemoteInterest<K> {
+    /// Whether both ask for the same: one expression, or all keys, with the same options, in whatever modes.
+    pub fn asks_same(&self, other: &Self) -> bool
+        ensures { result ≡ asks_same K.cmp K.matching (plain_interest self.now) (plain_interest other.now) }
+    {
+        is_same_expression(&self.expr, &other.expr) && self.options == other.options
+    }
+
     /// Whether the interest is about the key: it is, if it has no expression or one that matches.
     pub fn matches(&self, key: &K) -> bool
         ensures { result ≡ is_about K.matching self.now.expr key.now }

@@ -1,0 +1,12 @@
+use Rattle.std.proofs.Common.{◌≡◌, length, map}
+use Rattle.zt_rows.specs.Change.{plain_change}
+use Rattle.zt_changes.specs.Folds.{folded}
+use Rattle.zt_changes.specs.Settings.{moment_step}
+use Rattle.zt_changes.proofs.settings.moment_after.Given as goal
+
+abbrev pub invariant-loop-change : goal.invariant-loop-change
+invariant-loop-change g l =
+    folded moment_step (map plain_change l.changes) l.fn.moment ≡ folded moment_step (map plain_change l.rest) l.moment
+
+abbrev pub decreases-loop-change : goal.decreases-loop-change
+decreases-loop-change g l = length l.rest
