@@ -39,3 +39,4 @@ pub mod AskPendings
 pub mod AskServed
 pub mod Scans
 pub mod IdsBelow
+pub mod NextIds

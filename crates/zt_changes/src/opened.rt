@@ -32,7 +32,7 @@ fn face_changed<'a, K>(
     }
 }
 
-fn left_changed<K>(change: &Change<K>, left: u32) -> u32
+pub(crate) fn left_changed<K>(change: &Change<K>, left: u32) -> u32
     ensures { result ≡ left_step (plain_change change.now) left }
 {
     match change {
