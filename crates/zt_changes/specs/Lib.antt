@@ -43,3 +43,4 @@ pub mod AskPendings
 pub mod AskServed
 pub mod Scans
 pub mod IdsBelow
+pub mod NextIds

@@ -73,14 +73,14 @@ module _ {K : Type 0} where
   facts-kept f (Changes at change) kept o = facts-changed (is_some_and at (λ n. n == f)) change (kept 0) o
   facts-kept f (ChangesAll n change all) kept o = facts-mapped all (λ x. (kept 0 x).1) (if n == f then option_map change o else o) ∙ facts-changed (n == f) change (λ x. (kept 0 x).0) o
 
-same-left : (f made : ℕ) → (f == made + 1) ≡ ((f - made) == 1)
+pub same-left : (f made : ℕ) → (f == made + 1) ≡ ((f - made) == 1)
 same-left f made = grind (arith, nat_tests)
 
 less-left : (f made : ℕ) → f - (made + 1) ≡ f - made - 1
 less-left f made = omega arith
 
 module _ {K : Type 0} (cmp : K → K → Ordering) (matching : K → K → Bool) where
-  left-acted : (f : ℕ) (act : Act K) (made : ℕ) → f - made_by cmp matching act made ≡ left_step act (f - made)
+  pub left-acted : (f : ℕ) (act : Act K) (made : ℕ) → f - made_by cmp matching act made ≡ left_step act (f - made)
   left-acted f (OpenFace zid whatami region bound first) made = less-left f made
   left-acted f _ made = refl
 
