@@ -15,3 +15,4 @@ pub mod LiveEdits
 mod HeldEdits
 pub mod Counting
 mod CountGroups
+mod Appending

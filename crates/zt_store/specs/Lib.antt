@@ -21,3 +21,5 @@ pub mod Few
 pub mod Fitting
 pub mod Gathered
 pub mod HoldersAfter
+pub mod Pairs
+pub mod Sent

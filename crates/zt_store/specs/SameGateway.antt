@@ -85,4 +85,3 @@ module _ {K : Type 0} (cmp : K → K → Ordering) where
   acted_all-same [] s = same-itself s.rows
   acted_all-same (act ∷ acts) s =
       let next = acted cmp act s in same-then s.rows next.rows (acted_all cmp acts next).rows (acted-same act s) (acted_all-same acts next)
-

@@ -10,12 +10,17 @@
 //! memory), `Room` (what a change takes of the room), `HasRoom` and `Reserved` (room for a plan).
 #![tactic(auto)]
 
+mod add_fit;
+mod append;
 mod apply;
 mod asks;
 mod edits;
 mod facts;
 mod holders;
+mod is_in;
+mod next_id;
 mod nexts;
+mod pairs;
 mod plan;
 mod planned;
 mod planned_asks;
@@ -28,6 +33,7 @@ mod queries;
 mod release;
 mod reserve;
 mod reserve_few;
+mod sent;
 mod tables;
 mod tokens;
 mod tokens_of;

@@ -15,10 +15,10 @@ use zt_rows::Change;
 /// Changes that are collected before any is made. Contracts see them as the model's acts, the first first.
 #[derive(Drop)]
 pub struct Plan<K: Key> {
-    changes: Vec<Change<K>>,
+    pub(crate) changes: Vec<Change<K>>,
     // The expressions of the tokens and interests that are added, each a second time: the tables count live rows by
     // their expressions, and keep an index of interests.
-    tokens: Vec<K>,
+    pub(crate) tokens: Vec<K>,
 }
 
 impl<K: Key> Model for Plan<K> {
