@@ -8,3 +8,5 @@ pub mod HatApart
 pub mod HatPhases
 pub mod HatInterestSends
 pub mod HatSaid
+pub mod FacesFit
+pub mod TokensFit

@@ -2,9 +2,12 @@
 //!
 //! The acts that tell, forget, route, end and open send what the model says (`specs/HatTokenSends`, `HatInterestSends`,
 //! `HatPhases`), draw as many ids as their messages (`HatDraws`), and no region's strategy disturbs another's (`HatAlike`,
-//! `HatApart`). `HatPlans` says that the changes of a call are added and fit, and that a strategy runs as long as its gateway.
+//! `HatApart`). `HatPlans` says that the changes of a call are added and fit, and that a strategy runs as long as its gateway,
+//! `FacesFit` and `TokensFit` that what is planned for one face after another fits.
 #![tactic(auto)]
 
+mod fitting;
 mod laws;
 
+pub use fitting::acts_of_faces_fit;
 pub use laws::regions_tell_together;
