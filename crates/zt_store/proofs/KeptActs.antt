@@ -3,7 +3,7 @@
 --     kept-added, kept-dropped, kept-closed     after a token more, a token less, and a face without tokens less
 --     kept-routed, kept-unrouted                after a row of another router more, and one less
 --     kept-own, kept-unowned                    after a row more that the gateway itself shows, and one less
-use Rattle.std.specs.Prelude.{◌≡◌, ℕ, ◌+◌, ◌-◌, Bool, true, false, ◌==◌, ◌&&◌, not, if◌then◌else◌, List, [], Option, Some, None, option_map, refl, unwrap_or}
+use Rattle.std.specs.Prelude.{◌≡◌, ℕ, ◌+◌, ◌-◌, Bool, true, false, ◌==◌, ◌&&◌, not, if◌then◌else◌, List, [], Option, Some, None, refl, ◌∷◌}
 use Rattle.std.specs.Cmp.{IsTotalOrder}
 use Rattle.std.specs.FinMap.Entries.{is_sorted}
 use Rattle.std.specs.Ordering.{nat_cmp}
@@ -14,7 +14,7 @@ use Rattle.zt_region.specs.declared.region.Region.{Region}
 use Rattle.zt_region.specs.declared.region.Zid.{Zid}
 use Rattle.zt_grouped.specs.Counted.{CountsOneMore}
 use Rattle.zt_ordered.specs.Test.{and_first, by_test}
-use Rattle.zt_model.specs.Acts.{Act, AddLive, AddPending, AddRouted, CloseFace, DropLive, DropRouted, Fits, OpenFace, Store, acted, fits}
+use Rattle.zt_model.specs.Acts.{Act, AddLive, AddRouted, CloseFace, DropLive, DropRouted, Fits, Store, acted, acted_all}
 use Rattle.zt_model.specs.Lists.{at_id, is_some_and, same}
 use Rattle.zt_model.specs.Parts.{find_face}
 use Rattle.zt_model.specs.Rows.{Face}
@@ -24,55 +24,16 @@ use Rattle.zt_rows.specs.Rising.{AreRising}
 use Rattle.zt_changes.specs.AskActs.{numbered-acted}
 use Rattle.zt_changes.specs.LiveCounts.{is_silent}
 use Rattle.zt_changes.specs.LiveRows.{count-next, live-silent}
-use Rattle.zt_changes.specs.Orderly.{IsOrderly}
+use Rattle.zt_changes.specs.Orderly.{IsOrderly, orderly-after}
 use Rattle.zt_changes.specs.Queries.{list_of_face}
-use Rattle.zt_changes.specs.Touches.{Changes, ChangesAll, Closes, Opens, Touch, face-acted, touch, touched}
-use Rattle.zt_store.specs.SameGateway.{acted-same}
-use Rattle.zt_store.specs.Kept.{IsKept, IsListed}
+use Rattle.zt_store.specs.Kept.{IsKept}
+use Rattle.zt_store.proofs.FactActs.{facts-acted}
 use Rattle.zt_store.specs.RegionOrder.{region_cmp, region_cmp-eq}
 
--- ---- the regions of faces
-module _ {K : Type 0} (regions : List Region) where
-  abbrev Listed : Face K → Type 0
-  Listed x = is_region_of regions x.region ≡ true
-
-  abbrev KeepsListed : Touch K → Type 0
-  KeepsListed (Opens new) = Listed new
-  KeepsListed (Closes n) = Unit {0}
-  KeepsListed (Changes at change) = (x : Face K) → (change x).region ≡ x.region
-  KeepsListed (ChangesAll n change all) = ((x : Face K) → (change x).region ≡ x.region) × ((x : Face K) → (all x).region ≡ x.region)
-
-  some-same : (x y : Face K) → Some x ≡ Some y → x ≡ y
-  some-same x y h = ap (λ o. unwrap_or o x) h
-
-  changed-listed : (b : Bool) (change : Face K → Face K) (o : Option (Face K)) → ((x : Face K) → (change x).region ≡ x.region) → ((x : Face K) → o ≡ Some x → Listed x)
-      → (y : Face K) → (if b then option_map change o else o) ≡ Some y → Listed y
-  changed-listed true change None kept were y is = cc
-  changed-listed true change (Some x) kept were y is = subst (λ (z : Face K). Listed z) (some-same (change x) y is) (subst (λ (r : Region). is_region_of regions r ≡ true) (sym (kept x)) (were x refl))
-  changed-listed false change o kept were y is = were y is
-
-  touched-listed : (n : ℕ) (t : Touch K) → KeepsListed t → (o : Option (Face K)) → ((x : Face K) → o ≡ Some x → Listed x) → (y : Face K) → touched n t o ≡ Some y → Listed y
-  touched-listed n (Opens new) kept None were y is = by_test (n == new.number) (λ t. subst (λ (z : Face K). Listed z) (some-same new y (rw t at is)) kept) (λ t. cc (rw t at is))
-  touched-listed n (Opens new) kept (Some x) were y is = were y is
-  touched-listed n (Closes m) kept o were y is = by_test (m == n) (λ t. cc (rw t at is)) (λ t. were y (rw t at is))
-  touched-listed n (Changes at change) kept o were y is = changed-listed (is_some_and at (λ m. m == n)) change o kept were y is
-  touched-listed n (ChangesAll m change all) kept o were y is =
-      changed-listed true all (if m == n then option_map change o else o) kept.1 (changed-listed (m == n) change o kept.0 were) y is
-
 module _ {K : Type 0} (cmp : K → K → Ordering) (matching : K → K → Bool) where
-  touch-listed : (act : Act K) (s : Store K) → Fits cmp act s → KeepsListed s.rows.regions (touch cmp matching act s)
-  unfolding fits
-  touch-listed (OpenFace zid whatami region bound first) s fit = and_first _ _ fit
-  touch-listed (CloseFace n) s fit = tt
-  touch-listed (AddPending n id ask pending) s fit = (λ x. refl, λ x. refl)
-  touch-listed act s fit = λ x. refl
-
-  listed-acted : (act : Act K) (s : Store K) → Fits cmp act s → IsListed s → IsListed (acted cmp act s)
-  listed-acted act s fit listed = record {
-    at = λ n y is.
-        let there = touched-listed s.rows.regions n (touch cmp matching act s) (touch-listed act s fit) (find_face n s.rows) (listed.at n) y (sym (face-acted cmp matching n act s) ∙ is) in
-        subst (λ (rs : List Region). is_region_of rs y.region ≡ true) (sym (acted-same cmp act s).regions) there;
-  }
+  orderly-next : (act : Act K) (s : Store K) → IsOrderly s → IsOrderly (acted cmp act s)
+  unfolding acted_all
+  orderly-next act s orderly = orderly-after cmp matching (act ∷ []) s orderly
 
   -- ---- the counts of live rows
   abbrev Counts : Type 0
@@ -81,7 +42,8 @@ module _ {K : Type 0} (cmp : K → K → Ordering) (matching : K → K → Bool)
   pub kept-silent : (act : Act K) (s : Store K) (counts : Counts) → IsKept cmp s counts → Fits cmp act s → ((e : K) (test : Region → Bool) → is_silent cmp e test matching act ≡ true) → IsKept cmp (acted cmp act s) counts
   kept-silent act s counts kept fit silent = record {
     numbered = numbered-acted cmp matching act s kept.numbered fit;
-    listed = listed-acted act s fit kept.listed;
+    orderly = orderly-next act s kept.orderly;
+    facts = facts-acted cmp matching act s kept.numbered fit kept.facts;
     tokens = record { at = λ region e. kept.tokens.at region e ∙ sym (live-silent cmp e (λ r. region_eq r region) matching act s (silent e (λ r. region_eq r region))) };
   }
 
@@ -102,7 +64,8 @@ module _ {K : Type 0} (cmp : K → K → Ordering) (matching : K → K → Bool)
       pub kept-added : Fits cmp (AddLive f id e) s → CountsOneMore region_cmp cmp x.region e old new → IsKept cmp (acted cmp (AddLive f id e) s) new
       kept-added fit more = record {
         numbered = numbered-acted cmp matching (AddLive f id e) s kept.numbered fit;
-        listed = listed-acted (AddLive f id e) s fit kept.listed;
+        orderly = orderly-next (AddLive f id e) s kept.orderly;
+        facts = facts-acted cmp matching (AddLive f id e) s kept.numbered fit kept.facts;
         tokens = record {
           at = λ region k.
               let next = rw there at (count-next cmp k (λ r. region_eq r region) matching o (AddLive f id e) s fit orderly tt) in
@@ -114,7 +77,8 @@ module _ {K : Type 0} (cmp : K → K → Ordering) (matching : K → K → Bool)
       pub kept-dropped : Fits cmp (DropLive f id) s → is_sorted nat_cmp x.live ≡ true → at_id id x.live ≡ Some e → CountsOneMore region_cmp cmp x.region e new old → IsKept cmp (acted cmp (DropLive f id) s) new
       kept-dropped fit in_order found less = record {
         numbered = numbered-acted cmp matching (DropLive f id) s kept.numbered fit;
-        listed = listed-acted (DropLive f id) s fit kept.listed;
+        orderly = orderly-next (DropLive f id) s kept.orderly;
+        facts = facts-acted cmp matching (DropLive f id) s kept.numbered fit kept.facts;
         tokens = record {
           at = λ region k.
               let sorted : is_sorted nat_cmp (list_of_face (λ y. y.live) (find_face f s.rows)) ≡ true = rw there in_order in
@@ -142,7 +106,8 @@ module _ {K : Type 0} (cmp : K → K → Ordering) (matching : K → K → Bool)
       pub kept-routed : Fits cmp (AddRouted r z e) s → zid_eq z s.rows.zid ≡ false → CountsOneMore region_cmp cmp r e old new → IsKept cmp (acted cmp (AddRouted r z e) s) new
       kept-routed fit other more = record {
         numbered = numbered-acted cmp matching (AddRouted r z e) s kept.numbered fit;
-        listed = listed-acted (AddRouted r z e) s fit kept.listed;
+        orderly = orderly-next (AddRouted r z e) s kept.orderly;
+        facts = facts-acted cmp matching (AddRouted r z e) s kept.numbered fit kept.facts;
         tokens = record {
           at = λ region k.
               let next = count-next cmp k (λ q. region_eq q region) matching o (AddRouted r z e) s fit orderly tt in
@@ -154,7 +119,8 @@ module _ {K : Type 0} (cmp : K → K → Ordering) (matching : K → K → Bool)
       pub kept-unrouted : Fits cmp (DropRouted r z e) s → AreRising (routed_order cmp) s.rows.routed → zid_eq z s.rows.zid ≡ false → CountsOneMore region_cmp cmp r e new old → IsKept cmp (acted cmp (DropRouted r z e) s) new
       kept-unrouted fit rising other less = record {
         numbered = numbered-acted cmp matching (DropRouted r z e) s kept.numbered fit;
-        listed = listed-acted (DropRouted r z e) s fit kept.listed;
+        orderly = orderly-next (DropRouted r z e) s kept.orderly;
+        facts = facts-acted cmp matching (DropRouted r z e) s kept.numbered fit kept.facts;
         tokens = record {
           at = λ region k.
               let next = count-next cmp k (λ q. region_eq q region) matching o (DropRouted r z e) s fit orderly rising in
@@ -175,7 +141,8 @@ module _ {K : Type 0} (cmp : K → K → Ordering) (matching : K → K → Bool)
     pub kept-own : Fits cmp (AddRouted r z e) s → IsKept cmp (acted cmp (AddRouted r z e) s) counts
     kept-own fit = record {
       numbered = numbered-acted cmp matching (AddRouted r z e) s kept.numbered fit;
-      listed = listed-acted (AddRouted r z e) s fit kept.listed;
+      orderly = orderly-next (AddRouted r z e) s kept.orderly;
+      facts = facts-acted cmp matching (AddRouted r z e) s kept.numbered fit kept.facts;
       tokens = record {
         at = λ region k.
             let next = count-next cmp k (λ q. region_eq q region) matching o (AddRouted r z e) s fit orderly tt in
@@ -186,7 +153,8 @@ module _ {K : Type 0} (cmp : K → K → Ordering) (matching : K → K → Bool)
     pub kept-unowned : Fits cmp (DropRouted r z e) s → AreRising (routed_order cmp) s.rows.routed → IsKept cmp (acted cmp (DropRouted r z e) s) counts
     kept-unowned fit rising = record {
       numbered = numbered-acted cmp matching (DropRouted r z e) s kept.numbered fit;
-      listed = listed-acted (DropRouted r z e) s fit kept.listed;
+      orderly = orderly-next (DropRouted r z e) s kept.orderly;
+      facts = facts-acted cmp matching (DropRouted r z e) s kept.numbered fit kept.facts;
       tokens = record {
         at = λ region k.
             let next = count-next cmp k (λ q. region_eq q region) matching o (DropRouted r z e) s fit orderly rising in
@@ -201,7 +169,8 @@ module _ {K : Type 0} (cmp : K → K → Ordering) (matching : K → K → Bool)
   pub kept-closed : IsTotalOrder cmp → (f : ℕ) (s : Store K) (counts : Counts) → IsKept cmp s counts → IsOrderly s → Fits cmp (CloseFace f) s → list_of_face (λ y. y.live) (find_face f s.rows) ≡ [] → IsKept cmp (acted cmp (CloseFace f) s) counts
   kept-closed o f s counts kept orderly fit none = record {
     numbered = numbered-acted cmp matching (CloseFace f) s kept.numbered fit;
-    listed = listed-acted (CloseFace f) s fit kept.listed;
+    orderly = orderly-next (CloseFace f) s kept.orderly;
+    facts = facts-acted cmp matching (CloseFace f) s kept.numbered fit kept.facts;
     tokens = record {
       at = λ region k.
           let next = rw none at (count-next cmp k (λ r. region_eq r region) matching o (CloseFace f) s fit orderly tt) in

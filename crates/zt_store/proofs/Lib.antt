@@ -10,6 +10,7 @@ mod TokenRooms
 pub mod Reserving
 pub mod FewRoom
 mod Released
+pub mod FactActs
 pub mod KeptActs
 pub mod LiveEdits
 mod HeldEdits

@@ -9,6 +9,7 @@ pub mod Routed
 pub mod Live
 pub mod Serving
 pub mod RegionOrder
+pub mod Facts
 pub mod Kept
 pub mod View
 pub mod RoutedOrder

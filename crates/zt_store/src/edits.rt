@@ -11,7 +11,6 @@ ghost use Rattle.zt_faces.specs.Sent.{one_answer, one_pending};
 ghost use Rattle.zt_needs.specs.Need.{group_order};
 ghost use Rattle.zt_model.specs.Parts.{find_face};
 ghost use Rattle.zt_model.specs.Strategy.{is_region_of};
-ghost use Rattle.zt_changes.specs.Orderly.{IsOrderly};
 ghost use Rattle.zt_changes.specs.Queries.{list_of_face};
 ghost use Rattle.zt_holders.specs.Buckets.{bucket_of};
 ghost use Rattle.zt_holders.specs.Indexed.{bucket_held, held_under};
@@ -29,13 +28,6 @@ use zt_region::{Region, Zid};
 use zt_rows::{AskRows, FaceRow, FaceRows, HeldRow, PendingRow, UpstreamRow};
 
 impl<K: Key> Tables<K> {
-    // A fact alone: the faces stand in order.
-    fn orderly(&self)
-        ensures { IsOrderly self.now.store }
-    {
-        self.faces.rising();
-    }
-
     // The face declared the expression under the id. The token is the expression a second time.
     pub(crate) fn add_live(&mut self, f: u32, id: u32, expr: K, token: K)
         requires fits { Fits K.cmp (AddLive f id expr) self.old.store }
@@ -45,7 +37,6 @@ impl<K: Key> Tables<K> {
         ensures store { self.new.store ≡ acted K.cmp (AddLive f id expr) self.old.store }
         ensures rooms { KeepsTablesFor 1 None (of_faces (one_row f LiveRows)) self.old.rooms self.new.rooms }
     {
-        self.orderly();
         match self.faces.get(f) {
             Some(face) => {
                 self.tokens.add(&face.row().region, token);
@@ -61,7 +52,6 @@ impl<K: Key> Tables<K> {
         ensures store { self.new.store ≡ acted K.cmp (DropLive f id) self.old.store }
         ensures rooms { KeepsTables (of_faces nothing) self.old.rooms self.new.rooms }
     {
-        self.orderly();
         match self.faces.get(f) {
             Some(face) => {
                 face.in_order();
@@ -236,7 +226,6 @@ impl<K: Key> Tables<K> {
         ensures store { self.new.store ≡ acted K.cmp (AddRouted region source expr) self.old.store }
         ensures rooms { KeepsTablesFor 1 None (one_routed (region, source)) self.old.rooms self.new.rooms }
     {
-        self.orderly();
         if source == self.zid() {
             self.routed.add(&(region, source), expr);
         } else {
@@ -251,7 +240,6 @@ impl<K: Key> Tables<K> {
         ensures store { self.new.store ≡ acted K.cmp (DropRouted region source expr.now) self.old.store }
         ensures rooms { KeepsTables (of_faces nothing) self.old.rooms self.new.rooms }
     {
-        self.orderly();
         self.routed_rise();
         if source != self.zid() {
             self.tokens.remove(&region, expr);
@@ -321,7 +309,6 @@ impl<K: Key> Tables<K> {
         ensures rooms { KeepsOthers f self.new.store.numbers self.old.rooms self.new.rooms }
         ensures given { f ≤ self.old.store.rows.made }
     {
-        self.orderly();
         self.faces.open_given();
         self.faces.close(f);
         self.outboxes.forget(f);

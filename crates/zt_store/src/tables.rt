@@ -14,6 +14,7 @@ ghost use Rattle.zt_protocol.specs.Plain.{trees_of};
 ghost use Rattle.std.specs.List.{AllByRecursion};
 ghost use Rattle.zt_changes.specs.RegionTests.{passes};
 ghost use Rattle.zt_changes.specs.LiveRows.{live_count};
+ghost use Rattle.zt_store.specs.Facts.{AreFacts, IsGiven, IsRegionOf};
 ghost use Rattle.zt_changes.specs.Queries.{next_face_after, next_number_after, numbered, table_set};
 
 use std::alloc::Global;
@@ -123,14 +124,17 @@ impl<K: Key> Tables<K> {
         self.faces.get(f)
     }
 
-    /// The open face of the number.
+    /// The open face of the number. It is of a region of the gateway, and numbers count from 1.
     pub fn face(&self, f: u32) -> Option<&FaceRow>
         ensures region { option_map (λ row. row.region) (option_copied result) ≡ option_map (λ x. x.region) (find_face f self.now.store.rows) }
         ensures bound { option_map (λ row. row.remote_bound) (option_copied result) ≡ option_map (λ x. x.bound) (find_face f self.now.store.rows) }
         ensures mode { option_map (λ row. row.whatami) (option_copied result) ≡ option_map (λ x. x.mode) (find_face f self.now.store.rows) }
         ensures zid { option_map (λ row. row.zid) (option_copied result) ≡ option_map (λ x. x.zid) (find_face f self.now.store.rows) }
+        ensures facts { AreFacts self.now.store }
+        ensures given { IfSome (find_face f self.now.store.rows) (λ x. IsGiven f self.now.store.rows.made) }
+        ensures listed { IfSome (find_face f self.now.store.rows) (λ x. IsRegionOf self.now.store.rows x.region) }
     {
-        match self.rows_of(f) {
+        match self.faces.get(f) {
             Some(face) => Some(face.row()),
             None => None,
         }
@@ -157,9 +161,12 @@ impl<K: Key> Tables<K> {
         self.mode
     }
 
-    /// The south regions that the gateway was given.
+    /// The south regions that the gateway was given. Each face and each row of a router region is of a region of the
+    /// gateway, what asks list was drawn and is listed by one ask, and asks are numbered.
     pub fn regions(&self) -> &[Region]
-        ensures { result.now ≡ self.now.store.rows.regions }
+        ensures regions { result.now ≡ self.now.store.rows.regions }
+        ensures facts { AreFacts self.now.store }
+        ensures asks { AreAsksNumbered self.now.store }
     {
         &self.regions
     }

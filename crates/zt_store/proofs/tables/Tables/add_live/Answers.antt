@@ -4,7 +4,6 @@ use Rattle.zt_grouped.specs.GroupRoom.{room_of}
 use Rattle.zt_model.specs.Acts.{AddLive, Fits, acted, fits}
 use Rattle.zt_model.specs.Parts.{with_face}
 use Rattle.zt_model.specs.Strategy.{is_region_of}
-use Rattle.zt_changes.specs.Orderly.{IsOrderly}
 use Rattle.zt_grouped.specs.Counted.{CountsOneMore}
 use Rattle.zt_store.specs.RegionOrder.{region_cmp}
 use Rattle.zt_holders.specs.Indexed.{indexed-still}
@@ -18,7 +17,7 @@ pub add-requires : goal.add-requires
 add-requires g c =
     let x = c.in-Some.face.now.face in
     let there = rw c.in-Some.is at c.get.ensures in
-    let listed = c.self.invariant.kept.listed.at c.args.f x (sym there) in
+    let listed = c.self.invariant.kept.facts.listed.at c.args.f x (sym there) in
     let room = subst (λ t. (region : Region) → is_region_of t.store.rows.regions region ≡ true → 0 < room_of region_cmp region t.rooms.tokens) (sym c.self.view_is) c.requires.token_room in
     subst (λ (r : Region). 0 < room_of region_cmp r c.self.inside.tokens.rooms) (sym c.row.ensures.region) (room x.region listed)
 
@@ -35,7 +34,7 @@ invariant_of-self g c =
     let x = c.in-Some.face.now.face in
     let there = rw c.in-Some.is at c.get.ensures in
     let fit = subst (λ t. Fits g.K.Ord.cmp (AddLive c.args.f c.args.id c.args.expr) t.store) (sym c.self.view_is) c.requires.fits in
-    let orderly = subst (λ t. IsOrderly t.store) (sym c.self.view_is) c.orderly.ensures in
+    let orderly = c.self.invariant.kept.orderly in
     let more = subst (λ (r : Region). CountsOneMore region_cmp g.K.Ord.cmp r c.args.token c.self.inside.tokens.counts c.add.new.self.counts) c.row.ensures.region c.add.ensures.counts in
     let of_expr = subst (λ e. CountsOneMore region_cmp g.K.Ord.cmp x.region e c.self.inside.tokens.counts c.add.new.self.counts) c.requires.token more in
     let kept = kept-added g.K.Ord.cmp g.K.Key.matching g.met.K.Ord.total (table_rows c.self.inside).store c.self.inside.tokens.counts c.add.new.self.counts c.self.invariant.kept orderly c.args.f c.args.id c.args.expr x (sym there) fit of_expr in

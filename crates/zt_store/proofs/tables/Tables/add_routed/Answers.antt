@@ -7,7 +7,6 @@ use Rattle.zt_model.specs.Acts.{AddRouted, Fits, acted, fits}
 use Rattle.zt_model.specs.Strategy.{is_region_of}
 use Rattle.zt_model.specs.Trees.{with_routed}
 use Rattle.zt_ordered.specs.Test.{and_first}
-use Rattle.zt_changes.specs.Orderly.{IsOrderly}
 use Rattle.zt_needs.specs.Need.{group_order}
 use Rattle.zt_store.specs.RegionOrder.{region_cmp}
 use Rattle.zt_store.specs.Room.{faces-same}
@@ -39,7 +38,7 @@ invariant_of-self g c =
     let s = (table_rows c.self.inside).store in
     let act = AddRouted c.args.region c.args.source c.args.expr in
     let fit = subst (λ t. Fits cmp act t.store) (sym c.self.view_is) c.requires.fits in
-    let orderly = subst (λ t. IsOrderly t.store) (sym c.self.view_is) c.orderly.ensures in
+    let orderly = c.self.invariant.kept.orderly in
     let is_own = ap (λ z. zid_eq c.args.source z) (ap (λ t. t.store.rows.zid) c.self.view_is ∙ sym c.zid.ensures) ∙ sym c.eq.ensures ∙ c.if-eq.true in
     let kept = kept-own cmp matching g.met.K.Ord.total s c.self.inside.tokens.counts c.self.invariant.kept orderly c.args.region c.args.source c.args.expr is_own fit in
     let serves = served-same cmp matching act s c.self.invariant.kept.numbered fit c.self.inside.faces.served c.self.invariant.served (λ p o. refl) in
@@ -54,7 +53,7 @@ invariant_of-self-else-eq g c =
     let s = (table_rows c.self.inside).store in
     let act = AddRouted c.args.region c.args.source c.args.expr in
     let fit = subst (λ t. Fits cmp act t.store) (sym c.self.view_is) c.requires.fits in
-    let orderly = subst (λ t. IsOrderly t.store) (sym c.self.view_is) c.orderly.ensures in
+    let orderly = c.self.invariant.kept.orderly in
     let is_own = ap (λ z. zid_eq c.args.source z) (ap (λ t. t.store.rows.zid) c.self.view_is ∙ sym c.zid.ensures) ∙ sym c.eq.ensures ∙ c.if-eq.false in
     let more = subst (λ e. CountsOneMore region_cmp cmp c.args.region e c.self.inside.tokens.counts c.add-else-eq.new.self.counts) c.requires.token c.add-else-eq.ensures.counts in
     let kept = kept-routed cmp matching g.met.K.Ord.total s c.self.inside.tokens.counts c.add-else-eq.new.self.counts c.self.invariant.kept orderly c.args.region c.args.source c.args.expr fit is_own more in

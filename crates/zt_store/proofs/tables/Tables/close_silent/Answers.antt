@@ -2,7 +2,6 @@ use Rattle.std.proofs.Common.{◌≡◌, [], arith, refl, subst, sym}
 use Rattle.std.specs.Ordering.{is_eq, nat_cmp}
 use Rattle.zt_model.specs.Acts.{CloseFace, Fits, acted, fits}
 use Rattle.zt_model.specs.Parts.{find_face}
-use Rattle.zt_changes.specs.Orderly.{IsOrderly}
 use Rattle.zt_changes.specs.Queries.{list_of_face}
 use Rattle.zt_store.specs.Room.{others-kept}
 use Rattle.zt_holders.specs.Indexed.{indexed-closed}
@@ -18,7 +17,7 @@ unfolding acted
 invariant_of-self g c =
     let fit = subst (λ t. Fits g.K.Ord.cmp (CloseFace c.args.f) t.store) (sym c.self.view_is) c.requires.fits in
     let silent = subst (λ t. list_of_face (λ x. x.live) (find_face c.args.f t.store.rows) ≡ []) (sym c.self.view_is) c.requires.silent in
-    let orderly = subst (λ t. IsOrderly t.store) (sym c.self.view_is) c.orderly.ensures in
+    let orderly = c.self.invariant.kept.orderly in
     let kept = kept-closed g.K.Ord.cmp g.K.Key.matching g.met.K.Ord.total c.args.f (table_rows c.self.inside).store c.self.inside.tokens.counts c.self.invariant.kept orderly fit silent in
     let none_held = subst (λ t. list_of_face (λ x. x.held) (find_face c.args.f t.store.rows) ≡ []) (sym c.self.view_is) c.requires.none_held in
     let holds = indexed-closed g.K.Ord.cmp g.K.Key.matching g.K.Key.anchored c.args.f (table_rows c.self.inside).store c.self.inside.holders.rows none_held c.self.invariant.indexed in
@@ -28,7 +27,8 @@ invariant_of-self g c =
       dictionary = c.self.invariant.dictionary;
       kept = rw c.close.ensures.faces (record {
         numbered = record { in_order = kept.numbered.in_order; below = kept.numbered.below; stand = kept.numbered.stand; apart = kept.numbered.apart; every = kept.numbered.every };
-        listed = record { at = kept.listed.at };
+        orderly = record { rising = kept.orderly.rising; given = kept.orderly.given };
+        facts = record { given = kept.facts.given; listed = record { at = kept.facts.listed.at }; routed = kept.facts.routed; drawn = λ n f id h. let was = kept.facts.drawn n f id h in record { opened = was.opened; below = was.below }; once = kept.facts.once };
         tokens = record { at = kept.tokens.at };
       });
       indexed = rw c.close.ensures.faces holds;

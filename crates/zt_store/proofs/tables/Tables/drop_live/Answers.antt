@@ -5,7 +5,6 @@ use Rattle.zt_grouped.specs.Counted.{CountsOneMore, counted}
 use Rattle.zt_model.specs.Acts.{DropLive, Fits, acted, fits}
 use Rattle.zt_model.specs.Parts.{with_face}
 use Rattle.zt_changes.specs.LiveRows.{live-parts}
-use Rattle.zt_changes.specs.Orderly.{IsOrderly}
 use Rattle.zt_store.specs.RegionOrder.{region_cmp}
 use Rattle.zt_holders.specs.Indexed.{indexed-still}
 use Rattle.zt_store.specs.View.{table_rows}
@@ -46,7 +45,7 @@ invariant_of-self g c =
     let x = c.in-Some.face.now.face in
     let there = rw c.in-Some.is at c.get.ensures in
     let fit = subst (λ t. Fits g.K.Ord.cmp (DropLive c.args.f c.args.id) t.store) (sym c.self.view_is) c.requires in
-    let orderly = subst (λ t. IsOrderly t.store) (sym c.self.view_is) c.orderly.ensures in
+    let orderly = c.self.invariant.kept.orderly in
     let less = subst (λ (r : Region). CountsOneMore region_cmp g.K.Ord.cmp r c.in-Some-live.expr.now c.remove.new.self.counts c.self.inside.tokens.counts) c.row.ensures.region c.remove.ensures.counts in
     let found = rw c.in-Some-live.is at c.live.ensures in
     let kept = kept-dropped g.K.Ord.cmp g.K.Key.matching g.met.K.Ord.total (table_rows c.self.inside).store c.self.inside.tokens.counts c.remove.new.self.counts c.self.invariant.kept orderly c.args.f c.args.id c.in-Some-live.expr.now x (sym there) fit c.in_order.ensures.live (sym found) less in

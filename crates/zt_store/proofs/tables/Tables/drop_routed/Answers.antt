@@ -5,7 +5,6 @@ use Rattle.zt_region.specs.Region.{zid_eq}
 use Rattle.zt_model.specs.Acts.{DropRouted, Fits, acted}
 use Rattle.zt_model.specs.Trees.{routed_order, without_routed}
 use Rattle.zt_rows.specs.Rising.{AreRising}
-use Rattle.zt_changes.specs.Orderly.{IsOrderly}
 use Rattle.zt_needs.specs.Need.{group_order}
 use Rattle.zt_store.specs.Room.{faces-same, no-more}
 use Rattle.zt_store.specs.RoutedOrder.{routed-dropped}
@@ -22,7 +21,7 @@ remove-requires g c =
     let s = (table_rows c.self.inside).store in
     let act = DropRouted c.args.region c.args.source c.args.expr.now in
     let fit = subst (λ t. Fits cmp act t.store) (sym c.self.view_is) c.requires in
-    let orderly = subst (λ t. IsOrderly t.store) (sym c.self.view_is) c.orderly.ensures in
+    let orderly = c.self.invariant.kept.orderly in
     let rising = subst (λ t. AreRising (routed_order cmp) t.store.rows.routed) (sym c.self.view_is) c.routed_rise.ensures in
     let is_own = ap (λ z. zid_eq c.args.source z) (ap (λ t. t.store.rows.zid) c.self.view_is ∙ sym c.zid.ensures) ∙ not-true _ (sym c.ne.ensures ∙ c.if-ne.true) in
     let some = routed-there cmp matching g.met.K.Ord.total c.args.region c.args.source c.args.expr.now s fit orderly rising is_own in
@@ -37,7 +36,7 @@ invariant_of-self g c =
     let s = (table_rows c.self.inside).store in
     let act = DropRouted c.args.region c.args.source c.args.expr.now in
     let fit = subst (λ t. Fits cmp act t.store) (sym c.self.view_is) c.requires in
-    let orderly = subst (λ t. IsOrderly t.store) (sym c.self.view_is) c.orderly.ensures in
+    let orderly = c.self.invariant.kept.orderly in
     let rising = subst (λ t. AreRising (routed_order cmp) t.store.rows.routed) (sym c.self.view_is) c.routed_rise.ensures in
     let is_own = ap (λ z. zid_eq c.args.source z) (ap (λ t. t.store.rows.zid) c.self.view_is ∙ sym c.zid.ensures) ∙ not-true _ (sym c.ne.ensures ∙ c.if-ne.true) in
     let kept = kept-unrouted cmp matching g.met.K.Ord.total s c.self.inside.tokens.counts c.remove.new.self.counts c.self.invariant.kept orderly c.args.region c.args.source c.args.expr.now fit rising is_own c.remove.ensures.counts in
@@ -53,7 +52,7 @@ invariant_of-self-else-ne g c =
     let s = (table_rows c.self.inside).store in
     let act = DropRouted c.args.region c.args.source c.args.expr.now in
     let fit = subst (λ t. Fits cmp act t.store) (sym c.self.view_is) c.requires in
-    let orderly = subst (λ t. IsOrderly t.store) (sym c.self.view_is) c.orderly.ensures in
+    let orderly = c.self.invariant.kept.orderly in
     let rising = subst (λ t. AreRising (routed_order cmp) t.store.rows.routed) (sym c.self.view_is) c.routed_rise.ensures in
     let is_own = ap (λ z. zid_eq c.args.source z) (ap (λ t. t.store.rows.zid) c.self.view_is ∙ sym c.zid.ensures) ∙ not-false _ (sym c.ne.ensures ∙ c.if-ne.false) in
     let kept = kept-unowned cmp matching g.met.K.Ord.total s c.self.inside.tokens.counts c.self.invariant.kept orderly c.args.region c.args.source c.args.expr.now is_own fit rising in

@@ -32,7 +32,8 @@ invariant_of-self g c =
       dictionary = c.self.invariant.dictionary;
       kept = rw (c.open.ensures.faces, c.requires.face, ← c.self.view_is) (record {
         numbered = record { in_order = kept.numbered.in_order; below = kept.numbered.below; stand = kept.numbered.stand; apart = kept.numbered.apart; every = kept.numbered.every };
-        listed = record { at = kept.listed.at };
+        orderly = record { rising = kept.orderly.rising; given = kept.orderly.given };
+        facts = record { given = kept.facts.given; listed = record { at = kept.facts.listed.at }; routed = kept.facts.routed; drawn = λ n f id h. let was = kept.facts.drawn n f id h in record { opened = was.opened; below = was.below }; once = kept.facts.once };
         tokens = record { at = kept.tokens.at };
       });
       indexed = rw (c.open.ensures.faces, c.requires.face, ← c.self.view_is) holds;

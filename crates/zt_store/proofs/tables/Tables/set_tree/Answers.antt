@@ -6,7 +6,26 @@ use Rattle.zt_model.specs.Acts.{acted}
 use Rattle.zt_rows.specs.ById.{map-put, map_rows}
 use Rattle.zt_store.specs.RegionOrder.{region_cmp-order}
 use Rattle.zt_store.specs.Room.{faces-same}
+use Rattle.zt_store.specs.Serving.{served-too}
+use Rattle.zt_store.specs.View.{table_rows}
 use Rattle.zt_store.proofs.tables.Tables.set_tree.Goals as goal
+
+pub invariant_of-self : goal.invariant_of-self
+invariant_of-self g c =
+    let kept = c.self.invariant.kept in
+    let s = (table_rows c.self.inside).store in
+    record {
+      counted = c.self.invariant.counted;
+      dictionary = c.self.invariant.dictionary;
+      kept = record {
+        numbered = record { in_order = kept.numbered.in_order; below = kept.numbered.below; stand = kept.numbered.stand; apart = kept.numbered.apart; every = kept.numbered.every };
+        orderly = record { rising = kept.orderly.rising; given = kept.orderly.given };
+        facts = record { given = kept.facts.given; listed = record { at = kept.facts.listed.at }; routed = kept.facts.routed; drawn = λ n f id h. let was = kept.facts.drawn n f id h in record { opened = was.opened; below = was.below }; once = kept.facts.once };
+        tokens = record { at = kept.tokens.at };
+      };
+      indexed = c.self.invariant.indexed;
+      served = served-too s (record s { rows = record s.rows { trees = map_rows trees_of c.put.new.self.rows } }) refl refl refl c.self.inside.faces.served c.self.invariant.served;
+    }
 
 pub returns-clause-store : goal.returns-clause-store
 unfolding acted
