@@ -1,0 +1,5 @@
+pub mod Nexts
+pub mod Drawn
+pub mod Needs
+pub mod Could
+pub mod Within

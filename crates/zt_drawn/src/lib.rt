@@ -1,0 +1,2 @@
+//! Ids that calls draw, whatever is called.
+#![tactic(auto)]
