@@ -6,3 +6,5 @@ pub mod Single
 pub mod Passes
 pub mod Seats
 pub mod Drawing
+pub mod Turns
+pub mod Copies

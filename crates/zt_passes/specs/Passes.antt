@@ -87,13 +87,13 @@ module _ {S E : Type 0} (journal : S → List E) (author : E → ℕ) where
   abbrev pub mine : Standing S → List (ℕ × E)
   mine pass = owned author pass.number (journal pass.found)
 
-  -- the pass had the value: its journal begins with what the pass had found, and has no other entry of the pass
+  -- The pass had the value, which goes on from what the pass had found before, and has no other entry of it.
   pub record Finds (before : Standing S) (found : S) : Type 0 where
     pub begins : IsPrefix (journal before.found) (journal found)
     pub mine_same : owned author before.number (journal found) ≡ mine before
     pub seen_long : before.seen ≤ length (journal found)
 
-  -- the pass found a journal and added the entry to it
+  -- The pass found a value and added the entry to its journal.
   pub record Adds (before after : Standing S) (place : ℕ) (entry : E) : Type 0 where
     pub found : S
     pub finds : Finds before found

@@ -1,16 +1,18 @@
 // The shared value.
-ghost use Rattle.std.specs.Prelude.{◌≡◌, ◌+◌, ◌<◌, ◌≤◌, [], IfOk, IfErr, IfSome, IfNone};
-ghost use Rattle.zt_passes.specs.Passes.{Standing, first_pass, made_pass, pass_drawn, pass_looked, pass_counted};
+ghost use Rattle.std.specs.Prelude.{◌≡◌, ℕ, ◌<◌, ◌≤◌, [], length, IfOk, IfErr};
+ghost use Rattle.zt_passes.specs.Passes.{Standing, first_pass, made_pass, pass_drawn, pass_looked, pass_counted, Finds, Adds};
+ghost use Rattle.zt_passes.specs.Copies.{Copies};
 
 use crate::part::View;
 use crate::pass::Pass;
 use crate::recorder::Recorder;
 use crate::rule::Passing;
-use crate::steps::{Drawn, draw, look};
+use crate::steps::{self, Drawn, draw, look};
 use atomic_table::{Refused, Table};
 use std::alloc::{AllocError, Global};
 use std::marker::Model;
 use std::snapshot::Snapshot;
+use std::sync::Wait;
 
 /// 4294967295 numbers were drawn: no pass can be made.
 #[derive(Clone, Copy, PartialEq, Eq, Debug)]
@@ -60,6 +62,54 @@ impl<J: Recorder> SharedRecorder<J> {
         let length = look(&self.table.shared, &mut pass.seat);
         pass.seen = length;
         length
+    }
+
+    /// Waits for the lock and makes the call. The receipt tells of the entry that was added, whose place is at least what
+    /// the pass had seen. The only error is want of memory: then nothing was added, and the call is dropped.
+    pub fn call<R: Wait>(
+        &self,
+        rt: &R,
+        pass: &mut Pass<J>,
+        call: J::Call,
+    ) -> Result<J::Receipt, AllocError>
+        requires own { pass.old.table ≡ self.now }
+        ensures ok { IfOk result (λ receipt. (place : ℕ) × (entry : J.Entered)
+            × Adds J.journal J.author pass.old pass.new place entry
+            × (J.author entry ≡ pass.old.number) × J.is_entry_of call entry × J.tells place entry receipt
+            × J.is_replay (J.state pass.new.opening) (J.journal pass.new.found)) }
+        ensures err { IfErr result (λ _. Finds J.journal J.author pass.old pass.new.found
+            × (pass.new ≡ record pass.old { found = pass.new.found })) }
+    {
+        let shared = &self.table.shared;
+        match steps::call(rt, shared, &mut pass.seat, pass.number, call) {
+            Ok((place, receipt)) => {
+                pass.seen = place + 1;
+                Ok(receipt)
+            }
+            Err(error) => Err(error),
+        }
+    }
+
+    /// Waits for the lock and copies the entry at the place, or answers `None` where the journal is no longer. The pass has
+    /// then seen the journal. The only error is want of memory.
+    pub fn read_entry<R: Wait>(
+        &self,
+        rt: &R,
+        alloc: Global,
+        pass: &mut Pass<J>,
+        place: u64,
+    ) -> Result<Option<J::Entry>, AllocError>
+        requires own { pass.old.table ≡ self.now }
+        ensures finds { Finds J.journal J.author pass.old pass.new.found }
+        ensures looked { let long = length (J.journal pass.new.found) in
+            pass.new ≡ pass_looked long (record pass.old { found = pass.new.found }) }
+        ensures copied { IfOk result (λ found. Copies J.journal J.shows pass.new.found place found) }
+        ensures replay { J.is_replay (J.state pass.new.opening) (J.journal pass.new.found) }
+    {
+        let shared = &self.table.shared;
+        let (length, entry) = steps::read(rt, shared, &mut pass.seat, alloc, place);
+        pass.seen = length;
+        entry
     }
 
     /// Makes another pass, which has seen what the given one has. It takes no memory. `Spent` comes where 4294967295

@@ -2,6 +2,8 @@
 ghost use Rattle.std.specs.Prelude.{◌≡◌, ℕ, ◌+◌, ◌<◌, ◌≤◌, ◌^◌, [], ◌∷◌, ◌++◌, true, false, length, IfOk, IfErr};
 ghost use Rattle.zt_passes.specs.Plays.{alone, holding, part_locked, part_entered, part_released, part_looked, part_counted, Continues};
 ghost use Rattle.zt_passes.specs.Drawing.{Draws};
+ghost use Rattle.zt_passes.specs.Copies.{Copies};
+ghost use Rattle.zt_passes.specs.Turns.{Entered, WasIn, HasRead};
 ghost use Rattle.zt_passes.specs.Seats.{IsSeatOf, IsFree, HasValue, IsAhead, MayRelease, IsSameSeat};
 
 use crate::part::{Part, View};
@@ -10,7 +12,7 @@ use crate::recorder::Recorder;
 use crate::rule::Passing;
 use atomic_table::{Seat, Shared};
 use crossbeam_utils::Backoff;
-use std::alloc::AllocError;
+use std::alloc::{AllocError, Global};
 use std::snapshot::Snapshot;
 use std::sync::Wait;
 
@@ -99,6 +101,79 @@ pub(crate) fn count<J: Recorder>(top: &Top<J>, seat: &mut Place<J>) -> u64
         → (seat.new.me ≡ alone (part_counted result p)) × (p.known ≤ result) × (result ≤ 4294967295) }
 {
     top.load::<Count>(seat, 1)
+}
+
+// Enters a call under the lock. Returns the entry's place, and the receipt.
+pub(crate) fn call<J: Recorder, R: Wait>(
+    rt: &R,
+    top: &Top<J>,
+    seat: &mut Place<J>,
+    number: u32,
+    call: J::Call,
+) -> Result<(u64, J::Receipt), AllocError>
+    requires table { IsSeatOf top.now.table_id seat.old }
+    requires free { (p : Part J) × (seat.old.me ≡ alone p) × (p.locked ≡ false) × (p.number ≡ number) }
+    ensures seat { IsSameSeat seat.old seat.new }
+    ensures ok { IfOk result (λ made. (p : Part J) → seat.old.me ≡ alone p
+        → (entry : J.Entered) × (turn : Entered J.journal J.author J.state p seat.new.me made.0 entry)
+        × (J.author entry ≡ number) × J.is_entry_of call entry × J.tells made.0 entry made.1
+        × J.is_replay (J.state turn.left) (J.journal turn.left)) }
+    ensures err { IfErr result (λ _. (p : Part J) → seat.old.me ≡ alone p → WasIn J.journal J.author J.state p seat.new.me) }
+{
+    lock(rt, top, seat);
+    match enter(top, seat, number, call) {
+        Ok(receipt) => {
+            let place = publish(top, seat);
+            release(top, seat);
+            Ok((place, receipt))
+        }
+        Err(error) => {
+            release(top, seat);
+            Err(error)
+        }
+    }
+}
+
+// A copy of an entry of the value that the seat has.
+fn copy<J: Recorder>(
+    top: &Top<J>,
+    seat: &mut Place<J>,
+    alloc: Global,
+    place: u64,
+) -> Result<Option<J::Entry>, AllocError>
+    requires table { IsSeatOf top.now.table_id seat.old }
+    requires value { HasValue seat.old.me }
+    ensures seat { IsSameSeat seat.old seat.new }
+    ensures same { seat.new.me ≡ seat.old.me }
+    ensures copied { (p : Part J) (x : J) → seat.old.me ≡ holding p x
+        → IfOk result (λ found. Copies J.journal J.shows x place found) }
+    ensures replay { (p : Part J) (x : J) → seat.old.me ≡ holding p x → J.is_replay (J.state x) (J.journal x) }
+{
+    let value = seat.slot_mut(top, 0);
+    value.entry(alloc, place)
+}
+
+// Reads the length of the journal and an entry of it, under the lock.
+pub(crate) fn read<J: Recorder, R: Wait>(
+    rt: &R,
+    top: &Top<J>,
+    seat: &mut Place<J>,
+    alloc: Global,
+    place: u64,
+) -> (u64, Result<Option<J::Entry>, AllocError>)
+    requires table { IsSeatOf top.now.table_id seat.old }
+    requires free { IsFree seat.old.me }
+    ensures seat { IsSameSeat seat.old seat.new }
+    ensures told { (p : Part J) → seat.old.me ≡ alone p
+        → (turn : HasRead J.journal J.author J.state p seat.new.me result.0)
+        × IfOk result.1 (λ found. Copies J.journal J.shows turn.taken place found)
+        × J.is_replay (J.state turn.taken) (J.journal turn.taken) }
+{
+    lock(rt, top, seat);
+    let length = look(top, seat);
+    let entry = copy(top, seat, alloc, place);
+    release(top, seat);
+    (length, entry)
 }
 
 // What came of an attempt to draw a number.
