@@ -30,6 +30,10 @@ module _ {S : Type 0} where
   abbrev pub part_released : Part S → Part S
   part_released p = record p { locked = false }
 
+  -- the pass had the lock, and left the value so
+  abbrev pub part_left : ℕ → S → Part S → Part S
+  part_left seen x p = record p { found = x; seen = seen; locked = false }
+
   abbrev pub part_counted : ℕ → Part S → Part S
   part_counted count p = record p { known = count }
 

@@ -3,7 +3,15 @@
 #![tactic(auto)]
 
 mod part;
+mod pass;
+mod plays;
 mod recorder;
+mod rule;
+mod shared;
+mod steps;
 
 pub use part::{Part, View};
+pub use pass::Pass;
 pub use recorder::Recorder;
+pub use rule::Passing;
+pub use shared::{SharedRecorder, Spent};
