@@ -1,5 +1,6 @@
 pub mod Calls
 pub mod Climbing
+pub mod Effects
 pub mod Hears
 pub mod Knowledge
 pub mod Members
