@@ -36,7 +36,7 @@ use Rattle.zt_trees.proofs.Saying.{IsReal, SaidWell, TreeRows, tree_rows_heard}
 use Rattle.zt_trees.proofs.Tracking.{IsGood, SameEar, Unmoved, altered_to, ear_itself, ear_trans, find_with_face, good_one, good_unsaid, said_well, sent_each, unmoved_ear, unmoved_itself, unmoved_trans, with_face_rows}
 
 module _ {K : Type 0} (cmp : K → K → Ordering) (matching : K → K → Bool) (p n : ℕ) (up : Bool) (R : Face K → Face K → Type 0) (itself : (f : Face K) → R f f) (trans : (f h k : Face K) → R f h → R h k → R f k) (ear : (f h : Face K) → R f h → SameEar f h)
-  (own : n ≡ p → (f h : Face K) → SameEar f h → R f h) (ends : (id : ℕ) (f : Face K) → R f (ended id f)) (mode : WhatAmI) where
+    (own : n ≡ p → (f h : Face K) → SameEar f h → R f h) (ends : (id : ℕ) (f : Face K) → R f (ended id f)) (mode : WhatAmI) where
   abbrev Fine : Part K → Type 0
   Fine part = Good cmp matching p n up R itself trans ear own ends mode part
 
@@ -166,17 +166,16 @@ module _ {K : Type 0} (cmp : K → K → Ordering) (matching : K → K → Bool)
   unfolding parts_of with_face
   entities_fine k subscribers queryables still g = (
     (λ h f inside found.
-    let change : Face K → Face K = λ f. record f { subscribers = subscribers; queryables = queryables } in
-    let numbered : Rows K = with_numbers cmp (entity_expressions cmp subscribers queryables) h in
-    let rows : TreeRows cmp numbered = record { rises = inside.0.rises; faces = inside.0.faces; real = inside.0.real } in
-    (
-      (
-        with_face_rows cmp matching k change numbered (λ f. refl) (each_always (λ (f : Face K). (k == f.number) ≡ true → IsTreeFace h.mode f → IsTreeFace h.mode (change f)) (λ f _ face. tree_face_less h.mode f (change f) refl refl refl (λ e. e) (λ e. e) (λ e. e) face) h.faces)
-            (λ f r. record { next = r.next; told = r.told }) rows,
-        inside.1,
-      ),
-      ((if k == p then change f else f), find_with_face cmp matching p k change numbered f (λ f. refl) found, of_cond (R f) (k == p) (change f) f (λ _. still f) (λ _. itself f)),
-    )),
+        let change : Face K → Face K = λ f. record f { subscribers = subscribers; queryables = queryables } in
+        let numbered : Rows K = with_numbers cmp (entity_expressions cmp subscribers queryables) h in
+        let rows : TreeRows cmp numbered = record { rises = inside.0.rises; faces = inside.0.faces; real = inside.0.real } in (
+          (
+            with_face_rows cmp matching k change numbered (λ f. refl) (each_always (λ (f : Face K). (k == f.number) ≡ true → IsTreeFace h.mode f → IsTreeFace h.mode (change f)) (λ f _ face. tree_face_less h.mode f (change f) refl refl refl (λ e. e) (λ e. e) (λ e. e) face) h.faces)
+                (λ f r. record { next = r.next; told = r.told }) rows,
+            inside.1,
+          ),
+          ((if k == p then change f else f), find_with_face cmp matching p k change numbered f (λ f. refl) found, of_cond (R f) (k == p) (change f) f (λ _. still f) (λ _. itself f)),
+        )),
     tt,
   )
 
@@ -186,19 +185,18 @@ module _ {K : Type 0} (cmp : K → K → Ordering) (matching : K → K → Bool)
       let counted = counted_table t in (
         (λ h f inside found. ((record { rises = inside.0.rises; faces = inside.0.faces; real = inside.0.real }, inside.1), (f, found, itself f))),
         each_append Fine (forgetting cmp matching region (left_out cmp region counted g)) _
-            (each_flat_map Fine (λ (e : K). Say (forget cmp matching region e) ∷ hiding cmp region e) (left_out cmp region counted g) (λ e. (good_forget cmp matching p n up R itself trans ear own ends mode region e, good_hiding cmp matching p n up R itself trans ear own ends mode region e)))
-            (
+            (each_flat_map Fine (λ (e : K). Say (forget cmp matching region e) ∷ hiding cmp region e) (left_out cmp region counted g) (λ e. (good_forget cmp matching p n up R itself trans ear own ends mode region e, good_hiding cmp matching p n up R itself trans ear own ends mode region e))) (
               (λ h f inside found. ((record { rises = inside.0.rises; faces = inside.0.faces; real = inside.0.real }, inside.1), (f, found, itself f))),
               (
                 (λ h f inside found side.
-                let face = tree_face_of h p f inside.0 found in
-                let apart : region_eq f.region region ≡ false = by_test (region_eq f.region region)
-                (λ here.
-                let is : f.region ≡ region = region_eq-same f.region region here in
-                let hat : is_router_hat (strategy_of h.mode f.region) ≡ true = ap (λ m. is_router_hat (strategy_of m f.region)) inside.1 ∙ ap (λ r. is_router_hat (strategy_of mode r)) is ∙ router in
-                never hat (is_no_router h f face))
-                (λ e. e) in
-                subst (λ ms. SaidWell cmp up ms f.told f.asks) (sym (sent_each cmp matching p (greet_to cmp h region (table_of g region)) h f inside.0.rises found ∙ nothing h f apart (routers_in_order cmp (table_of h region)))) tt),
+                    let face = tree_face_of h p f inside.0 found in
+                    let apart : region_eq f.region region ≡ false = by_test (region_eq f.region region)
+                    (λ here.
+                    let is : f.region ≡ region = region_eq-same f.region region here in
+                    let hat : is_router_hat (strategy_of h.mode f.region) ≡ true = ap (λ m. is_router_hat (strategy_of m f.region)) inside.1 ∙ ap (λ r. is_router_hat (strategy_of mode r)) is ∙ router in
+                    never hat (is_no_router h f face))
+                    (λ e. e) in
+                    subst (λ ms. SaidWell cmp up ms f.told f.asks) (sym (sent_each cmp matching p (greet_to cmp h region (table_of g region)) h f inside.0.rises found ∙ nothing h f apart (routers_in_order cmp (table_of h region)))) tt),
                 tt,
               ),
             ),

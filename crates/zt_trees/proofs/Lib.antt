@@ -1,8 +1,10 @@
+pub mod After
 pub mod Calls
 pub mod Climbing
 pub mod Effects
 pub mod Hears
 pub mod Knowledge
+pub mod Lines
 pub mod Members
 pub mod Parts
 pub mod Quiet
@@ -10,5 +12,8 @@ pub mod Rules
 pub mod Saying
 pub mod Speaks
 pub mod Start
+pub mod Stepping
+pub mod Steps
 pub mod Tracking
+pub mod Turning
 pub mod Waiting

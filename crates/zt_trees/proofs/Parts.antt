@@ -43,7 +43,7 @@ tree_face_less mode f h region_ bound_ mode_ held_ kept_ asks_ face = record {
 }
 
 module _ {K : Type 0} (cmp : K → K → Ordering) (matching : K → K → Bool) (p n : ℕ) (up : Bool) (R : Face K → Face K → Type 0) (itself : (f : Face K) → R f f) (trans : (f h k : Face K) → R f h → R h k → R f k) (ear : (f h : Face K) → R f h → SameEar f h)
-  (own : n ≡ p → (f h : Face K) → SameEar f h → R f h) (ends : (id : ℕ) (f : Face K) → R f (ended id f)) (mode : WhatAmI) where
+    (own : n ≡ p → (f h : Face K) → SameEar f h → R f h) (ends : (id : ℕ) (f : Face K) → R f (ended id f)) (mode : WhatAmI) where
   -- the rows are those of a tree, at a gateway of the mode
   abbrev pub Inside : Rows K → Type 0
   Inside g = TreeRows cmp g × (g.mode ≡ mode)
@@ -93,8 +93,11 @@ module _ {K : Type 0} (cmp : K → K → Ordering) (matching : K → K → Bool)
   pub good_ended : (k id : ℕ) → Good (Alter (with_face k (ended id)))
   unfolding with_face
   good_ended k id = λ g f inside found. (
-    (with_face_rows cmp matching k (ended id) g (λ f. refl) (each_always (λ f. (k == f.number) ≡ true → IsTreeFace g.mode f → IsTreeFace g.mode (ended id f)) (λ f _ face. tree_face_less g.mode f (ended id f) refl refl refl (λ h. h) (λ h. h) (λ h. h) face) g.faces)
-    (λ f r. record { next = r.next; told = r.told }) inside.0, inside.1),
+    (
+      with_face_rows cmp matching k (ended id) g (λ f. refl) (each_always (λ f. (k == f.number) ≡ true → IsTreeFace g.mode f → IsTreeFace g.mode (ended id f)) (λ f _ face. tree_face_less g.mode f (ended id f) refl refl refl (λ h. h) (λ h. h) (λ h. h) face) g.faces)
+          (λ f r. record { next = r.next; told = r.told }) inside.0,
+      inside.1,
+    ),
     ((if k == p then ended id f else f), find_with_face cmp matching p k (ended id) g f (λ f. refl) found, of_cond (R f) (k == p) (ended id f) f (λ _. ends id f) (λ _. itself f)),
   )
 

@@ -105,7 +105,7 @@ module _ {K : Type 0} (cmp : K → K → Ordering) (matching : K → K → Bool)
       (λ here. rw here (by_test (p == s.0) (λ own. rw own (ap (λ ms. s.1 ∷ ms) (messages_unsaid p n ss apart))) (λ own. rw own (messages_unsaid p n ss apart))))
 
   module _ (p : ℕ) (up : Bool) (I : Rows K → Type 0) (rows_of : (g : Rows K) → I g → TreeRows cmp g) (heard_ : (ss : Sends K) (g : Rows K) → I g → I (rows_heard cmp ss g))
-    (R : Face K → Face K → Type 0) (itself : (f : Face K) → R f f) (trans : (f h k : Face K) → R f h → R h k → R f k) (ear : (f h : Face K) → R f h → SameEar f h) where
+      (R : Face K → Face K → Type 0) (itself : (f : Face K) → R f f) (trans : (f h k : Face K) → R f h → R h k → R f k) (ear : (f h : Face K) → R f h → SameEar f h) where
     -- a part that keeps the face, and says well what it says to it
     abbrev pub IsGood : Part K → Type 0
     IsGood (Alter change) = (g : Rows K) (f : Face K) → I g → find_face p g ≡ Some f → I (change g) × ((h : Face K) × (find_face p (change g) ≡ Some h) × R f h)
