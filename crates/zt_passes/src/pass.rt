@@ -25,7 +25,7 @@ impl<J> Model for Pass<J> {
 
 impl<J> Pass<J> {
     ghost use Rattle.std.specs.Prelude.{◌≡◌, ◌<◌};
-    ghost use Rattle.zt_passes.specs.Passes.{first_pass, standing};
+    ghost use Rattle.zt_passes.specs.Passes.{first_pass, standing, part_of};
     ghost use Rattle.zt_passes.specs.Plays.{alone, part_made};
     ghost use Rattle.zt_passes.specs.Rule.{first_part};
 
@@ -54,6 +54,19 @@ impl<J> Pass<J> {
             seen,
             known: number + 1,
         }
+    }
+
+    // The seat alone.
+    pub(crate) fn into_seat(self) -> Seat<J, View<J>>
+        ensures { (result.table_id ≡ self.table) × (result.me ≡ alone (part_of self)) }
+    {
+        let Pass {
+            seat,
+            number: _,
+            seen: _,
+            known: _,
+        } = self;
+        seat
     }
 
     /// The number by which the journal names this pass; the first is 0.
