@@ -14,6 +14,7 @@ use Rattle.zt_passes.specs.Handed.{Handed, AreAllHanded, IsLeft}
 use Rattle.zt_passes.proofs.ViewSums.{AllByRecursion-map}
 use Rattle.zt_passes.proofs.Zipped.{AllZip-set, AllZip-length, AllZip-left}
 use Rattle.zt_passes.proofs.AllHanded.{owned-lengths}
+use Rattle.zt_passes.proofs.OwnedLists.{owned-at}
 
 map-snoc : {A B : Type 0} (f : A → B) (xs : List A) (x : A) → map f (xs ++ x ∷ []) ≡ map f xs ++ f x ∷ []
 map-snoc f [] x = refl
@@ -82,25 +83,6 @@ module _ {S : Type 0} where
   all-parts F G over [] (y ∷ ys) zip all = absurd zip
   all-parts F G over (x ∷ xs) [] zip all = absurd zip
   all-parts F G over (x ∷ xs) (y ∷ ys) zip all = (over x y zip.0 all.0, all-parts F G over xs ys zip.1 all.1)
-
-stands-here : {E : Type 0} (k place : ℕ) (e entry : E) (es : List E) (others : List (ℕ × E))
-    → ((i : ℕ) → slice_get others i ≡ Some (place, entry) → (j : ℕ) × ((place ≡ (k + 1) + j) × (slice_get es j ≡ Some entry)))
-    → (b : Bool) (i : ℕ) → slice_get (with_owned b (k, e) others) i ≡ Some (place, entry) → (j : ℕ) × ((place ≡ k + j) × (slice_get (e ∷ es) j ≡ Some entry))
-stands-here {E} k place e entry es others later true zero at = let same : k ≡ place = ap (λ (found : Option (ℕ × E)). (unwrap_or found (k, e)).0) at in
-    let is : e ≡ entry = ap (λ (found : Option (ℕ × E)). (unwrap_or found (k, e)).1) at in (0, ((omega arith), ap Some is))
-stands-here k place e entry es others later true (suc i) at = let rest = later i at in let far = rest.1.0 in (suc rest.0, ((omega arith), rest.1.1))
-stands-here k place e entry es others later false i at = let rest = later i at in let far = rest.1.0 in (suc rest.0, ((omega arith), rest.1.1))
-
--- what a pass has entered stands at its place
-owned-stands : {E : Type 0} (author : E → ℕ) (k n : ℕ) (log : List E) (i place : ℕ) (entry : E) → slice_get (owned_from author k n log) i ≡ Some (place, entry)
-    → (j : ℕ) × ((place ≡ k + j) × (slice_get log j ≡ Some entry))
-owned-stands author k n [] i place entry at = absurd cc
-owned-stands author k n (e ∷ es) i place entry at = stands-here k place e entry es (owned_from author (k + 1) n es)
-    (λ m there. owned-stands author (k + 1) n es m place entry there) (author e == n) i at
-
-pub owned-at : {E : Type 0} (author : E → ℕ) (n : ℕ) (log : List E) (i place : ℕ) (entry : E) → slice_get (owned author n log) i ≡ Some (place, entry) → slice_get log place ≡ Some entry
-owned-at author n log i place entry at = let found = owned-stands author 0 n log i place entry at in
-    let same : place ≡ found.0 = let far = found.1.0 in omega arith in ap (slice_get log) same ∙ found.1.1
 
 module _ {S E O : Type 0} (journal : S → List E) (author : E → ℕ) (state : S → O) (value first : S) where
   accounts : (log_count : ℕ) → state value ≡ state first → (a b : Standing S) → IsCounted a b

@@ -10,17 +10,20 @@ abbrev pub IsCounted : {S : Type 0} → Standing S → Standing S → Type 0
 IsCounted before after = (after ≡ pass_counted after.known before) × (before.known ≤ after.known)
 
 module _ {S E O : Type 0} (journal : S → List E) (author : E → ℕ) (state : S → O) where
-  -- The value's journal accounts for the pass: it begins with what the pass found, the entries with its number are the
-  -- pass's own and stand at their places, and it is as long as the pass has ever seen.
+  -- The value's journal accounts for the pass: it begins with what the pass found, the entries with its
+  -- number are the pass's own and stand at their places, and it is as long as the pass has ever seen.
   pub record Accounts (value : S) (pass : Standing S) : Type 0 where
     pub begins : IsPrefix (journal pass.found) (journal value)
     pub mine_whole : owned author pass.number (journal value) ≡ mine journal author pass
-    pub mine_stands : (k place : ℕ) (entry : E) → slice_get (mine journal author pass) k ≡ Some (place, entry) → slice_get (journal value) place ≡ Some entry
+    pub mine_stands : (k place : ℕ) (entry : E)
+        → slice_get (mine journal author pass) k ≡ Some (place, entry)
+        → slice_get (journal value) place ≡ Some entry
     pub opened : state value ≡ state pass.opening
     pub seen_long : pass.seen ≤ length (journal value)
     pub looks_long : AllByRecursion (λ n. n ≤ length (journal value)) pass.looks
 
-  -- It accounts for each of the passes, they have the numbers from 0 on, each once, and all entries are theirs.
+  -- It accounts for each of the passes, they have the numbers from 0 on, each once, and all entries
+  -- are theirs.
   pub record AccountsForAll (value : S) (passes : List (Standing S)) : Type 0 where
     pub each : AllByRecursion (Accounts value) passes
     pub numbers : (f : ℕ → ℕ) → sum_by (λ pass. f pass.number) passes ≡ below f (length passes)

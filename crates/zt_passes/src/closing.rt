@@ -49,7 +49,8 @@ pub(crate) fn missing<J: Recorder>(top: &Top<J>, passes: &mut Vec<Pass<J>>) -> O
     ensures counted { AllZip IsCounted passes.old.items passes.new.items }
     ensures missing { MatchOption result
         (AllByRecursion (λ pass. pass.known ≤ length passes.new.items) passes.new.items)
-        (λ made. (length passes.new.items < made) × Contains (map (λ pass. pass.known) passes.new.items) made) }
+        (λ made. (length passes.new.items < made)
+        × Contains (map (λ pass. pass.known) passes.new.items) made) }
 {
     let handed = passes.len();
     for i in 0..handed {
@@ -94,16 +95,21 @@ pub(crate) fn taken_out<J: Recorder>(
 }
 
 impl<J: Recorder> SharedRecorder<J> {
-    /// Ends the sharing: gives the value back where all passes that were ever made are handed in. It takes no memory.
+    /// Ends the sharing: gives the value back where all passes that were ever made are handed in.
+    /// It takes no memory.
     pub fn close(self, passes: Vec<Pass<J>>) -> Result<J, CloseError<J>>
         requires some { 0 < length passes.items }
         requires own { AllByRecursion (λ pass. pass.table ≡ self) passes.items }
-        ensures ok { IfOk result (λ value. AccountsForAll J.journal J.author J.state value passes.items) }
+        ensures ok { IfOk result (λ value.
+            AccountsForAll J.journal J.author J.state value passes.items) }
         ensures shared { IfErr result (λ error. error.shared ≡ self) }
         ensures passes { IfErr result (λ error. AllZip IsCounted passes.items error.passes.items) }
+        ensures own { IfErr result (λ error.
+            AllByRecursion (λ pass. pass.table ≡ self) error.passes.items) }
         ensures handed { IfErr result (λ error. error.handed ≡ length passes.items) }
         ensures fewer { IfErr result (λ error. error.handed < error.made) }
-        ensures made { IfErr result (λ error. Contains (map (λ pass. pass.known) error.passes.items) error.made) }
+        ensures made { IfErr result (λ error.
+            Contains (map (λ pass. pass.known) error.passes.items) error.made) }
     {
         let mut passes = passes;
         match missing(&self.table.shared, &mut passes) {

@@ -1,5 +1,5 @@
-//! One value behind a lock, and passes with which threads call it. The value keeps a journal of the calls; each pass knows
-//! its own entries and how far it has seen the journal.
+//! One value behind a lock, and passes with which threads call it. The value keeps a journal of
+//! the calls; each pass knows its own entries and how far it has seen the journal.
 #![tactic(auto)]
 
 mod closing;

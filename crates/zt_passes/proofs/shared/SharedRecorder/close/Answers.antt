@@ -26,3 +26,9 @@ returns-in-None-clause-ok g c =
     let left : IsLeft J.journal J.author J.state c.taken_out.result (map part_of c.missing.new.passes.items) =
     subst (λ me. IsLeft J.journal J.author J.state c.taken_out.result me.0) c.joined-seat.ensures.parts c.taken_out.ensures in
     accounts_all J.journal J.author J.state c.taken_out.result c.args.passes.items c.missing.new.passes.items c.missing.ensures.counted left
+
+pub returns-in-Some-clause-own : goal.returns-in-Some-clause-own
+returns-in-Some-clause-own g c =
+    let Mine : Standing g.row.J.Denot → Type 0 = λ pass. pass.table ≡ c.args.self in
+    AllZip-right IsCounted Mine Mine (λ a b counted own. ap (λ pass. pass.table) counted.0 ∙ own)
+    c.args.passes.items c.missing.new.passes.items c.missing.ensures.counted c.requires.own
