@@ -5,4 +5,6 @@ pub mod Numbers
 pub mod Stepping
 pub mod Allowed
 pub mod Standings
-pub mod Closing
+pub mod Zipped
+pub mod Accounting
+pub mod AllHanded

@@ -1,11 +1,11 @@
 -- What is seen of a pass after a step of its seat.
-use Rattle.std.proofs.Common.{◌≡◌, ℕ, ◌+◌, List, [], ◌∷◌, ◌++◌, length, get_or, sym, ap, ◌∙◌, subst}
+use Rattle.std.proofs.Common.{◌≡◌, ℕ, ◌+◌, List, [], ◌∷◌, ◌++◌, length, get_or, sym, ap, ◌∙◌, subst, slice_get}
 use Rattle.atomic_table.specs.Seated.{TableId}
 use Rattle.zt_passes.specs.declared.part.Part.{Part}
 use Rattle.zt_passes.specs.Plays.{Sat, alone, part_made, part_drawn, part_counted, part_looked, part_left, Continues}
 use Rattle.zt_passes.specs.Owned.{owned}
 use Rattle.zt_passes.specs.Turns.{Entered}
-use Rattle.zt_passes.proofs.OwnedLists.{owned-more}
+use Rattle.zt_passes.proofs.OwnedLists.{owned-more, owned-at}
 use Rattle.zt_passes.specs.Single.{HasOnePart}
 use Rattle.zt_passes.specs.Passes.{Standing, standing, made_pass, pass_drawn, pass_looked, pass_counted, Finds, Adds}
 
@@ -46,8 +46,16 @@ module _ {S : Type 0} where
 
 module _ {S E O : Type 0} (journal : S → List E) (author : E → ℕ) (state : S → O) (before after : TableId) (p : Part S) (pass : Standing S)
     (is : standing before p ≡ pass) (same : after ≡ before) where
+  finds_at : (x : S) → Continues journal author state x p → Finds journal author (standing before p) x
+  finds_at x c = record {
+    begins = c.begins;
+    mine_same = c.owns;
+    mine_stands = λ k place entry there. owned-at author p.number (journal x) k place entry (ap (λ (es : List (ℕ × E)). slice_get es k) c.owns ∙ there);
+    seen_long = c.seen_long;
+  }
+
   pub finds_of : (x : S) → Continues journal author state x p → Finds journal author pass x
-  finds_of x c = subst (λ (s : Standing S). Finds journal author s x) is (record { begins = c.begins; mine_same = c.owns; seen_long = c.seen_long })
+  finds_of x c = subst (λ (s : Standing S). Finds journal author s x) is (finds_at x c)
 
   pub adds_of : (me : Sat S) (place : ℕ) (entry : E) (turn : Entered journal author state p me place entry) → author entry ≡ p.number
       → Adds journal author pass (standing after (part_left (place + 1) turn.left p)) place entry
@@ -60,7 +68,7 @@ module _ {S E O : Type 0} (journal : S → List E) (author : E → ℕ) (state :
       let c = turn.continues in
       subst (λ (s : Standing S). Adds journal author s (standing after (part_left (place + 1) turn.left p)) place entry) is (record {
         found = turn.taken;
-        finds = record { begins = c.begins; mine_same = c.owns; seen_long = c.seen_long };
+        finds = finds_at turn.taken c;
         placed = turn.placed;
         added = turn.added;
         mine_more = more;

@@ -8,3 +8,5 @@ pub mod Seats
 pub mod Drawing
 pub mod Turns
 pub mod Copies
+pub mod Account
+pub mod Handed

@@ -1,13 +1,13 @@
 -- What is seen of a pass, and how it goes on.
-use Rattle.std.specs.Prelude.{◌≡◌, ℕ, ◌+◌, ◌≤◌, false, List, [], ◌∷◌, ◌++◌, length}
+use Rattle.std.specs.Prelude.{◌≡◌, ℕ, ◌+◌, ◌≤◌, false, List, [], ◌∷◌, ◌++◌, length, slice_get, Some}
 use mathlib.Core.List.{IsPrefix}
 use Rattle.atomic_table.specs.Seated.{TableId}
 use Rattle.zt_passes.specs.declared.part.Part.{Part}
 use Rattle.zt_passes.specs.Owned.{owned}
 
--- Which table it is a pass of; its number, how long it has seen the journal, the count of numbers that it last found,
--- the lengths that it read, the numbers that it drew for others, the value that all passes began with, and the value
--- as it was when this pass last had it.
+-- Which table it is a pass of; its number, how long it has seen the journal, the count of numbers that
+-- it last found, the lengths that it read, the numbers that it drew for others, the value that all
+-- passes began with, and the value as it was when this pass last had it.
 pub record Standing (S : Type 0) : Type 0 where
   pub table : TableId
   pub number : ℕ
@@ -87,10 +87,13 @@ module _ {S E : Type 0} (journal : S → List E) (author : E → ℕ) where
   abbrev pub mine : Standing S → List (ℕ × E)
   mine pass = owned author pass.number (journal pass.found)
 
-  -- The pass had the value, which goes on from what the pass had found before, and has no other entry of it.
+  -- The pass had the value, which goes on from what the pass had found before: the pass's entries stand
+  -- at their places, and there is no other of its number.
   pub record Finds (before : Standing S) (found : S) : Type 0 where
     pub begins : IsPrefix (journal before.found) (journal found)
     pub mine_same : owned author before.number (journal found) ≡ mine before
+    pub mine_stands : (k place : ℕ) (entry : E) → slice_get (mine before) k ≡ Some (place, entry)
+        → slice_get (journal found) place ≡ Some entry
     pub seen_long : before.seen ≤ length (journal found)
 
   -- The pass found a value and added the entry to its journal.

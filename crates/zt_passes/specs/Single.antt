@@ -11,7 +11,8 @@ module _ {S : Type 0} where
   -- the seat has this part and doesn't hold the lock; beside it stand the part's three numbers
   abbrev pub IsAlone : Sat S → ℕ → ℕ → ℕ → Part S → Type 0
   IsAlone me number seen known p =
-      (me ≡ alone p) × ((p.number ≡ number) × ((p.seen ≡ seen) × ((p.known ≡ known) × (p.locked ≡ false))))
+      (me ≡ alone p)
+      × ((p.number ≡ number) × ((p.seen ≡ seen) × ((p.known ≡ known) × (p.locked ≡ false))))
 
   abbrev pub HasOnePart : Sat S → ℕ → ℕ → ℕ → Type 0
   HasOnePart me number seen known = (p : Part S) × IsAlone me number seen known p

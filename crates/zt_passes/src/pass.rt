@@ -5,7 +5,8 @@ use crate::part::{Part, View};
 use atomic_table::Seat;
 use std::marker::Model;
 
-/// The right to call a shared value, for one thread at a time. It has a number, and knows its own entries.
+/// The right to call a shared value, for one thread at a time. It has a number, and knows its own
+/// entries.
 #[derive(Drop)]
 pub struct Pass<J> {
     pub(crate) seat: Seat<J, View<J>>,
@@ -25,14 +26,15 @@ impl<J> Model for Pass<J> {
 
 impl<J> Pass<J> {
     ghost use Rattle.std.specs.Prelude.{◌≡◌, ◌<◌};
-    ghost use Rattle.zt_passes.specs.Passes.{first_pass, standing};
+    ghost use Rattle.zt_passes.specs.Passes.{first_pass, standing, part_of};
     ghost use Rattle.zt_passes.specs.Plays.{alone, part_made};
     ghost use Rattle.zt_passes.specs.Rule.{first_part};
 
     // The pass of a table's first seat.
     pub(crate) fn first(seat: Seat<J, View<J>>) -> Pass<J>
         requires { (value : J) × (seat.me ≡ alone (first_part value)) }
-        ensures { (value : J) → seat.me ≡ alone (first_part value) → result ≡ first_pass seat.table_id value }
+        ensures { (value : J) → seat.me ≡ alone (first_part value)
+            → result ≡ first_pass seat.table_id value }
     {
         Pass {
             seat,
@@ -46,7 +48,8 @@ impl<J> Pass<J> {
     pub(crate) fn made(seat: Seat<J, View<J>>, number: u32, seen: u64) -> Pass<J>
         requires room { number < 4294967295 }
         requires alone { (p : Part J) × (seat.me ≡ alone (part_made number p)) × (p.seen ≡ seen) }
-        ensures { (p : Part J) → seat.me ≡ alone (part_made number p) → result ≡ standing seat.table_id (part_made number p) }
+        ensures { (p : Part J) → seat.me ≡ alone (part_made number p)
+            → result ≡ standing seat.table_id (part_made number p) }
     {
         Pass {
             seat,
@@ -54,6 +57,19 @@ impl<J> Pass<J> {
             seen,
             known: number + 1,
         }
+    }
+
+    // The seat alone.
+    pub(crate) fn into_seat(self) -> Seat<J, View<J>>
+        ensures { (result.table_id ≡ self.table) × (result.me ≡ alone (part_of self)) }
+    {
+        let Pass {
+            seat,
+            number: _,
+            seen: _,
+            known: _,
+        } = self;
+        seat
     }
 
     /// The number by which the journal names this pass; the first is 0.

@@ -38,8 +38,8 @@ impl<J: Recorder> Model for SharedRecorder<J> {
 }
 
 impl<J: Recorder> SharedRecorder<J> {
-    /// A value whose journal is empty, and the pass with number 0. The only error is want of memory, and it drops the
-    /// value.
+    /// Shares a value whose journal is empty, and gives the pass with number 0. The only error is
+    /// want of memory, and it drops the value.
     pub fn new(alloc: Global, value: J) -> Result<(SharedRecorder<J>, Pass<J>), AllocError>
         requires { J.journal value ≡ [] }
         ensures { IfOk result (λ made. made.1 ≡ first_pass made.0 value) }
@@ -64,8 +64,9 @@ impl<J: Recorder> SharedRecorder<J> {
         length
     }
 
-    /// Waits for the lock and makes the call. The receipt tells of the entry that was added, whose place is at least what
-    /// the pass had seen. The only error is want of memory: then nothing was added, and the call is dropped.
+    /// Waits for the lock and makes the call. The receipt tells of the entry that was added, whose
+    /// place is at least what the pass had seen. The only error is want of memory: then nothing was
+    /// added, and the call is dropped.
     pub fn call<R: Wait>(
         &self,
         rt: &R,
@@ -75,7 +76,8 @@ impl<J: Recorder> SharedRecorder<J> {
         requires own { pass.old.table ≡ self.now }
         ensures ok { IfOk result (λ receipt. (place : ℕ) × (entry : J.Entered)
             × Adds J.journal J.author pass.old pass.new place entry
-            × (J.author entry ≡ pass.old.number) × J.is_entry_of call entry × J.tells place entry receipt
+            × (J.author entry ≡ pass.old.number) × J.is_entry_of call entry
+            × J.tells place entry receipt
             × J.is_replay (J.state pass.new.opening) (J.journal pass.new.found)) }
         ensures err { IfErr result (λ _. Finds J.journal J.author pass.old pass.new.found
             × (pass.new ≡ record pass.old { found = pass.new.found })) }
@@ -90,8 +92,8 @@ impl<J: Recorder> SharedRecorder<J> {
         }
     }
 
-    /// Waits for the lock and copies the entry at the place, or answers `None` where the journal is no longer. The pass has
-    /// then seen the journal. The only error is want of memory.
+    /// Waits for the lock and copies the entry at the place, or answers `None` where the journal is
+    /// no longer. The pass has then seen the journal. The only error is want of memory.
     pub fn read_entry<R: Wait>(
         &self,
         rt: &R,
@@ -103,7 +105,8 @@ impl<J: Recorder> SharedRecorder<J> {
         ensures finds { Finds J.journal J.author pass.old pass.new.found }
         ensures looked { let long = length (J.journal pass.new.found) in
             pass.new ≡ pass_looked long (record pass.old { found = pass.new.found }) }
-        ensures copied { IfOk result (λ found. Copies J.journal J.shows pass.new.found place found) }
+        ensures copied { IfOk result (λ found.
+            Copies J.journal J.shows pass.new.found place found) }
         ensures replay { J.is_replay (J.state pass.new.opening) (J.journal pass.new.found) }
     {
         let shared = &self.table.shared;
@@ -112,13 +115,14 @@ impl<J: Recorder> SharedRecorder<J> {
         entry
     }
 
-    /// Makes another pass, which has seen what the given one has. It takes no memory. `Spent` comes where 4294967295
-    /// numbers are found to be drawn, and the given pass keeps that.
+    /// Makes another pass, which has seen what the given one has. It takes no memory. `Spent` comes
+    /// where 4294967295 numbers are found to be drawn, and the given pass keeps that.
     pub fn pass(&self, pass: &mut Pass<J>) -> Result<Pass<J>, Spent>
         requires own { pass.old.table ≡ self.now }
         ensures made { IfOk result (λ made. made ≡ made_pass made.number pass.old) }
         ensures drawn { IfOk result (λ made. pass.new ≡ pass_drawn made.number pass.old) }
-        ensures fresh { IfOk result (λ made. (pass.old.known ≤ made.number) × (made.number < 4294967295)) }
+        ensures fresh { IfOk result (λ made.
+            (pass.old.known ≤ made.number) × (made.number < 4294967295)) }
         ensures spent { IfErr result (λ _. pass.new ≡ pass_counted 4294967295 pass.old) }
     {
         let mut known = pass.known;

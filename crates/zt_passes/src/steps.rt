@@ -26,7 +26,8 @@ fn lock<J: Recorder, R: Wait>(rt: &R, top: &Top<J>, seat: &mut Place<J>)
     requires free { IsFree seat.old.me }
     ensures seat { IsSameSeat seat.old seat.new }
     ensures taken { (p : Part J) → seat.old.me ≡ alone p
-        → (x : J) × (seat.new.me ≡ holding (part_locked x p) x) × Continues J.journal J.author J.state x p }
+        → (x : J) × (seat.new.me ≡ holding (part_locked x p) x)
+        × Continues J.journal J.author J.state x p }
 {
     let backoff = Backoff::new();
     for _ in rt.forever() {
@@ -50,10 +51,12 @@ fn enter<J: Recorder>(
     ensures seat { IsSameSeat seat.old seat.new }
     ensures ok { IfOk result (λ receipt. (p : Part J) (x : J) → seat.old.me ≡ holding p x
         → (y : J) × (seat.new.me ≡ holding p y) × (J.state y ≡ J.state x) × ((entry : J.Entered)
-        × (J.journal y ≡ J.journal x ++ entry ∷ []) × (J.author entry ≡ number) × J.is_entry_of call entry
-        × J.tells (length (J.journal x)) entry receipt × J.is_replay (J.state y) (J.journal y) × (length (J.journal y) < 2 ^ 64))) }
+        × (J.journal y ≡ J.journal x ++ entry ∷ []) × (J.author entry ≡ number)
+        × J.is_entry_of call entry × J.tells (length (J.journal x)) entry receipt
+        × J.is_replay (J.state y) (J.journal y) × (length (J.journal y) < 2 ^ 64))) }
     ensures err { IfErr result (λ _. (p : Part J) (x : J) → seat.old.me ≡ holding p x
-        → (y : J) × (seat.new.me ≡ holding p y) × (J.state y ≡ J.state x) × (J.journal y ≡ J.journal x)) }
+        → (y : J) × (seat.new.me ≡ holding p y) × (J.state y ≡ J.state x)
+        × (J.journal y ≡ J.journal x)) }
 {
     let value = seat.slot_mut(top, 0);
     value.enter(number, call)
@@ -65,7 +68,8 @@ fn publish<J: Recorder>(top: &Top<J>, seat: &mut Place<J>) -> u64
     requires ahead { IsAhead J.journal J.author J.state seat.old.me }
     ensures seat { IsSameSeat seat.old seat.new }
     ensures told { (p : Part J) (x : J) → seat.old.me ≡ holding p x
-        → (seat.new.me ≡ holding (part_entered (result + 1) x p) x) × (result ≡ length (J.journal p.found)) × (p.seen ≤ result) }
+        → (seat.new.me ≡ holding (part_entered (result + 1) x p) x)
+        × (result ≡ length (J.journal p.found)) × (p.seen ≤ result) }
 {
     top.fetch_add::<Publish>(seat, 0, 1)
 }
@@ -75,7 +79,8 @@ fn release<J: Recorder>(top: &Top<J>, seat: &mut Place<J>)
     requires table { IsSeatOf top.now.table_id seat.old }
     requires may { MayRelease J.journal J.state seat.old.me }
     ensures seat { IsSameSeat seat.old seat.new }
-    ensures told { (p : Part J) (x : J) → seat.old.me ≡ holding p x → seat.new.me ≡ alone (part_released p) }
+    ensures told { (p : Part J) (x : J) → seat.old.me ≡ holding p x
+        → seat.new.me ≡ alone (part_released p) }
 {
     top.swap::<Release>(seat, 2, 0);
 }
@@ -98,7 +103,8 @@ pub(crate) fn count<J: Recorder>(top: &Top<J>, seat: &mut Place<J>) -> u64
     requires one { (p : Part J) × (seat.old.me ≡ alone p) }
     ensures seat { IsSameSeat seat.old seat.new }
     ensures told { (p : Part J) → seat.old.me ≡ alone p
-        → (seat.new.me ≡ alone (part_counted result p)) × (p.known ≤ result) × (result ≤ 4294967295) }
+        → (seat.new.me ≡ alone (part_counted result p)) × (p.known ≤ result)
+        × (result ≤ 4294967295) }
 {
     top.load::<Count>(seat, 1)
 }
@@ -112,13 +118,16 @@ pub(crate) fn call<J: Recorder, R: Wait>(
     call: J::Call,
 ) -> Result<(u64, J::Receipt), AllocError>
     requires table { IsSeatOf top.now.table_id seat.old }
-    requires free { (p : Part J) × (seat.old.me ≡ alone p) × (p.locked ≡ false) × (p.number ≡ number) }
+    requires free { (p : Part J) × (seat.old.me ≡ alone p) × (p.locked ≡ false)
+        × (p.number ≡ number) }
     ensures seat { IsSameSeat seat.old seat.new }
     ensures ok { IfOk result (λ made. (p : Part J) → seat.old.me ≡ alone p
-        → (entry : J.Entered) × (turn : Entered J.journal J.author J.state p seat.new.me made.0 entry)
+        → (entry : J.Entered)
+        × (turn : Entered J.journal J.author J.state p seat.new.me made.0 entry)
         × (J.author entry ≡ number) × J.is_entry_of call entry × J.tells made.0 entry made.1
         × J.is_replay (J.state turn.left) (J.journal turn.left)) }
-    ensures err { IfErr result (λ _. (p : Part J) → seat.old.me ≡ alone p → WasIn J.journal J.author J.state p seat.new.me) }
+    ensures err { IfErr result (λ _. (p : Part J) → seat.old.me ≡ alone p
+        → WasIn J.journal J.author J.state p seat.new.me) }
 {
     lock(rt, top, seat);
     match enter(top, seat, number, call) {
@@ -147,7 +156,8 @@ fn copy<J: Recorder>(
     ensures same { seat.new.me ≡ seat.old.me }
     ensures copied { (p : Part J) (x : J) → seat.old.me ≡ holding p x
         → IfOk result (λ found. Copies J.journal J.shows x place found) }
-    ensures replay { (p : Part J) (x : J) → seat.old.me ≡ holding p x → J.is_replay (J.state x) (J.journal x) }
+    ensures replay { (p : Part J) (x : J) → seat.old.me ≡ holding p x
+        → J.is_replay (J.state x) (J.journal x) }
 {
     let value = seat.slot_mut(top, 0);
     value.entry(alloc, place)
@@ -190,7 +200,8 @@ pub(crate) fn draw<J: Recorder>(top: &Top<J>, seat: &mut Place<J>, number: u32) 
     requires next { (p : Part J) × (seat.old.me ≡ alone p) × (p.known ≡ number) }
     requires room { number < 4294967295 }
     ensures seat { IsSameSeat seat.old seat.new }
-    ensures told { (p : Part J) → seat.old.me ≡ alone p → Draws seat.old.table_id number p seat.new.me result }
+    ensures told { (p : Part J) → seat.old.me ≡ alone p
+        → Draws seat.old.table_id number p seat.new.me result }
 {
     let found = top.compare_exchange::<Draw>(seat, 1, number as u64, number as u64 + 1);
     if found == number as u64 {
