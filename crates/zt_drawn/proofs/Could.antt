@@ -165,10 +165,10 @@ module _ {K : Type 0} (cmp : K → K → Ordering) (matching : K → K → Bool)
       omega arith
 
   -- a target is one of those that an interest was sent to
-  pub sent_some : (g : Rows K) (asker : Region) (mode : InterestMode) (fs : List (Face K)) → Each (λ f. is_target g asker mode f ≡ true → 1 ≤ length (map (λ (k : Face K). (k.number, k.next)) (filter (is_target g asker mode) fs))) fs
+  pub sent_some : (g : Rows K) (asker : Region) (mode : InterestMode) (fs : List (Face K)) → Each (λ f. is_target g asker mode f ≡ true → 1 ≤ length {A = ℕ × ℕ} (map (λ (k : Face K). (k.number, k.next)) (filter (is_target g asker mode) fs))) fs
   sent_some g asker mode [] = tt
   sent_some g asker mode (f ∷ fs) =
-      let sends = λ (xs : List (Face K)). length (map (λ (k : Face K). (k.number, k.next)) (filter (is_target g asker mode) xs)) in
+      let sends : List (Face K) → ℕ = λ xs. length {A = ℕ × ℕ} (map (λ (k : Face K). (k.number, k.next)) (filter (is_target g asker mode) xs)) in
       ((λ here. rw here (omega arith)), each_weaker (λ k. is_target g asker mode k ≡ true → 1 ≤ sends fs) (λ k. is_target g asker mode k ≡ true → 1 ≤ sends (f ∷ fs)) (λ k one there. let up : 1 ≤ sends fs = one there in by_test (is_target g asker mode f) (λ here. rw here (omega arith)) (λ here. rw here up)) fs (sent_some g asker mode fs))
 
   -- ---- an opening

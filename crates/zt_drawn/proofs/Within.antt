@@ -20,7 +20,7 @@ use Rattle.zt_protocol.specs.declared.interests.InterestMode.{InterestMode}
 use Rattle.zt_protocol.specs.declared.interests.InterestOptions.{InterestOptions}
 use Rattle.zt_model.specs.Entities.{numbered_by, with_numbers}
 use Rattle.zt_model.specs.Lists.{has_id, same}
-use Rattle.zt_model.specs.Refusals.{Causes, adds_row, answers_nothing, asks_upstream, call_causes, could, could_spend_ids, faces_with, first_cause, ids_for_interest, ids_for_opening, ids_for_target, ids_for_token, is_answered_anew, is_token_id_in_use, is_unknown_ask, is_unknown_router, left_ids, need, spends_ids, would_send}
+use Rattle.zt_model.specs.Refusals.{Causes, adds_row, answers_nothing, asks_upstream, call_causes, can_draw, could, could_spend_ids, faces_with, first_cause, ids_for_interest, ids_for_opening, ids_for_target, ids_for_token, is_answered_anew, is_token_id_in_use, is_unknown_ask, is_unknown_router, left_ids, need, spends_ids, would_send}
 use Rattle.zt_model.specs.Routing.{asked_as, face_opened, held_south, is_greeted, is_target, opened, opening_interests, opening_tokens, sent_as}
 use Rattle.zt_model.specs.Rows.{Ask, ById, Face, InterestRow, Rows}
 use Rattle.zt_model.specs.Says.{answered_expressions, find_face, is_routed, is_told, registered, registers, row_of, with_face}
@@ -141,6 +141,7 @@ module _ {K : Type 0} (cmp : K → K → Ordering) (matching : K → K → Bool)
 
     interest_could : (n id : ℕ) (mode : InterestMode) (options : InterestOptions) (e : Option K) (from : Face K) (g : Rows K) → find_face n g ≡ Some from
         → Each (λ f. ids_for_interest cmp matching n mode options e g f + (if is_target g from.region mode f then 1 else 0) ≤ could_from cmp matching (with_interest cmp n id (sent_as g from.region mode) (interest_kept from mode options e) g) f) g.faces
+    unfolding sent_as
     interest_could n id mode options e from g found =
         let interest = interest_kept from mode options e in
         let pendings = sent_as g from.region mode in
@@ -149,7 +150,7 @@ module _ {K : Type 0} (cmp : K → K → Ordering) (matching : K → K → Bool)
         let live_ = (with_face_same n (asked_as pendings id interest) h (λ f. refl) (λ f. refl)).live in
         each_weaker (λ f. is_target g from.region mode f ≡ true → 1 ≤ length pendings) (λ f. ids_for_interest cmp matching n mode options e g f + (if is_target g from.region mode f then 1 else 0) ≤ could_from cmp matching after f)
         (λ f some.
-        let more = if is_target g from.region mode f then 1 else 0 in
+        let more : ℕ = if is_target g from.region mode f then 1 else 0 in
         let less : more ≤ sum_by (λ x. length x.held) after.faces + sum_by (asks_upstream cmp matching) after.faces =
         of_cond (λ k. k ≤ sum_by (λ x. length x.held) after.faces + sum_by (asks_upstream cmp matching) after.faces) (is_target g from.region mode f) 1 0 (λ target. asked_could cmp matching pendings n id interest from h found (some target)) (λ _. omega arith) in
         let answers = answers_could cmp matching (row_of cmp matching f mode options e) g after f more (visible_as cmp matching g after f.region live_) less in
@@ -217,9 +218,11 @@ module _ {K : Type 0} (cmp : K → K → Ordering) (matching : K → K → Bool)
         from_north : (i : ℕ) (o : Option ℕ) (north : Bool) → (is_some o && not north) ≡ false → o ≡ Some i → north ≡ true
         from_north i o north h is = not-false north (sym (ap (λ (p : Option ℕ). is_some p && not north) is) ∙ h)
     need_within_could (Interest n id mode options e) g spent sound =
+        let sends : Option (Face K) → List (ℕ × ℕ) = λ p. elim p [ None ↦ [] | Some k ↦ sent_as g k.region mode ] in
         elim (find_face n g) as (λ o. find_face n g ≡ o
-        → Each (λ f. ids_for_interest cmp matching n mode options e g f + elim o [ None ↦ 0 | Some from ↦ if is_target g from.region mode f then 1 else 0 ]
-        ≤ could_from cmp matching (elim o [ None ↦ g | Some from ↦ with_interest cmp n id (elim o [ None ↦ [] | Some k ↦ sent_as g k.region mode ]) (interest_kept from mode options e) g ]) f) g.faces) [
+        → (let sent = sends o in
+        Each (λ f. ids_for_interest cmp matching n mode options e g f + elim o [ None ↦ 0 | Some from ↦ if is_target g from.region mode f then 1 else 0 ]
+        ≤ could_from cmp matching (elim o [ None ↦ g | Some from ↦ with_interest cmp n id sent (interest_kept from mode options e) g ]) f) g.faces)) [
           | None ↦ λ found. never (ap is_none found) (not_yet _ _ _ (λ h. cc) spent).0
           | Some from ↦ λ found. interest_could n id mode options e from g found
         ] refl
@@ -235,3 +238,16 @@ module _ {K : Type 0} (cmp : K → K → Ordering) (matching : K → K → Bool)
     pub opening_within_could : (zid : Zid) (whatami : WhatAmI) (region : Region) (bound : Bound) (first : ℕ) (g : Rows K) → Each (λ f. f.number ≤ g.made) g.faces → Within (NewTransport zid whatami region bound first) g
     unfolding need could rows_shown
     opening_within_could zid whatami region bound first g made = opening_could zid whatami region bound first g made
+
+    -- where the ids needed aren't left, those that could be drawn aren't
+    pub spends_could : (c : PlainCall K) (g : Rows K) → can_draw cmp matching c ≡ true → Within c g → spends_ids cmp matching c g ≡ true → could_spend_ids cmp matching c g ≡ true
+    unfolding spends_ids could_spend_ids
+    spends_could c g draws within spent =
+        let lacks = λ (k : Face K → ℕ) (f : Face K). not (is_routed g f) && nat_lt (left_ids f) (k f) in
+        and_from (can_draw cmp matching c) (list_any (lacks (could cmp matching c g)) (faces_with cmp matching c g)) draws
+        (any_weaker_of (λ f. need cmp matching c g f ≤ could cmp matching c g f) (lacks (need cmp matching c g)) (lacks (could cmp matching c g))
+        (λ f less both.
+        let parts = and_parts (not (is_routed g f)) (nat_lt (left_ids f) (need cmp matching c g f)) both in
+        let short : left_ids f < need cmp matching c g f = ltb-true (left_ids f) (need cmp matching c g f) parts.1 in
+        and_from (not (is_routed g f)) (nat_lt (left_ids f) (could cmp matching c g f)) parts.0 (lt-ltb (left_ids f) (could cmp matching c g f) (omega arith)))
+        (faces_with cmp matching c g) within spent)
