@@ -179,9 +179,10 @@ module _ {K : Type 0} (cmp : K → K → Ordering) where
           let thr = hears cmp matching ss3 g2 in
           let live_h1 : live_rows h1 ≡ live_rows g = (with_face_same n (asked_as pendings id interest) g3 (λ f. refl) (λ f. refl)).live ∙ live_rows_heard cmp ss3 g2 ∙ live_rows_heard cmp ss2 g1 in
           let at_two = each_weaker (λ f. false ≡ false → messages_for f.number ss2 ≡ route_to g1 asker interest f) (λ f. ((two f).next ≡ f.next + target f) × ((two f).told ≡ f.told))
-          (λ f says.
-          (ap (λ ms. (heard_all cmp g1.moment ms f).next) (says refl) ∙ route_next g1 asker interest f ∙ ap (λ b. f.next + (if b then 1 else 0)) (target_numbered (numbered_by cmp interest) g asker mode f),
-          told_left g1.moment (messages_for f.number ss2) f (each_message_for cmp TellsNone f.number ss2 (each_ruled TellsNone (route_to g1 asker interest) g1.faces (route_tells_none g1 asker interest)))))
+          (λ f says. (
+            ap (λ ms. (heard_all cmp g1.moment ms f).next) (says refl) ∙ route_next g1 asker interest f ∙ ap (λ b. f.next + (if b then 1 else 0)) (target_numbered (numbered_by cmp interest) g asker mode f),
+            told_left g1.moment (messages_for f.number ss2) f (each_message_for cmp TellsNone f.number ss2 (each_ruled TellsNone (route_to g1 asker interest) g1.faces (route_tells_none g1 asker interest))),
+          ))
           g1.faces (speaks_each cmp matching nobody (route_to g1 asker interest) g1 o1) in
           let at_three = each_of_map (λ k. (thr k).next ≡ k.next) two g1.faces (drawn_silent cmp matching ss3 g2 o2 silent3) in
           let ordered_three = each_of_map (λ k. IsToldInOrder cmp (thr k).told (thr k).next) two g1.faces (each_of_map (λ k. IsToldInOrder cmp k.told k.next) thr (map two g1.faces) o3.told) in

@@ -173,15 +173,14 @@ module _ {K : Type 0} (cmp : K → K → Ordering) (matching : K → K → Bool)
         (λ f up.
         let other : (f.number == g.made + 1) ≡ false = ne_eqb f.number (g.made + 1) (λ is. omega arith) in
         let zero_ : ids_for_opening cmp matching g f ≡ 0 = ap (λ b. if b then length (opening_interests cmp matching g f) + length (opening_tokens cmp matching g f) else 0) other in
-        omega arith) g.faces made)
-        (
+        omega arith) g.faces made) (
           let own : (new_.number == g.made + 1) ≡ true = eq-eqb (g.made + 1) (g.made + 1) refl in
-          let sum : ids_for_opening cmp matching g new_ ≡ length (opening_interests cmp matching g new_) + length (opening_tokens cmp matching g new_) = ap (λ b. if b then length (opening_interests cmp matching g new_) + length (opening_tokens cmp matching g new_) else 0) own in
-          let lacks = nothing_kept cmp matching after new_ refl in
-          let seen : length (visible_expressions cmp after new_.region) ≡ length (visible_expressions cmp g new_.region) = ap length (visible_as cmp matching g after new_.region (new_same new_ g refl refl refl).live) in
-          let tokens : length (opening_tokens cmp matching g new_) ≤ length (visible_expressions cmp g new_.region) = of_cond (λ (es : List K). length es ≤ length (visible_expressions cmp g new_.region)) (is_greeted cmp matching g new_) (visible_expressions cmp g new_.region) [] (λ _. omega arith) (λ _. omega arith) in
-          let asked_ : length (opening_interests cmp matching g new_) ≤ length (held_south cmp matching g) = of_cond (λ (is : List (InterestRow K)). length is ≤ length (held_south cmp matching g)) (is_greeted cmp matching g new_ && bound_eq new_.bound SouthBound) (held_south cmp matching g) [] (λ _. omega arith) (λ _. omega arith) in
-          omega arith,
+              let sum : ids_for_opening cmp matching g new_ ≡ length (opening_interests cmp matching g new_) + length (opening_tokens cmp matching g new_) = ap (λ b. if b then length (opening_interests cmp matching g new_) + length (opening_tokens cmp matching g new_) else 0) own in
+              let lacks = nothing_kept cmp matching after new_ refl in
+              let seen : length (visible_expressions cmp after new_.region) ≡ length (visible_expressions cmp g new_.region) = ap length (visible_as cmp matching g after new_.region (new_same new_ g refl refl refl).live) in
+              let tokens : length (opening_tokens cmp matching g new_) ≤ length (visible_expressions cmp g new_.region) = of_cond (λ (es : List K). length es ≤ length (visible_expressions cmp g new_.region)) (is_greeted cmp matching g new_) (visible_expressions cmp g new_.region) [] (λ _. omega arith) (λ _. omega arith) in
+              let asked_ : length (opening_interests cmp matching g new_) ≤ length (held_south cmp matching g) = of_cond (λ (is : List (InterestRow K)). length is ≤ length (held_south cmp matching g)) (is_greeted cmp matching g new_ && bound_eq new_.bound SouthBound) (held_south cmp matching g) [] (λ _. omega arith) (λ _. omega arith) in
+              omega arith,
           tt,
         )
 
