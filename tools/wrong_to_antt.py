@@ -78,6 +78,16 @@ WHOLES = {
     'machine': ('IsNotTheMachines', "the machine's own entries"),
 }
 
+# what a wrong transcript keeps: the promise, the line, and the proof
+KEEPS = {
+    'upstream_under_another_id': (
+        'SendsFinals', 5, 'record { asks = ((tt, ((refl, tt), tt)), tt); no_others = (refl, tt); come_last = ((tt, ((refl, tt), tt)), tt) }'),
+}
+
+# the words of zt_model for those of the crate
+NAMED = {'HasItsCause': 'IsRefusedByCause', 'LacksItsIds': 'LacksIdsByCall', 'IsInForm': 'IsEntry', 'NamesOpen': 'NamesOpenFaces', 'KeepsRightly': 'KeepsWhatItShould',
+         'LacksEntries': 'IsFaithfulFrom', 'HasOtherTotals': 'report_of', 'IsNotTheMachines': 'entries_from'}
+
 class Wrong:
     def __init__(self, base):
         self.base, self.name = base, scripts.name_of(base)
@@ -94,6 +104,12 @@ class Wrong:
     def statement(self, part):
         if self.word in WHOLES: return '%s %s.%s' % (WHOLES[self.word][0], part, self.name)
         return 'Refuses %s %s %s.%s' % (BREAKS[self.word][0], self.places[0], part, self.name)
+    def laws(self, part):
+        """Each law with its name and statement, and its proof."""
+        yield self.name, self.statement(part), 'λ h. ' + self.proof()
+        if self.name in KEEPS:
+            promise, line, proof = KEEPS[self.name]
+            yield self.name + '_keeps', 'Allows %s %d %s.%s' % (promise, line, part, self.name), proof
     def proof(self):
         if self.word in BREAKS: return BREAKS[self.word][2](self.key, self.entries[int(self.places[0]) - 1], *self.places[1:])
         if self.word == 'entries': return 'h' + '.3' * len(self.entries)
@@ -117,7 +133,7 @@ $laws''')
 LAW = Template('''-- $says
 pub $name : $statement
 unfolding opened
-$name = λ h. $proof
+$name = $proof
 ''')
 
 NAMES = '''use Rattle.std.proofs.Common.{⊎_elim, Some, None, refl, ap}
@@ -132,7 +148,7 @@ use Rattle.zt_promises_test.proofs.Opened.{opened}
 '''
 OF_TURNS = ['KeepsExactly', 'IsSparing', 'IsMoreSparing', 'TellsTheFuture', 'TellsOfRouters', 'AnswersAsks', 'SendsFinals', 'FinishesInitial',
             'SendsUpstream', 'EndsUpstream', 'UndeclaresWhatIsGone', 'UndeclaresWhatWasKept', 'DrawsNextIds', 'EndsWhatStands']
-OF_ENTRIES = ['Refuses', 'HasItsCause', 'LacksItsIds', 'IsInForm', 'NamesOpen', 'KeepsRightly', 'LacksEntries', 'HasOtherTotals', 'IsNotTheMachines']
+OF_ENTRIES = ['Refuses', 'Allows', 'HasItsCause', 'LacksItsIds', 'IsInForm', 'NamesOpen', 'KeepsRightly', 'LacksEntries', 'HasOtherTotals', 'IsNotTheMachines']
 
 FUNCTION = Template('''
 /// The promises refuse these transcripts.
@@ -192,10 +208,10 @@ def parts_of(wrongs):
 def write_part(n, part):
     body = '\n'.join(wrong.definition for wrong in part)
     write('specs/Part%d.antt' % n, DEFINITIONS.substitute(made=MADE, names=scripts.used(scripts.NAMES, body), definitions=body))
-    laws = '\n'.join(LAW.substitute(says=wrong.says, name=wrong.name, statement=wrong.statement('part'), proof=wrong.proof()) for wrong in part)
+    laws = '\n'.join(LAW.substitute(says=wrong.says, name=name, statement=statement, proof=proof) for wrong in part for name, statement, proof in wrong.laws('part'))
     names = Template(NAMES % (', '.join(OF_TURNS), ', '.join(OF_ENTRIES))).substitute(n=n)
     write('proofs/Part%d.antt' % n, LAWS.substitute(made=MADE, names=used(names, laws), laws=laws))
-    clauses = ''.join('  %s = law.%s;\n' % (wrong.name, wrong.name) for wrong in part)
+    clauses = ''.join('  %s = law.%s;\n' % (name, name) for wrong in part for name, _, _ in wrong.laws('part'))
     write('proofs/part_%d_is_refused/Answers.antt' % n, ANSWERS.substitute(made=MADE, n=n, clauses=clauses))
 
 def write_opened():
@@ -215,7 +231,7 @@ def write_crate(wrongs):
     modules = ''.join('pub mod Part%d\n' % n for n, _ in parts)
     write('proofs/Lib.antt', 'pub mod Apart\npub mod Opened\n' + modules)
     write('specs/Lib.antt', 'pub mod Wrong\n' + modules)
-    clauses = lambda n, part: ''.join('    ensures %s { %s }\n' % (wrong.name, wrong.statement('part%d' % n)) for wrong in part)
+    clauses = lambda n, part: ''.join('    ensures %s { %s }\n' % (name, statement) for wrong in part for name, statement, _ in wrong.laws('part%d' % n))
     functions = ''.join(FUNCTION.substitute(n=n, clauses=clauses(n, part)) for n, part in parts)
     here = lambda names: ', '.join(name for name in names if re.search(r'\b%s\b' % name, functions))
     uses = 'ghost use Rattle.zt_model.specs.Promises.{%s};\nghost use Rattle.zt_promises_test.specs.Wrong.{%s};\n' % (here(OF_TURNS), here(OF_ENTRIES))
@@ -227,7 +243,7 @@ def table(wrongs):
     for wrong in wrongs:
         promise, part = wrong.promise()
         line = 'line %s' % wrong.places[0] if wrong.places else 'the whole'
-        print('| %s | %s | `%s`%s | %s |' % (os.path.basename(wrong.base), wrong.says, promise, ', ' + part if part else '', line))
+        print('| %s | %s | `%s`%s | %s |' % (os.path.basename(wrong.base), wrong.says, NAMED.get(promise, promise), ', ' + part if part else '', line))
 
 def main(words):
     printing = words[:1] == ['--table']

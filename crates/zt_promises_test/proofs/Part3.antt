@@ -1,8 +1,8 @@
 -- The laws of these wrong transcripts, by evaluation.
 -- Written by tools/wrong_to_antt.py; change the transcripts or the tool, and not this file.
 use Rattle.std.proofs.Common.{refl, ap}
-use Rattle.zt_model.specs.Promises.{IsSparing, UndeclaresWhatIsGone, UndeclaresWhatWasKept, DrawsNextIds}
-use Rattle.zt_promises_test.specs.Wrong.{Refuses, HasItsCause, KeepsRightly, HasOtherTotals}
+use Rattle.zt_model.specs.Promises.{IsSparing, SendsFinals, UndeclaresWhatIsGone, UndeclaresWhatWasKept, DrawsNextIds}
+use Rattle.zt_promises_test.specs.Wrong.{Refuses, Allows, HasItsCause, KeepsRightly, HasOtherTotals}
 use Rattle.zt_promises_test.specs.Part3 as part
 use Rattle.zt_promises_test.proofs.Apart.{never, other_number, other_cause, lines_of}
 use Rattle.zt_promises_test.proofs.Opened.{opened}
@@ -41,6 +41,11 @@ untold_what_is_wanted = λ h. never ((h.0.0 refl).admitted_is_kept 0 refl refl) 
 pub upstream_under_another_id : Refuses DrawsNextIds 4 part.upstream_under_another_id
 unfolding opened
 upstream_under_another_id = λ h. never h.0.0.0 refl
+
+-- asks upstream under another id than the next one; all finals hold
+pub upstream_under_another_id_keeps : Allows SendsFinals 5 part.upstream_under_another_id
+unfolding opened
+upstream_under_another_id_keeps = record { asks = ((tt, ((refl, tt), tt)), tt); no_others = (refl, tt); come_last = ((tt, ((refl, tt), tt)), tt) }
 
 -- undeclares by expression what is visible
 pub visible_undeclared : Refuses UndeclaresWhatIsGone 6 part.visible_undeclared

@@ -22,6 +22,15 @@ abbrev pub Refuses : Promise → ℕ → Script → Type 0
 Refuses promise n s =
     Breaks (promise nat_cmp (matching_in s)) (nth n (turns_from nat_cmp (matching_in s) s.lines s.entries empty_fabric))
 
+abbrev pub Meets : (Turn ℕ → Type 0) → Option (Turn ℕ) → Type 0
+Meets promise None = ⊥
+Meets promise (Some t) = promise t
+
+-- the promise holds of the entry of this line
+abbrev pub Allows : Promise → ℕ → Script → Type 0
+Allows promise n s =
+    Meets (promise nat_cmp (matching_in s)) (nth n (turns_from nat_cmp (matching_in s) s.lines s.entries empty_fabric))
+
 -- ---- what holds of each entry of a transcript, as promises of its turn
 
 module _ (cmp : ℕ → ℕ → Ordering) (matching : ℕ → ℕ → Bool) (t : Turn ℕ) where

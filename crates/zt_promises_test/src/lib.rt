@@ -5,7 +5,7 @@
 #![tactic(auto)]
 
 ghost use Rattle.zt_model.specs.Promises.{KeepsExactly, IsSparing, IsMoreSparing, TellsTheFuture, TellsOfRouters, AnswersAsks, SendsFinals, FinishesInitial, SendsUpstream, EndsUpstream, UndeclaresWhatIsGone, UndeclaresWhatWasKept, DrawsNextIds, EndsWhatStands};
-ghost use Rattle.zt_promises_test.specs.Wrong.{Refuses, HasItsCause, LacksItsIds, IsInForm, NamesOpen, KeepsRightly, LacksEntries, HasOtherTotals, IsNotTheMachines};
+ghost use Rattle.zt_promises_test.specs.Wrong.{Refuses, Allows, HasItsCause, LacksItsIds, IsInForm, NamesOpen, KeepsRightly, LacksEntries, HasOtherTotals, IsNotTheMachines};
 ghost use Rattle.zt_promises_test.specs.Part1 as part1;
 ghost use Rattle.zt_promises_test.specs.Part2 as part2;
 ghost use Rattle.zt_promises_test.specs.Part3 as part3;
@@ -66,5 +66,6 @@ pub fn part_3_is_refused()
     ensures unknown_face_accepted { Refuses HasItsCause 3 part3.unknown_face_accepted }
     ensures untold_what_is_wanted { Refuses KeepsRightly 6 part3.untold_what_is_wanted }
     ensures upstream_under_another_id { Refuses DrawsNextIds 4 part3.upstream_under_another_id }
+    ensures upstream_under_another_id_keeps { Allows SendsFinals 5 part3.upstream_under_another_id }
     ensures visible_undeclared { Refuses UndeclaresWhatIsGone 6 part3.visible_undeclared }
 {}

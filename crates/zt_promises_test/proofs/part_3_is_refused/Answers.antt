@@ -11,5 +11,6 @@ returns g = record {
   unknown_face_accepted = law.unknown_face_accepted;
   untold_what_is_wanted = law.untold_what_is_wanted;
   upstream_under_another_id = law.upstream_under_another_id;
+  upstream_under_another_id_keeps = law.upstream_under_another_id_keeps;
   visible_undeclared = law.visible_undeclared;
 }
