@@ -1,6 +1,6 @@
 -- What a call needs is within what it could draw at the most, as a transcript shows it.
-use Rattle.std.proofs.Common.{◌≡◌, ℕ, suc, ◌+◌, ◌≤◌, ◌<◌, Bool, true, false, not, nat_lt, if◌then◌else◌, ◌&&◌, ◌||◌, ◌==◌, List, [], ◌∷◌, ◌++◌, length, sum_by, map, filter, Option, Some, None, is_none, refl, sym, ap, ◌∙◌, subst, arith, le_trans, length-append, lt-ltb}
-use Rattle.std.proofs.lemmas.Bool.{and_parts, and_from, or_left, or_right, or_cases, not-true, not_from_false}
+use Rattle.std.proofs.Common.{◌≡◌, ℕ, ◌+◌, ◌≤◌, Bool, true, false, not, nat_lt, if◌then◌else◌, ◌&&◌, ◌||◌, ◌==◌, List, [], ◌∷◌, length, sum_by, map, filter, Some, refl, sym, ap, ◌∙◌, subst, arith, le_trans, length-append, lt-ltb}
+use Rattle.std.proofs.lemmas.Bool.{and_parts, and_from, or_left, or_right, not-true, not_from_false}
 use Rattle.std.proofs.lemmas.List.{length-map}
 use Rattle.std.proofs.lemmas.List.Sums.{sum_by-cons}
 use Rattle.std.specs.Cmp.{IsTotalOrder}
@@ -18,9 +18,9 @@ use Rattle.zt_protocol.specs.declared.interests.InterestMode.TheVariants.{Curren
 use Rattle.zt_model.specs.Hearing.{put_if}
 use Rattle.zt_model.specs.Lists.{first_where, in_key_order, is_among, same, with_key}
 use Rattle.zt_model.specs.Refusals.{asks_upstream}
-use Rattle.zt_model.specs.Routing.{asked_as, held_south, interest_order, is_target, sent_as}
+use Rattle.zt_model.specs.Routing.{asked_as, held_south, interest_order, is_target}
 use Rattle.zt_model.specs.Rows.{Ask, ById, Face, InterestRow, Rows}
-use Rattle.zt_model.specs.Says.{answered_expressions, find_face, is_routed, is_told, row_of, with_face}
+use Rattle.zt_model.specs.Says.{answered_expressions, find_face, is_routed, is_told, with_face}
 use Rattle.zt_model.specs.Transcript.{Each}
 use Rattle.zt_model.specs.Visible.{is_visible, keeps, shows, visible_expressions}
 use Rattle.zt_model.specs.Wants.{is_about, seeks}

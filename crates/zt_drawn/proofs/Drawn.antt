@@ -1,13 +1,11 @@
 -- Each call that is carried out draws, for each face, as many ids as it needs for it.
-use Rattle.std.proofs.Common.{◌≡◌, ℕ, ◌+◌, ◌≤◌, ◌<◌, Bool, true, false, cond, not, if◌then◌else◌, ◌&&◌, ◌||◌, ◌==◌, List, [], ◌∷◌, ◌++◌, length, map, filter, Option, Some, None, is_none, is_some, refl, sym, ap, ◌∙◌, subst, arith, eqb-true, ne_eqb, add_assoc}
+use Rattle.std.proofs.Common.{◌≡◌, ℕ, ◌+◌, ◌≤◌, Bool, true, false, not, if◌then◌else◌, ◌&&◌, ◌||◌, ◌==◌, List, [], ◌∷◌, ◌++◌, map, filter, Option, Some, None, refl, sym, ap, ◌∙◌, subst, arith, eqb-true, ne_eqb, add_assoc}
 use Rattle.std.proofs.Math.Bool.{or-false}
 use Rattle.std.proofs.lemmas.Bool.{and_parts}
 use Rattle.std.specs.Cmp.{IsTotalOrder}
 use Rattle.std.specs.List.{flat_map, list_any}
 use Rattle.std.specs.declared.cmp.Ordering.{Ordering}
-use Rattle.std.specs.declared.cmp.Ordering.TheVariants.{Equal}
 use Rattle.zt_region.specs.declared.region.Region.{Region}
-use Rattle.zt_region.specs.declared.region.Zid.{Zid}
 use Rattle.zt_region.specs.Admission.{admits}
 use Rattle.zt_protocol.specs.Interest.{is_future}
 use Rattle.zt_protocol.specs.declared.interests.InterestMode.{InterestMode}
@@ -15,25 +13,25 @@ use Rattle.zt_protocol.specs.declared.messages.Message.{Message}
 use Rattle.zt_protocol.specs.declared.messages.Message.TheVariants as message
 use Rattle.zt_model.specs.Hearing.{heard, heard_all, messages_for, rows_heard, told_pair}
 use Rattle.zt_model.specs.Lists.{at_id, has_id, same}
-use Rattle.zt_model.specs.Refusals.{ids_for_token, is_answered_anew}
+use Rattle.zt_model.specs.Refusals.{is_answered_anew}
 use Rattle.zt_model.specs.Rows.{Ask, ById, Face, Pending, Rows}
-use Rattle.zt_model.specs.Says.{Alter, Part, Say, Sends, answering, answers_from, declaring, declaring_of, find_face, is_routed, is_told, registered, registers, tell_to, to_each, told_id, with_face}
+use Rattle.zt_model.specs.Says.{Alter, Part, Say, Sends, answering, answers_from, declaring, find_face, is_routed, is_told, registered, registers, tell_to, to_each, told_id, with_face}
 use Rattle.zt_model.specs.Strategy.{is_router_hat, strategy_of}
 use Rattle.zt_model.specs.Telling.{answer_to, is_answered_by, was_sent_as}
 use Rattle.zt_model.specs.Transcript.{Each}
-use Rattle.zt_model.specs.Trees.{is_newly_shown, pass_to, router_regions, show_to, showing, with_own_rows, with_routed}
+use Rattle.zt_model.specs.Trees.{is_newly_shown, router_regions, show_to, showing}
 use Rattle.zt_model.specs.Visible.{keeps, shows}
 use Rattle.zt_model.specs.Wants.{seeks, wants}
 use Rattle.zt_laws.specs.Order.{RowsAreInOrder}
 use Rattle.zt_laws.specs.Sound.{IsToldInOrder}
-use Rattle.zt_laws.proofs.CallsOrder.{orderly_telling, quiet_with_routed}
-use Rattle.zt_laws.proofs.Faces.{chosen_leaves, is_told_alike}
-use Rattle.zt_laws.proofs.Hearing.{each_ruled, find_each, find_passes, heard_all-append, heard_all-held, heard_all-region}
-use Rattle.zt_laws.proofs.Lists.{any-append, any_member, any_none, any_weaker, by_test, each_always, each_both, each_filter, each_weaker, map_alike, never, of_cond, rise_above}
-use Rattle.zt_laws.proofs.PartsOrder.{each_message_for, each_of_map, orderly_each, quiet_face}
+use Rattle.zt_laws.proofs.CallsOrder.{orderly_telling}
+use Rattle.zt_laws.proofs.Faces.{chosen_leaves}
+use Rattle.zt_laws.proofs.Hearing.{find_each, find_passes, heard_all-append, heard_all-held, heard_all-region}
+use Rattle.zt_laws.proofs.Lists.{any_member, any_none, any_weaker, by_test, each_always, each_both, each_weaker, map_alike, never, rise_above}
+use Rattle.zt_laws.proofs.PartsOrder.{each_of_map, orderly_each, quiet_face}
 use Rattle.zt_laws.proofs.Telling.{heard_tell, seeks_alike, told_anew}
 use Rattle.zt_laws.proofs.Keys.{same_itself}
-use Rattle.zt_laws.proofs.Told.{names, names-append, told_id_each, told_id_names}
+use Rattle.zt_laws.proofs.Told.{names, names-append, told_id_each}
 use Rattle.zt_laws.proofs.ToldOrder.{DrawsNothing, in_order_answer}
 use Rattle.zt_laws.proofs.Visible.{rise_put}
 use Rattle.zt_kept.specs.Ran.{ran}
@@ -42,8 +40,7 @@ use Rattle.zt_kept.proofs.Answered.{is_answered_later}
 use Rattle.zt_kept.proofs.ById.{at_each, at_has, at_none_has}
 use Rattle.zt_kept.proofs.CallsRun.{own_rows_leave}
 use Rattle.zt_kept.proofs.Going.{IsQuietMessage, drawn_if_quiet, hears, ordered_altered, ordered_heard, speaks_each}
-use Rattle.zt_kept.proofs.Interests.{with_face_faces}
-use Rattle.zt_kept.proofs.Parts.{each_pass, each_show, nobody}
+use Rattle.zt_kept.proofs.Parts.{each_show, nobody}
 use Rattle.zt_drawn.proofs.Nexts.{HaveDrawn, answer_next, drawn_by, drawn_silent, drawn_then}
 
 -- an id for an answer and one for telling: together at most one, since what is answered is kept

@@ -1,10 +1,9 @@
 -- Tokens of routers, interests and openings draw what they need, and so does each call.
-use Rattle.std.proofs.Common.{◌≡◌, ℕ, ◌+◌, ◌≤◌, ◌<◌, Bool, true, false, cond, not, if◌then◌else◌, ◌&&◌, ◌||◌, ◌==◌, List, [], ◌∷◌, ◌++◌, length, map, filter, Option, Some, None, is_none, is_some, refl, sym, ap, ◌∙◌, subst, arith, eqb-true, ne_eqb, eq-eqb, append-nil}
+use Rattle.std.proofs.Common.{◌≡◌, ℕ, ◌+◌, ◌≤◌, Bool, true, false, not, if◌then◌else◌, ◌&&◌, ◌==◌, List, [], ◌∷◌, ◌++◌, length, map, filter, Option, Some, None, is_none, is_some, refl, sym, ap, ◌∙◌, subst, arith, eqb-true, ne_eqb, eq-eqb, append-nil}
 use Rattle.std.proofs.Math.Bool.{or-false}
 use Rattle.std.specs.Cmp.{IsTotalOrder}
-use Rattle.std.specs.List.{flat_map, list_any}
+use Rattle.std.specs.List.{flat_map}
 use Rattle.std.specs.declared.cmp.Ordering.{Ordering}
-use Rattle.std.specs.declared.cmp.Ordering.TheVariants.{Equal}
 use Rattle.zt_region.specs.declared.region.Bound.{Bound}
 use Rattle.zt_region.specs.declared.region.Bound.TheVariants.{South as SouthBound}
 use Rattle.zt_region.specs.declared.region.Region.{Region}
@@ -22,10 +21,10 @@ use Rattle.zt_protocol.specs.declared.messages.Message.TheVariants as message
 use Rattle.zt_model.specs.Entities.{entities_for, numbered_by, with_numbers}
 use Rattle.zt_model.specs.Hearing.{heard, heard_all, messages_for, rows_heard}
 use Rattle.zt_model.specs.Lists.{in_key_order}
-use Rattle.zt_model.specs.Refusals.{answers_nothing, call_causes, can_draw, faces_with, first_cause, ids_for_interest, ids_for_opening, ids_for_target, is_unknown_ask, is_unknown_router, need}
+use Rattle.zt_model.specs.Refusals.{answers_nothing, call_causes, can_draw, faces_with, first_cause, ids_for_interest, ids_for_opening, is_unknown_ask, is_unknown_router, need}
 use Rattle.zt_model.specs.Routing.{asked_as, face_opened, held_south, interest_order, is_greeted, final_of, is_target, is_target_of, interests_from, opened, opening, opening_final, opening_interests, opening_tokens, route_to, sent_as, tokens_from}
 use Rattle.zt_model.specs.Rows.{ById, Face, InterestRow, Rows}
-use Rattle.zt_model.specs.Says.{Alter, Part, Say, Sends, answered_expressions, answering, answers_of, asking, declaring, declaring_of, find_face, is_routed, is_told, parts_of, registers, row_of, tell_to, to_each, to_face, with_face}
+use Rattle.zt_model.specs.Says.{Alter, Say, answered_expressions, answering, answers_of, asking, declaring, declaring_of, find_face, is_routed, is_told, parts_of, registers, row_of, tell_to, to_each, to_face, with_face}
 use Rattle.zt_model.specs.Transcript.{Each}
 use Rattle.zt_model.specs.Trees.{pass_to, showing, source_of, with_routed}
 use Rattle.zt_model.specs.Visible.{keeps, live_rows, shows, visible_expressions}
@@ -35,10 +34,10 @@ use Rattle.zt_laws.specs.Order.{RowsAreInOrder}
 use Rattle.zt_laws.specs.Sound.{CallHasFirstIds, IsToldInOrder, rows_after_call}
 use Rattle.zt_laws.proofs.Calls.{no_cause, not_on_face}
 use Rattle.zt_laws.proofs.CallsOrder.{quiet_numbers, quiet_with_routed, transport_in_order}
-use Rattle.zt_laws.proofs.Faces.{chosen_leaves, is_told_alike}
-use Rattle.zt_laws.proofs.Hearing.{each_ruled, each_ruled_one, find_none, find_only, heard_all-held, heard_all-number, heard_all-region, messages_for_each}
+use Rattle.zt_laws.proofs.Faces.{is_told_alike}
+use Rattle.zt_laws.proofs.Hearing.{each_ruled, each_ruled_one, find_only, heard_all-held, heard_all-number, heard_all-region}
 use Rattle.zt_laws.proofs.Interests.{heard_answers, heard_final}
-use Rattle.zt_laws.proofs.Lists.{by_test, each_always, each_append, each_both, each_filter, each_map, each_weaker, map-map, map_alike, never, of_cond}
+use Rattle.zt_laws.proofs.Lists.{by_test, each_both, each_filter, each_map, each_weaker, map-map, never, of_cond}
 use Rattle.zt_laws.proofs.PartsOrder.{each_message_for, each_of_map, heard_in_order, in_order_by, lists_heard, nothing_told, orderly_each, tolds, tolds_in_order}
 use Rattle.zt_laws.proofs.Silent.{silent_opening_final, silent_route}
 use Rattle.zt_laws.proofs.ToldOrder.{DrawsNothing, TellsNothing, in_order_nothings, interests_tell_nothing}
@@ -52,7 +51,7 @@ use Rattle.zt_kept.proofs.Going.{IsQuietMessage, drawn_if_quiet, hears, ordered_
 use Rattle.zt_kept.proofs.Interests.{face_hears_twice, with_face_faces}
 use Rattle.zt_kept.proofs.Opening.{flat_map-append, new_same, speaks_one}
 use Rattle.zt_kept.proofs.Parts.{each_pass, nobody}
-use Rattle.zt_drawn.proofs.Drawn.{drawn_alike, drawn_plain, drawn_telling, heard_faces_are, told_count, told_quiet, token_count}
+use Rattle.zt_drawn.proofs.Drawn.{drawn_alike, drawn_plain, drawn_telling, told_count, told_quiet, token_count}
 use Rattle.zt_drawn.proofs.Nexts.{HaveDrawn, drawn_by, drawn_silent, drawn_then, interests_next, next_silent, tokens_next}
 
 -- the message neither tells nor untells

@@ -1,13 +1,12 @@
 -- How many ids the messages of a phase draw at a face.
-use Rattle.std.proofs.Common.{◌≡◌, ℕ, ◌+◌, ◌≤◌, ◌<◌, max, Bool, true, false, cond, not, if◌then◌else◌, ◌&&◌, ◌||◌, ◌==◌, List, [], ◌∷◌, ◌++◌, length, map, filter, Option, Some, None, refl, sym, ap, ◌∙◌, subst, arith}
-use Rattle.std.specs.Cmp.{IsTotalOrder}
+use Rattle.std.proofs.Common.{◌≡◌, ℕ, ◌+◌, ◌≤◌, ◌<◌, max, Bool, true, false, not, if◌then◌else◌, ◌&&◌, ◌||◌, List, [], ◌∷◌, length, map, Option, Some, None, refl, sym, ap, ◌∙◌, subst, arith}
 use Rattle.std.specs.List.{flat_map, list_any}
 use Rattle.std.specs.declared.cmp.Ordering.{Ordering}
-use Rattle.zt_protocol.specs.Interest.{is_current, is_future}
+use Rattle.zt_protocol.specs.Interest.{is_future}
 use Rattle.zt_protocol.specs.declared.interests.InterestMode.{InterestMode}
 use Rattle.zt_protocol.specs.declared.messages.Message.{Message}
 use Rattle.zt_protocol.specs.declared.messages.Message.TheVariants as message
-use Rattle.zt_model.specs.Hearing.{heard, heard_all, messages_for, rows_heard}
+use Rattle.zt_model.specs.Hearing.{heard, heard_all, messages_for}
 use Rattle.zt_model.specs.Rows.{Ask, ById, Face, InterestRow, Rows}
 use Rattle.zt_model.specs.Routing.{interests_from, tokens_from}
 use Rattle.zt_model.specs.Says.{Sends, answers_from, told_id}
@@ -17,7 +16,7 @@ use Rattle.zt_model.specs.Visible.{keeps}
 use Rattle.zt_laws.specs.Order.{RowsAreInOrder}
 use Rattle.zt_laws.specs.Sound.{IsToldInOrder}
 use Rattle.zt_laws.proofs.Hearing.{heard_all-append}
-use Rattle.zt_laws.proofs.Lists.{by_test, each_always, each_both, each_weaker, map-map, map_alike, of_cond}
+use Rattle.zt_laws.proofs.Lists.{by_test, each_weaker, map-map, map_alike, of_cond}
 use Rattle.zt_laws.proofs.PartsOrder.{each_message_for}
 use Rattle.zt_laws.proofs.Told.{names, told_id_each, told_id_names, told_id_none}
 use Rattle.zt_laws.proofs.ToldOrder.{DrawsNothing}

@@ -1,5 +1,5 @@
 -- A call that needs more ids than are left is one that could, as the transcript shows it, spend them.
-use Rattle.std.proofs.Common.{◌≡◌, ℕ, ◌+◌, ◌≤◌, ◌<◌, Bool, true, false, not, nat_lt, if◌then◌else◌, ◌&&◌, ◌||◌, ◌==◌, List, [], ◌∷◌, ◌++◌, length, sum_by, map, filter, Option, Some, None, is_none, is_some, refl, sym, ap, ◌∙◌, subst, arith, eqb-true, ne_eqb, eq-eqb, lt-ltb, ltb-true, ⊎_elim}
+use Rattle.std.proofs.Common.{◌≡◌, ℕ, ◌+◌, ◌≤◌, ◌<◌, Bool, true, false, not, nat_lt, if◌then◌else◌, ◌&&◌, ◌||◌, ◌==◌, List, [], ◌∷◌, length, sum_by, Option, Some, None, is_none, is_some, refl, sym, ap, ◌∙◌, subst, arith, ne_eqb, eq-eqb, lt-ltb, ltb-true, ⊎_elim}
 use Rattle.std.proofs.lemmas.Bool.{and_parts, and_from, or_left, or_right, or_cases, not-true, not-false}
 use Rattle.std.specs.Cmp.{IsTotalOrder}
 use Rattle.std.specs.List.{list_any}
@@ -20,10 +20,10 @@ use Rattle.zt_protocol.specs.declared.interests.InterestMode.{InterestMode}
 use Rattle.zt_protocol.specs.declared.interests.InterestOptions.{InterestOptions}
 use Rattle.zt_model.specs.Entities.{numbered_by, with_numbers}
 use Rattle.zt_model.specs.Lists.{has_id, same}
-use Rattle.zt_model.specs.Refusals.{Causes, adds_row, answers_nothing, asks_upstream, call_causes, can_draw, could, could_spend_ids, faces_with, first_cause, ids_for_interest, ids_for_opening, ids_for_target, ids_for_token, is_answered_anew, is_token_id_in_use, is_unknown_ask, is_unknown_router, left_ids, need, spends_ids, would_send}
+use Rattle.zt_model.specs.Refusals.{Causes, adds_row, answers_nothing, asks_upstream, call_causes, can_draw, could, could_spend_ids, faces_with, first_cause, ids_for_interest, ids_for_opening, is_answered_anew, is_token_id_in_use, is_unknown_ask, is_unknown_router, left_ids, need, spends_ids}
 use Rattle.zt_model.specs.Routing.{asked_as, face_opened, held_south, is_greeted, is_target, opened, opening_interests, opening_tokens, sent_as}
 use Rattle.zt_model.specs.Rows.{Ask, ById, Face, InterestRow, Rows}
-use Rattle.zt_model.specs.Says.{answered_expressions, find_face, is_routed, is_told, registered, registers, row_of, with_face}
+use Rattle.zt_model.specs.Says.{find_face, is_routed, is_told, registered, registers, row_of, with_face}
 use Rattle.zt_model.specs.Shown.{interest_kept, rows_shown, with_declared, with_interest, with_source}
 use Rattle.zt_model.specs.Strategy.{is_broker}
 use Rattle.zt_model.specs.Telling.{is_answered_by, was_sent_as}
@@ -31,9 +31,8 @@ use Rattle.zt_model.specs.Transcript.{Each}
 use Rattle.zt_model.specs.Trees.{source_of, with_routed}
 use Rattle.zt_model.specs.Visible.{is_visible, keeps, shows, visible_expressions}
 use Rattle.zt_laws.proofs.Calls.{not_on_face}
-use Rattle.zt_laws.proofs.Hearing.{find_only}
 use Rattle.zt_laws.proofs.Keys.{same_itself}
-use Rattle.zt_laws.proofs.Lists.{by_test, each_always, each_append, each_both, each_weaker, never, of_cond}
+use Rattle.zt_laws.proofs.Lists.{by_test, each_always, each_append, each_weaker, never, of_cond}
 use Rattle.zt_kept.specs.Sound.{AskIsHeld, IsSound, shown_from}
 use Rattle.zt_kept.proofs.Answered.{is_answered_later}
 use Rattle.zt_kept.proofs.Ends.{with_face_same}

@@ -5,12 +5,12 @@
 ghost use Rattle.std.specs.Prelude.{◌≡◌, ℕ, Bool, true, false, List, Option, Some, None};
 ghost use Rattle.zt_protocol.specs.Plain.{DeclareToken, PlainLine};
 ghost use Rattle.zt_model.specs.Fabric.{Fabric, empty_fabric, entries_from};
-ghost use Rattle.zt_model.specs.Promises.{KeepsExactly, TellsWhoWants, turns_from};
+ghost use Rattle.zt_model.specs.Promises.{KeepsExactly, TellsOfRouters, TellsTheFuture, TellsWhoWants, turns_from};
 ghost use Rattle.zt_model.specs.Refusals.{call_causes, first_cause};
 ghost use Rattle.zt_model.specs.Rows.{Face, Rows};
 ghost use Rattle.zt_model.specs.Says.{find_face, is_routed, registers};
 ghost use Rattle.zt_model.specs.Transcript.{AllKeepWhatTheyShould, Each};
-ghost use Rattle.zt_laws.specs.Order.{RowsAreInOrder};
+ghost use Rattle.zt_laws.specs.Order.{FabricIsInOrder, RowsAreInOrder};
 ghost use Rattle.zt_laws.specs.Shown.{as_shown};
 ghost use Rattle.zt_laws.specs.Sound.{HasFirstIds, rows_after_call};
 ghost use Rattle.zt_kept.specs.Lines.{EachGatewayIs};
@@ -39,4 +39,13 @@ pub fn declarations_reach_who_wants<K: Key>()
     ensures routed { (spent : Bool) (n id node : ℕ) (e : K) (interest : Option ℕ) (f : Face K) (g : Rows K) → RowsAreInOrder K.cmp K.matching g
         → first_cause (call_causes K.cmp K.matching spent (DeclareToken n id e node interest) g) ≡ None → find_face n g ≡ Some f → is_routed g f ≡ true
         → TellsWhoWants K.cmp K.matching f.region e (rows_after_call K.cmp K.matching (DeclareToken n id e node interest) g) }
+{}
+
+/// So each turn of the machine's transcript tells the future: after an accepted declaration that registers, or that is of a
+/// router region, whoever wants its token keeps it.
+pub fn turns_tell_the_future<K: Key>()
+    ensures future { (is_built : PlainLine K → Bool) (lines : List (PlainLine K)) (s : Fabric K) → Each HasFirstIds lines → FabricIsInOrder K.cmp K.matching s
+        → Each (TellsTheFuture K.cmp K.matching) (turns_from K.cmp K.matching lines (entries_from K.cmp K.matching is_built lines s) (as_shown s)) }
+    ensures routers { (is_built : PlainLine K → Bool) (lines : List (PlainLine K)) (s : Fabric K) → Each HasFirstIds lines → FabricIsInOrder K.cmp K.matching s
+        → Each (TellsOfRouters K.cmp K.matching) (turns_from K.cmp K.matching lines (entries_from K.cmp K.matching is_built lines s) (as_shown s)) }
 {}
