@@ -1,6 +1,6 @@
 -- Lines that open and close no link: after each of them all joints agree.
-use Rattle.std.proofs.Common.{◌≡◌, ◌≢◌, ◌⊎◌, inl, inr, ℕ, ◌+◌, ◌-◌, ◌≤◌, Bool, true, false, cond, if◌then◌else◌, ◌&&◌, ◌||◌, ◌==◌, not, nat_lt, List, [], ◌∷◌, ◌++◌, length, map, filter, Option, Some, None, Ok, Err, is_none, is_some, refl, sym, ap, ◌∙◌, subst, eq-eqb, eqb-true, ne_eqb, arith, ⊎_elim}
-use Rattle.std.proofs.lemmas.Bool.{and_from, and_parts, or_cases, or_left, or_right}
+use Rattle.std.proofs.Common.{◌≡◌, ◌≢◌, ◌⊎◌, inl, inr, ℕ, ◌-◌, ◌≤◌, Bool, true, false, ◌&&◌, ◌==◌, not, nat_lt, List, [], ◌∷◌, ◌++◌, length, map, Option, Some, None, Err, is_some, refl, sym, ap, ◌∙◌, subst, eq-eqb, ⊎_elim}
+use Rattle.std.proofs.lemmas.Bool.{and_from, or_left, or_right}
 use Rattle.std.specs.Cmp.{IsTotalOrder}
 use Rattle.std.specs.List.{list_any}
 use Rattle.std.specs.declared.cmp.Ordering.{Ordering}
@@ -13,29 +13,28 @@ use Rattle.zt_protocol.specs.declared.errors.Refusal.{Refusal}
 use Rattle.zt_protocol.specs.declared.errors.Refusal.TheVariants as refusal
 use Rattle.zt_protocol.specs.declared.messages.Message.{Message}
 use Rattle.zt_protocol.specs.declared.messages.Message.TheVariants as message
-use Rattle.zt_model.specs.Fabric.{CallAt, Fabric, Link, Node, Place, after_hearing, after_refusal, altered_at, altered_by_line, built_causes, call_at, call_at_place, call_face, call_of, call_of_face, call_of_step, causes_of_call, entry_by, entry_of, fabric_after, is_linked_face, is_open_link, line_causes, line_spends_ids, printed_for, said_at, said_by_line, sorted_by_face, table_at, with_call_face, with_rows, with_waiting, without_message}
+use Rattle.zt_model.specs.Fabric.{CallAt, Fabric, Link, Node, Place, after_hearing, after_refusal, altered_at, altered_by_line, built_causes, call_at, call_at_place, call_face, call_of, call_of_face, call_of_step, causes_of_call, entry_by, entry_of, fabric_after, is_linked_face, line_causes, line_spends_ids, printed_for, said_at, said_by_line, sorted_by_face, table_at, with_call_face, with_waiting, without_message}
 use Rattle.zt_model.specs.Linking.{call_of_message, oldest, sending_end, speaking_end, waiting_of}
-use Rattle.zt_model.specs.Lists.{first_of, has_id, is_some_and, nth, rest_of}
+use Rattle.zt_model.specs.Lists.{first_of, is_some_and, nth}
 use Rattle.zt_model.specs.Parts.{find_face}
 use Rattle.zt_model.specs.Refusals.{Causes, GREATEST_DICTIONARY, call_causes, first_cause}
-use Rattle.zt_model.specs.Rows.{ById, Face, Rows}
-use Rattle.zt_model.specs.Says.{altered, said}
-use Rattle.zt_model.specs.Transcript.{Each, FaceAt, face_numbered}
+use Rattle.zt_model.specs.Rows.{ById, Face}
+use Rattle.zt_model.specs.Says.{said}
+use Rattle.zt_model.specs.Transcript.{FaceAt, face_numbered}
 use Rattle.zt_laws.specs.Order.{FabricIsInOrder, HasRowsInOrder}
 use Rattle.zt_laws.specs.Sound.{RiseFrom, opens_face}
 use Rattle.zt_laws.proofs.Calls.{no_cause}
 use Rattle.zt_laws.proofs.Gateways.{after_hearing_nothing, prints_sorted}
 use Rattle.zt_laws.proofs.Hearing.{find_each}
-use Rattle.zt_laws.proofs.Lists.{by_test, map_same, each_always, never, of_cond}
+use Rattle.zt_laws.proofs.Lists.{by_test, never, of_cond}
 use Rattle.zt_laws.proofs.LinesOrder.{called_at, calls_nothing, gateway_in_order}
 use Rattle.zt_trees.specs.Facts.{IsTreeGateway, JointAgrees, TreesAgree, tokens_by}
-use Rattle.zt_trees.specs.Joints.{EachJoint, HasBothEnds, LinksStand, are_joined, is_call_or_step, joins}
+use Rattle.zt_trees.specs.Joints.{EachJoint, are_joined, is_call_or_step, joins}
 use Rattle.zt_trees.proofs.Lines.{after_is, hears_call, is_linked, kept_called, same_number, tree_rows}
-use Rattle.zt_trees.proofs.Members.{IsThere, each_nth, is_there}
+use Rattle.zt_trees.proofs.Members.{each_nth, is_there}
 use Rattle.zt_trees.proofs.Saying.{TreeRows}
-use Rattle.zt_trees.proofs.Stepping.{Spoken, step_drops, step_keeps, taken}
+use Rattle.zt_trees.proofs.Stepping.{step_drops, step_keeps, taken}
 use Rattle.zt_trees.proofs.Steps.{Speaks, lower_finish, lower_ignores, lower_token, lower_token_refused, lower_untoken, lower_untoken_refused, upper_final, upper_final_refused, upper_interest, upper_interest_refused, upper_token, upper_token_refused, upper_untoken, upper_untoken_refused}
-use Rattle.zt_trees.proofs.Turning.{turned}
 
 member_passes : {A : Type 0} (n : ℕ) (p : A → Bool) (xs : List A) (x : A) → nth n xs ≡ Some x → p x ≡ true → list_any p xs ≡ true
 member_passes n p [] x at_ passes = cc
