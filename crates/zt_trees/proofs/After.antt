@@ -44,7 +44,7 @@ member_passes {A} n p (y ∷ xs) x at_ passes =
     (λ here. or_right (p y) (list_any p xs) (member_passes (n - 1) p xs x (rw here at at_) passes))
 
 module _ {K : Type 0} where
-  with_nothing : (w : ById (List (Message K))) → map (λ row. (row.0, row.1 ++ printed_for row.0 (let none_ : List (Sent K) = [] in none_))) w ≡ w
+  pub with_nothing : (w : ById (List (Message K))) → map (λ row. (row.0, row.1 ++ printed_for row.0 (let none_ : List (Sent K) = [] in none_))) w ≡ w
   unfolding printed_for
   with_nothing [] = refl
   with_nothing (row ∷ w) = ap (λ ms. (row.0, ms) ∷ map (λ r. (r.0, r.1 ++ printed_for r.0 (let none_ : List (Sent K) = [] in none_))) w) (no_more row.1) ∙ ap (λ rest. row ∷ rest) (with_nothing w)
@@ -58,7 +58,7 @@ module _ {K : Type 0} (cmp : K → K → Ordering) (matching : K → K → Bool)
   AllAgree t = EachJoint (JointAgrees cmp) t
 
   -- the fabric after what an accepted call says and changes, where there is one
-  abbrev after_call : Fabric K → Option (CallAt K) → Fabric K
+  abbrev pub after_call : Fabric K → Option (CallAt K) → Fabric K
   after_call t at = with_waiting (sorted_by_face (said_at cmp matching s at)) (after_hearing cmp (sorted_by_face (said_at cmp matching s at)) (altered_at cmp matching t at))
 
   after_no_call : (t : Fabric K) → AllAgree t → AllAgree (after_call t None)
@@ -118,7 +118,7 @@ module _ {K : Type 0} (cmp : K → K → Ordering) (matching : K → K → Bool)
 
   -- ---- steps
 
-  joined_ends : (n : ℕ) (l : Link) (back : Bool) → nth n s.links ≡ Some l → l.is_open ≡ true → are_joined s (speaking_end l back) (sending_end l back) ≡ true
+  pub joined_ends : (n : ℕ) (l : Link) (back : Bool) → nth n s.links ≡ Some l → l.is_open ≡ true → are_joined s (speaking_end l back) (sending_end l back) ≡ true
   joined_ends n l true at_ open_ =
       member_passes n (λ link. link.is_open && joins l.one l.two link) s.links l at_
       (and_from l.is_open (joins l.one l.two l) open_ (or_left ((l.one == l.one) && (l.two == l.two)) ((l.one == l.two) && (l.two == l.one)) (and_from (l.one == l.one) (l.two == l.two) (eq-eqb l.one l.one refl) (eq-eqb l.two l.two refl))))
@@ -241,15 +241,15 @@ module _ {K : Type 0} (cmp : K → K → Ordering) (matching : K → K → Bool)
 
   -- ---- the call of a step's line
 
-  record StepIs (back : Bool) (l : Link) (m : Message K) : Type 0 where
-    z : FaceAt K
-    z_is : face_numbered s (speaking_end l back) ≡ Some z
-    node : Node K
-    at_j : nth z.gateway s.gateways ≡ Some node
-    found : find_face z.face.number node.rows ≡ Some z.face
-    call_is : call_of_step s back (Some l) ≡ (let at : Option (CallAt K) = elim (call_of_message 0 m) [ None ↦ None | Some call ↦ Some (record { gateway = z.gateway; rows = node.rows; call = with_call_face z.face.number call }) ] in at)
+  pub record StepIs (back : Bool) (l : Link) (m : Message K) : Type 0 where
+    pub z : FaceAt K
+    pub z_is : face_numbered s (speaking_end l back) ≡ Some z
+    pub node : Node K
+    pub at_j : nth z.gateway s.gateways ≡ Some node
+    pub found : find_face z.face.number node.rows ≡ Some z.face
+    pub call_is : call_of_step s back (Some l) ≡ (let at : Option (CallAt K) = elim (call_of_message 0 m) [ None ↦ None | Some call ↦ Some (record { gateway = z.gateway; rows = node.rows; call = with_call_face z.face.number call }) ] in at)
 
-  step_is : (back : Bool) (l : Link) (m : Message K) (rest : List (Message K)) → are_joined s (speaking_end l back) (sending_end l back) ≡ true → waiting_of s (sending_end l back) ≡ m ∷ rest → StepIs back l m
+  pub step_is : (back : Bool) (l : Link) (m : Message K) (rest : List (Message K)) → are_joined s (speaking_end l back) (sending_end l back) ≡ true → waiting_of s (sending_end l back) ≡ m ∷ rest → StepIs back l m
   step_is back l m rest joined oldest_is =
       let z = (agree.links.meet (speaking_end l back) (sending_end l back) joined).one in
       let z_is = (agree.links.meet (speaking_end l back) (sending_end l back) joined).one_is in
@@ -275,7 +275,7 @@ module _ {K : Type 0} (cmp : K → K → Ordering) (matching : K → K → Bool)
           ∙ ap (λ g. call_at s g (with_call_face (agree.links.meet (speaking_end l back) (sending_end l back) joined).one.face.number call)) gateway_
           ∙ ap (λ (o : Option (Node K)). (let at : Option (CallAt K) = elim o [ None ↦ None | Some x ↦ Some (record { gateway = (agree.links.meet (speaking_end l back) (sending_end l back) joined).one.gateway; rows = x.rows; call = with_call_face (agree.links.meet (speaking_end l back) (sending_end l back) joined).one.face.number call }) ] in at)) node_is
 
-  some_oldest : (n : ℕ) (l : Link) (back : Bool) → is_some (oldest s l back) ≡ true → (m : Message K) × (rest : List (Message K)) × (waiting_of s (sending_end l back) ≡ m ∷ rest)
+  pub some_oldest : (n : ℕ) (l : Link) (back : Bool) → is_some (oldest s l back) ≡ true → (m : Message K) × (rest : List (Message K)) × (waiting_of s (sending_end l back) ≡ m ∷ rest)
   some_oldest n l back there = by_list (waiting_of s (sending_end l back)) refl there
     where
       by_list : (ms : List (Message K)) → waiting_of s (sending_end l back) ≡ ms → is_some (first_of ms) ≡ true → (m : Message K) × (rest : List (Message K)) × (waiting_of s (sending_end l back) ≡ m ∷ rest)

@@ -40,7 +40,7 @@ use Rattle.zt_trees.proofs.Turning.{joint_stays, quietly, turned}
 
 module _ {K : Type 0} (cmp : K → K → Ordering) (matching : K → K → Bool) where
   -- an interest is accepted from a face that leads down
-  interest_from : (spent : Bool) (n id : ℕ) (mode : InterestMode) (options : InterestOptions) (e : Option K) (g : Rows K) → TreeRows cmp g → first_cause (call_causes cmp matching spent (Interest n id mode options e) g) ≡ None → (from : Face K) × ((find_face n g ≡ Some from) × (is_north from.region ≡ false))
+  pub interest_from : (spent : Bool) (n id : ℕ) (mode : InterestMode) (options : InterestOptions) (e : Option K) (g : Rows K) → TreeRows cmp g → first_cause (call_causes cmp matching spent (Interest n id mode options e) g) ≡ None → (from : Face K) × ((find_face n g ≡ Some from) × (is_north from.region ≡ false))
   unfolding call_causes
   interest_from spent n id mode options e g rows accepted =
       let one = no_cause _ _ _ accepted in

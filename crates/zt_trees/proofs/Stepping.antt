@@ -73,7 +73,7 @@ queue_taken {K} q w = ap (λ (o : Option (List (Message K))). (let ms : List (Me
 queue_still : {K : Type 0} (q k : ℕ) (w : ById (List (Message K))) → (q == k) ≡ false → queue (taken q w) k ≡ queue w k
 queue_still {K} q k w apart = ap (λ (o : Option (List (Message K))). (let ms : List (Message K) = elim o [ None ↦ [] | Some xs ↦ xs ] in ms)) (at_still q k w apart)
 
-has_taken : {K : Type 0} (q k : ℕ) (w : ById (List (Message K))) → has_id k w ≡ true → has_id k (taken q w) ≡ true
+pub has_taken : {K : Type 0} (q k : ℕ) (w : ById (List (Message K))) → has_id k w ≡ true → has_id k (taken q w) ≡ true
 has_taken q k w there = has_taken_same q k w ∙ there
 
 module _ {K : Type 0} (cmp : K → K → Ordering) (matching : K → K → Bool) (total : IsTotalOrder cmp) (s : Fabric K) (fine : FabricIsInOrder cmp matching s) (agree : TreesAgree cmp matching s)

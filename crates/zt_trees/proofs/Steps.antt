@@ -67,7 +67,7 @@ face_test n g test f found fails = ap (λ o. is_some_and o test) found ∙ fails
 known_face : {K : Type 0} (n : ℕ) (g : Rows K) (f : Face K) → find_face n g ≡ Some f → is_unknown_face n g ≡ false
 known_face n g f found = ap is_none found
 
-found_at : {A : Type 0} (id : ℕ) (rows : ById A) → has_id id rows ≡ true → (x : A) × (at_id id rows ≡ Some x)
+pub found_at : {A : Type 0} (id : ℕ) (rows : ById A) → has_id id rows ≡ true → (x : A) × (at_id id rows ≡ Some x)
 found_at id [] h = cc
 found_at id (row ∷ rows) h = by_test (id == row.0) (λ here. rw here (row.1, refl)) (λ here. rw here (found_at id rows (rw here at h)))
 
@@ -75,7 +75,7 @@ no_id_below : {A : Type 0} (id : ℕ) (rows : ById A) → Each (λ row. row.0 < 
 no_id_below id [] all = refl
 no_id_below id (row ∷ rows) all = let less : row.0 < id = all.0 in let miss : (id == row.0) ≡ false = ne_eqb id row.0 (λ is. omega arith) in rw miss (no_id_below id rows all.1)
 
-not_true : {b : Bool} → not b ≡ false → b ≡ true
+pub not_true : {b : Bool} → not b ≡ false → b ≡ true
 not_true {b} h = by_test b (λ e. e) (λ e. let t : not b ≡ true = ap not e in never t h)
 
 module _ {K : Type 0} (cmp : K → K → Ordering) (matching : K → K → Bool) (total : IsTotalOrder cmp) (equal_is_same : (a b : K) → cmp a b ≡ Equal → a ≡ b) (g : Rows K) (p : ℕ) (z : Face K) (rows : TreeRows cmp g) (found : find_face p g ≡ Some z) (lives : RiseFrom (λ row. row.0) 0 z.live) where
