@@ -1,6 +1,6 @@
 -- Lines that open and close no link: after each of them all joints agree.
-use Rattle.std.proofs.Common.{◌≡◌, ◌≢◌, ◌⊎◌, inl, inr, ℕ, ◌+◌, ◌-◌, ◌≤◌, Bool, true, false, cond, if◌then◌else◌, ◌&&◌, ◌||◌, ◌==◌, not, nat_lt, List, [], ◌∷◌, ◌++◌, length, map, filter, Option, Some, None, Ok, Err, is_none, is_some, refl, sym, ap, ◌∙◌, subst, eq-eqb, eqb-true, ne_eqb, arith, ⊎_elim}
-use Rattle.std.proofs.lemmas.Bool.{and_from, and_parts, or_cases, or_left, or_right}
+use Rattle.std.proofs.Common.{◌≡◌, ◌≢◌, ◌⊎◌, inl, inr, ℕ, ◌-◌, ◌≤◌, Bool, true, false, ◌&&◌, ◌==◌, not, nat_lt, List, [], ◌∷◌, ◌++◌, length, map, Option, Some, None, Err, is_some, refl, sym, ap, ◌∙◌, subst, eq-eqb, ⊎_elim}
+use Rattle.std.proofs.lemmas.Bool.{and_from, or_left, or_right}
 use Rattle.std.specs.Cmp.{IsTotalOrder}
 use Rattle.std.specs.List.{list_any}
 use Rattle.std.specs.declared.cmp.Ordering.{Ordering}
@@ -13,29 +13,28 @@ use Rattle.zt_protocol.specs.declared.errors.Refusal.{Refusal}
 use Rattle.zt_protocol.specs.declared.errors.Refusal.TheVariants as refusal
 use Rattle.zt_protocol.specs.declared.messages.Message.{Message}
 use Rattle.zt_protocol.specs.declared.messages.Message.TheVariants as message
-use Rattle.zt_model.specs.Fabric.{CallAt, Fabric, Link, Node, Place, after_hearing, after_refusal, altered_at, altered_by_line, built_causes, call_at, call_at_place, call_face, call_of, call_of_face, call_of_step, causes_of_call, entry_by, entry_of, fabric_after, is_linked_face, is_open_link, line_causes, line_spends_ids, printed_for, said_at, said_by_line, sorted_by_face, table_at, with_call_face, with_rows, with_waiting, without_message}
+use Rattle.zt_model.specs.Fabric.{CallAt, Fabric, Link, Node, Place, after_hearing, after_refusal, altered_at, altered_by_line, built_causes, call_at, call_at_place, call_face, call_of, call_of_face, call_of_step, causes_of_call, entry_by, entry_of, fabric_after, is_linked_face, line_causes, line_spends_ids, printed_for, said_at, said_by_line, sorted_by_face, table_at, with_call_face, with_waiting, without_message}
 use Rattle.zt_model.specs.Linking.{call_of_message, oldest, sending_end, speaking_end, waiting_of}
-use Rattle.zt_model.specs.Lists.{first_of, has_id, is_some_and, nth, rest_of}
+use Rattle.zt_model.specs.Lists.{first_of, is_some_and, nth}
 use Rattle.zt_model.specs.Parts.{find_face}
 use Rattle.zt_model.specs.Refusals.{Causes, GREATEST_DICTIONARY, call_causes, first_cause}
-use Rattle.zt_model.specs.Rows.{ById, Face, Rows}
-use Rattle.zt_model.specs.Says.{altered, said}
-use Rattle.zt_model.specs.Transcript.{Each, FaceAt, face_numbered}
+use Rattle.zt_model.specs.Rows.{ById, Face}
+use Rattle.zt_model.specs.Says.{said}
+use Rattle.zt_model.specs.Transcript.{FaceAt, face_numbered}
 use Rattle.zt_laws.specs.Order.{FabricIsInOrder, HasRowsInOrder}
 use Rattle.zt_laws.specs.Sound.{RiseFrom, opens_face}
 use Rattle.zt_laws.proofs.Calls.{no_cause}
 use Rattle.zt_laws.proofs.Gateways.{after_hearing_nothing, prints_sorted}
 use Rattle.zt_laws.proofs.Hearing.{find_each}
-use Rattle.zt_laws.proofs.Lists.{by_test, map_same, each_always, never, of_cond}
+use Rattle.zt_laws.proofs.Lists.{by_test, never, of_cond}
 use Rattle.zt_laws.proofs.LinesOrder.{called_at, calls_nothing, gateway_in_order}
 use Rattle.zt_trees.specs.Facts.{IsTreeGateway, JointAgrees, TreesAgree, tokens_by}
-use Rattle.zt_trees.specs.Joints.{EachJoint, HasBothEnds, LinksStand, are_joined, is_call_or_step, joins}
+use Rattle.zt_trees.specs.Joints.{EachJoint, are_joined, is_call_or_step, joins}
 use Rattle.zt_trees.proofs.Lines.{after_is, hears_call, is_linked, kept_called, same_number, tree_rows}
-use Rattle.zt_trees.proofs.Members.{IsThere, each_nth, is_there}
+use Rattle.zt_trees.proofs.Members.{each_nth, is_there}
 use Rattle.zt_trees.proofs.Saying.{TreeRows}
-use Rattle.zt_trees.proofs.Stepping.{Spoken, step_drops, step_keeps, taken}
+use Rattle.zt_trees.proofs.Stepping.{step_drops, step_keeps, taken}
 use Rattle.zt_trees.proofs.Steps.{Speaks, lower_finish, lower_ignores, lower_token, lower_token_refused, lower_untoken, lower_untoken_refused, upper_final, upper_final_refused, upper_interest, upper_interest_refused, upper_token, upper_token_refused, upper_untoken, upper_untoken_refused}
-use Rattle.zt_trees.proofs.Turning.{turned}
 
 member_passes : {A : Type 0} (n : ℕ) (p : A → Bool) (xs : List A) (x : A) → nth n xs ≡ Some x → p x ≡ true → list_any p xs ≡ true
 member_passes n p [] x at_ passes = cc
@@ -45,7 +44,7 @@ member_passes {A} n p (y ∷ xs) x at_ passes =
     (λ here. or_right (p y) (list_any p xs) (member_passes (n - 1) p xs x (rw here at at_) passes))
 
 module _ {K : Type 0} where
-  with_nothing : (w : ById (List (Message K))) → map (λ row. (row.0, row.1 ++ printed_for row.0 (let none_ : List (Sent K) = [] in none_))) w ≡ w
+  pub with_nothing : (w : ById (List (Message K))) → map (λ row. (row.0, row.1 ++ printed_for row.0 (let none_ : List (Sent K) = [] in none_))) w ≡ w
   unfolding printed_for
   with_nothing [] = refl
   with_nothing (row ∷ w) = ap (λ ms. (row.0, ms) ∷ map (λ r. (r.0, r.1 ++ printed_for r.0 (let none_ : List (Sent K) = [] in none_))) w) (no_more row.1) ∙ ap (λ rest. row ∷ rest) (with_nothing w)
@@ -59,7 +58,7 @@ module _ {K : Type 0} (cmp : K → K → Ordering) (matching : K → K → Bool)
   AllAgree t = EachJoint (JointAgrees cmp) t
 
   -- the fabric after what an accepted call says and changes, where there is one
-  abbrev after_call : Fabric K → Option (CallAt K) → Fabric K
+  abbrev pub after_call : Fabric K → Option (CallAt K) → Fabric K
   after_call t at = with_waiting (sorted_by_face (said_at cmp matching s at)) (after_hearing cmp (sorted_by_face (said_at cmp matching s at)) (altered_at cmp matching t at))
 
   after_no_call : (t : Fabric K) → AllAgree t → AllAgree (after_call t None)
@@ -119,7 +118,7 @@ module _ {K : Type 0} (cmp : K → K → Ordering) (matching : K → K → Bool)
 
   -- ---- steps
 
-  joined_ends : (n : ℕ) (l : Link) (back : Bool) → nth n s.links ≡ Some l → l.is_open ≡ true → are_joined s (speaking_end l back) (sending_end l back) ≡ true
+  pub joined_ends : (n : ℕ) (l : Link) (back : Bool) → nth n s.links ≡ Some l → l.is_open ≡ true → are_joined s (speaking_end l back) (sending_end l back) ≡ true
   joined_ends n l true at_ open_ =
       member_passes n (λ link. link.is_open && joins l.one l.two link) s.links l at_
       (and_from l.is_open (joins l.one l.two l) open_ (or_left ((l.one == l.one) && (l.two == l.two)) ((l.one == l.two) && (l.two == l.one)) (and_from (l.one == l.one) (l.two == l.two) (eq-eqb l.one l.one refl) (eq-eqb l.two l.two refl))))
@@ -242,15 +241,15 @@ module _ {K : Type 0} (cmp : K → K → Ordering) (matching : K → K → Bool)
 
   -- ---- the call of a step's line
 
-  record StepIs (back : Bool) (l : Link) (m : Message K) : Type 0 where
-    z : FaceAt K
-    z_is : face_numbered s (speaking_end l back) ≡ Some z
-    node : Node K
-    at_j : nth z.gateway s.gateways ≡ Some node
-    found : find_face z.face.number node.rows ≡ Some z.face
-    call_is : call_of_step s back (Some l) ≡ (let at : Option (CallAt K) = elim (call_of_message 0 m) [ None ↦ None | Some call ↦ Some (record { gateway = z.gateway; rows = node.rows; call = with_call_face z.face.number call }) ] in at)
+  pub record StepIs (back : Bool) (l : Link) (m : Message K) : Type 0 where
+    pub z : FaceAt K
+    pub z_is : face_numbered s (speaking_end l back) ≡ Some z
+    pub node : Node K
+    pub at_j : nth z.gateway s.gateways ≡ Some node
+    pub found : find_face z.face.number node.rows ≡ Some z.face
+    pub call_is : call_of_step s back (Some l) ≡ (let at : Option (CallAt K) = elim (call_of_message 0 m) [ None ↦ None | Some call ↦ Some (record { gateway = z.gateway; rows = node.rows; call = with_call_face z.face.number call }) ] in at)
 
-  step_is : (back : Bool) (l : Link) (m : Message K) (rest : List (Message K)) → are_joined s (speaking_end l back) (sending_end l back) ≡ true → waiting_of s (sending_end l back) ≡ m ∷ rest → StepIs back l m
+  pub step_is : (back : Bool) (l : Link) (m : Message K) (rest : List (Message K)) → are_joined s (speaking_end l back) (sending_end l back) ≡ true → waiting_of s (sending_end l back) ≡ m ∷ rest → StepIs back l m
   step_is back l m rest joined oldest_is =
       let z = (agree.links.meet (speaking_end l back) (sending_end l back) joined).one in
       let z_is = (agree.links.meet (speaking_end l back) (sending_end l back) joined).one_is in
@@ -276,7 +275,7 @@ module _ {K : Type 0} (cmp : K → K → Ordering) (matching : K → K → Bool)
           ∙ ap (λ g. call_at s g (with_call_face (agree.links.meet (speaking_end l back) (sending_end l back) joined).one.face.number call)) gateway_
           ∙ ap (λ (o : Option (Node K)). (let at : Option (CallAt K) = elim o [ None ↦ None | Some x ↦ Some (record { gateway = (agree.links.meet (speaking_end l back) (sending_end l back) joined).one.gateway; rows = x.rows; call = with_call_face (agree.links.meet (speaking_end l back) (sending_end l back) joined).one.face.number call }) ] in at)) node_is
 
-  some_oldest : (n : ℕ) (l : Link) (back : Bool) → is_some (oldest s l back) ≡ true → (m : Message K) × (rest : List (Message K)) × (waiting_of s (sending_end l back) ≡ m ∷ rest)
+  pub some_oldest : (n : ℕ) (l : Link) (back : Bool) → is_some (oldest s l back) ≡ true → (m : Message K) × (rest : List (Message K)) × (waiting_of s (sending_end l back) ≡ m ∷ rest)
   some_oldest n l back there = by_list (waiting_of s (sending_end l back)) refl there
     where
       by_list : (ms : List (Message K)) → waiting_of s (sending_end l back) ≡ ms → is_some (first_of ms) ≡ true → (m : Message K) × (rest : List (Message K)) × (waiting_of s (sending_end l back) ≡ m ∷ rest)

@@ -1,5 +1,5 @@
 -- What a call comes to at a face of a tree: what the call itself changes of it, and that what it is sent then is said well.
-use Rattle.std.proofs.Common.{◌≡◌, ◌≢◌, ℕ, ◌+◌, Bool, true, false, cond, if◌then◌else◌, ◌&&◌, ◌||◌, ◌==◌, not, List, [], ◌∷◌, ◌++◌, map, filter, Option, Some, None, refl, sym, ap, ◌∙◌, subst, eq-eqb, eqb-true, ne_eqb, arith}
+use Rattle.std.proofs.Common.{◌≡◌, ◌≢◌, ℕ, ◌+◌, Bool, true, false, if◌then◌else◌, ◌&&◌, ◌||◌, ◌==◌, not, List, [], ◌∷◌, ◌++◌, map, filter, Option, Some, None, refl, sym, ap, ◌∙◌, subst, eq-eqb, ne_eqb, arith}
 use Rattle.std.proofs.lemmas.Bool.{and_from, or_left, or_right}
 use Rattle.std.specs.FinMap.Entries.{by_order, put}
 use Rattle.std.proofs.lemmas.Cmp.{ranked}
@@ -9,40 +9,37 @@ use Rattle.std.specs.Ordering.{nat_cmp}
 use Rattle.std.specs.declared.cmp.Ordering.{Ordering}
 use Rattle.std.specs.declared.cmp.Ordering.TheVariants.{Less, Equal, Greater}
 use Rattle.zt_region.specs.declared.region.Region.{Region}
-use Rattle.zt_region.specs.declared.region.WhatAmI.{WhatAmI}
 use Rattle.zt_region.specs.declared.region.WhatAmI.TheVariants.{Client}
 use Rattle.zt_region.specs.Region.{is_north}
-use Rattle.zt_protocol.specs.Interest.{has_aggregate, has_queryables, has_subscribers, has_tokens, is_current, is_future}
+use Rattle.zt_protocol.specs.Interest.{has_aggregate, has_queryables, has_subscribers, is_current, is_future}
 use Rattle.zt_protocol.specs.declared.interests.InterestMode.{InterestMode}
 use Rattle.zt_protocol.specs.declared.interests.InterestOptions.{InterestOptions}
-use Rattle.zt_protocol.specs.Plain.{PlainCall, NewSession, NewTransport, DeclareToken, UndeclareToken, Interest, InterestFinal, DeclareFinal, CloseFace, Expire, SetTrees, SetEntities, Trees}
+use Rattle.zt_protocol.specs.Plain.{PlainCall, DeclareToken, UndeclareToken, Interest, InterestFinal, DeclareFinal, CloseFace, Expire, SetTrees, SetEntities, Trees}
 use Rattle.zt_protocol.specs.declared.messages.Message.{Message}
 use Rattle.zt_protocol.specs.declared.messages.Message.TheVariants as message
 use Rattle.zt_protocol.specs.declared.messages.QueryableInfo.{QueryableInfo}
-use Rattle.zt_model.specs.Closing.{closing, expiring}
 use Rattle.zt_model.specs.Entities.{aggregate_of, all_merged, entities_for, info_of, matching_queryables, matching_subscribers, numbered_by, queryable_of, queryables_for, subscriber_of, subscribers_for, with_numbers}
-use Rattle.zt_model.specs.Hearing.{heard_all, messages_for, put_if, rows_heard}
-use Rattle.zt_model.specs.Lists.{at_id, first_of, first_where, has_id, in_key_order, without_id}
+use Rattle.zt_model.specs.Hearing.{heard_all, messages_for, rows_heard}
+use Rattle.zt_model.specs.Lists.{at_id, first_of, first_where, has_id, in_key_order}
 use Rattle.zt_model.specs.Parts.{Alter, Part, Say, Sends, altered_by, find_face, is_routed, said_by, to_each, to_face, with_face}
-use Rattle.zt_model.specs.Routing.{asked_as, ended, ending, finalising, finishing, initial_finalised, is_target, route_to, sent_as, unheld}
-use Rattle.zt_model.specs.Rows.{Ask, ById, Face, InterestRow, Pending, Rows}
+use Rattle.zt_model.specs.Routing.{asked_as, ended, finalising, finishing, initial_finalised, is_target, route_to, sent_as, unheld}
+use Rattle.zt_model.specs.Rows.{Ask, ById, Face, InterestRow, Rows}
 use Rattle.zt_model.specs.Says.{altered, answers_of, asking, forget, declaring_of, finalising_held, final_of, hiding_undeclared, parts_of, row_of, said, undeclaring_of}
 use Rattle.zt_model.specs.Strategy.{is_router_hat, strategy_of}
 use Rattle.zt_model.specs.Telling.{answering, declaring, registered, registers, undeclared, undeclaring, unregistered}
 use Rattle.zt_model.specs.Transcript.{Each}
 use Rattle.zt_model.specs.Trees.{hiding, is_newly_shown, router_regions, showing, source_of, with_own_rows, with_routed, without_own_rows}
 use Rattle.zt_model.specs.Wants.{kept_options}
-use Rattle.zt_laws.specs.Sound.{RiseFrom}
-use Rattle.zt_laws.proofs.Hearing.{find_each, find_passes, heard_all-region, messages_for-append, messages_for_own}
-use Rattle.zt_laws.proofs.Lists.{by_test, each_always, each_append, each_filter, each_map, each_weaker, never, of_cond}
+use Rattle.zt_laws.proofs.Hearing.{find_each, messages_for-append, messages_for_own}
+use Rattle.zt_laws.proofs.Lists.{by_test, each_always, each_append, each_map, of_cond}
 use Rattle.zt_laws.proofs.PartsOrder.{each_flat_map}
-use Rattle.zt_trees.specs.Facts.{IsTreeFace, LeadsDown, LeadsUp, tokens_after}
+use Rattle.zt_trees.specs.Facts.{IsTreeFace, tokens_after}
 use Rattle.zt_trees.proofs.Calls.{close_fine, declare_fine, entities_fine, expire_fine, final_fine, finish_fine, trees_fine, undeclare_fine}
 use Rattle.zt_trees.proofs.Knowledge.{is_no_router}
-use Rattle.zt_trees.proofs.Parts.{Good, Inside, still_inside, tree_face_less}
-use Rattle.zt_trees.proofs.Rules.{answers_of_well, final_well, kept_twice, own_mode, plainly, route_well}
-use Rattle.zt_trees.proofs.Saying.{IsReal, SaidWell, TreeRows, asks_after, find_heard_at, tree_rows_heard, well_append}
-use Rattle.zt_trees.proofs.Tracking.{SameEar, Unmoved, altered_to, ear_itself, ear_trans, find_with_face, said_well, sent_each, sent_face, unmoved_ear, unmoved_itself, unmoved_trans, with_face_rows}
+use Rattle.zt_trees.proofs.Parts.{Good, Inside, still_inside}
+use Rattle.zt_trees.proofs.Rules.{answers_of_well, final_well, kept_twice, own_mode, route_well}
+use Rattle.zt_trees.proofs.Saying.{IsReal, SaidWell, TreeRows, asks_after, find_heard_at, well_append}
+use Rattle.zt_trees.proofs.Tracking.{SameEar, Unmoved, altered_to, ear_itself, ear_trans, find_with_face, said_well, sent_each, sent_face, unmoved_ear, unmoved_itself, unmoved_trans}
 
 pub ended_unmoved : {K : Type 0} (id : ℕ) (f : Face K) → Unmoved f (ended id f)
 ended_unmoved id f = record { region = refl; live = refl; told = refl; next = refl; held = refl; locals = refl; asks = refl; stays = λ row. not (id == row.0); pendings = refl }

@@ -4,6 +4,7 @@ pub mod Climbing
 pub mod Effects
 pub mod Hears
 pub mod Knowledge
+pub mod Lasting
 pub mod Lines
 pub mod Members
 pub mod Parts
@@ -11,6 +12,7 @@ pub mod Quiet
 pub mod Rules
 pub mod Saying
 pub mod Speaks
+pub mod Standing
 pub mod Start
 pub mod Stepping
 pub mod Steps

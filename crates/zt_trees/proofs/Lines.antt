@@ -1,51 +1,46 @@
 -- Lines that open and close no face, but that a plain face may close: what is true of joints stays true.
-use Rattle.std.proofs.Common.{◌≡◌, ◌≢◌, ◌⊎◌, inl, inr, ℕ, ◌+◌, ◌-◌, ◌≤◌, Bool, true, false, cond, if◌then◌else◌, ◌&&◌, ◌||◌, ◌==◌, not, nat_lt, List, [], ◌∷◌, ◌++◌, length, map, filter, Option, Some, None, Ok, Err, is_none, is_some, refl, sym, ap, ◌∙◌, subst, eq-eqb, eqb-true, ne_eqb, arith, ⊎_elim}
+use Rattle.std.proofs.Common.{◌≡◌, ◌≢◌, ℕ, Bool, true, false, ◌&&◌, ◌||◌, ◌==◌, not, List, ◌++◌, map, Option, Some, None, is_none, refl, sym, ap, ◌∙◌, ⊎_elim}
 use Rattle.std.proofs.lemmas.Bool.{and_from, and_parts, or_cases, or_left, or_right}
 use Rattle.std.specs.Cmp.{IsTotalOrder}
 use Rattle.std.specs.List.{list_any}
 use Rattle.std.specs.declared.cmp.Ordering.{Ordering}
-use Rattle.std.specs.declared.cmp.Ordering.TheVariants.{Equal}
 use Rattle.zt_region.specs.declared.region.WhatAmI.TheVariants.{Peer, Client}
 use Rattle.zt_region.specs.Region.{is_north, whatami_eq}
-use Rattle.zt_protocol.specs.Plain.{PlainCall, NewSession, NewTransport, DeclareToken, UndeclareToken, Interest, InterestFinal, DeclareFinal, CloseFace, Expire, SetTrees, SetEntities, PlainLine}
+use Rattle.zt_protocol.specs.Plain.{PlainCall, NewSession, NewTransport, DeclareToken, UndeclareToken, Interest, InterestFinal, DeclareFinal, CloseFace, Expire, SetTrees, SetEntities}
 use Rattle.zt_protocol.specs.declared.entries.Sent.{Sent}
-use Rattle.zt_protocol.specs.declared.errors.Refusal.{Refusal}
-use Rattle.zt_protocol.specs.declared.errors.Refusal.TheVariants as refusal
 use Rattle.zt_protocol.specs.declared.interests.InterestMode.{InterestMode}
 use Rattle.zt_protocol.specs.declared.interests.InterestOptions.{InterestOptions}
 use Rattle.zt_protocol.specs.declared.messages.Message.{Message}
-use Rattle.zt_protocol.specs.declared.messages.Message.TheVariants as message
-use Rattle.zt_model.specs.Fabric.{CallAt, Fabric, Link, Node, Place, after_hearing, call_face, gateways_after_hearing, number_from, number_of_place, printed_for, with_rows, with_waiting}
-use Rattle.zt_model.specs.Linking.{is_end_of, waiting_of}
-use Rattle.zt_model.specs.Lists.{at_id, has_id, is_some_and, nth, rest_of}
+use Rattle.zt_model.specs.Fabric.{Fabric, Node, Place, after_hearing, call_face, gateways_after_hearing, number_from, printed_for, with_rows, with_waiting}
+use Rattle.zt_model.specs.Lists.{is_some_and, nth}
 use Rattle.zt_model.specs.Parts.{find_face}
-use Rattle.zt_model.specs.Refusals.{asks_from_north, call_causes, first_cause, is_unknown_face}
+use Rattle.zt_model.specs.Refusals.{asks_from_north, call_causes, first_cause}
 use Rattle.zt_model.specs.Rows.{ById, Face, Rows}
 use Rattle.zt_model.specs.Says.{altered, said}
 use Rattle.zt_model.specs.Strategy.{is_router_hat, strategy_of}
-use Rattle.zt_model.specs.Transcript.{Each, FaceAt, face_numbered}
-use Rattle.zt_laws.specs.Order.{FabricIsInOrder, HasRowsInOrder}
-use Rattle.zt_laws.specs.Sound.{CallHasFirstIds, IsToldInOrder, RiseFrom, is_placed, opens_face, rows_after_call}
-use Rattle.zt_laws.proofs.Calls.{no_cause, not_on_face}
+use Rattle.zt_model.specs.Transcript.{FaceAt, face_numbered}
+use Rattle.zt_laws.specs.Order.{FabricIsInOrder}
+use Rattle.zt_laws.specs.Sound.{CallHasFirstIds, IsToldInOrder, is_placed, opens_face}
+use Rattle.zt_laws.proofs.Calls.{no_cause}
 use Rattle.zt_laws.proofs.CallsOrder.{altered_faces}
 use Rattle.zt_laws.proofs.Gateways.{PrintsSends}
 use Rattle.zt_laws.proofs.Hearing.{find_each, heard_all-region}
-use Rattle.zt_laws.proofs.Lists.{any_weaker, by_test, each_weaker, never, of_cond, rise_above}
+use Rattle.zt_laws.proofs.Lists.{any_weaker, by_test, each_weaker, never, rise_above}
 use Rattle.zt_laws.proofs.LinesOrder.{after_prints, calls_nothing, faces_placed, gateway_in_order}
 use Rattle.zt_laws.proofs.Places.{number_of_nth}
-use Rattle.zt_trees.specs.Facts.{IsForAbove, IsForBelow, IsTreeFace, IsTreeGateway, JointAgrees, LeadsUp, TreesAgree, tokens_by}
-use Rattle.zt_trees.specs.Joints.{EachJoint, HasBothEnds, LinksStand, are_joined, joins}
+use Rattle.zt_trees.specs.Facts.{IsTreeFace, IsTreeGateway, JointAgrees, TreesAgree}
+use Rattle.zt_trees.specs.Joints.{EachJoint, are_joined, joins}
 use Rattle.zt_trees.proofs.Effects.{Hears, any_entities, any_expire, any_trees, other_close, other_declare, other_final, other_finish, other_interest, other_undeclare}
-use Rattle.zt_trees.proofs.Members.{IsThere, each_nth, is_there, number_is_its}
+use Rattle.zt_trees.proofs.Members.{each_nth, number_is_its}
 use Rattle.zt_trees.proofs.Quiet.{joined_back}
 use Rattle.zt_trees.proofs.Saying.{IsReal, TreeRows}
-use Rattle.zt_trees.proofs.Turning.{Quietly, joint_stays, queue, quietly, turned}
+use Rattle.zt_trees.proofs.Turning.{joint_stays, quietly, turned}
 
 -- ---- other faces hear
 
 module _ {K : Type 0} (cmp : K → K → Ordering) (matching : K → K → Bool) where
   -- an interest is accepted from a face that leads down
-  interest_from : (spent : Bool) (n id : ℕ) (mode : InterestMode) (options : InterestOptions) (e : Option K) (g : Rows K) → TreeRows cmp g → first_cause (call_causes cmp matching spent (Interest n id mode options e) g) ≡ None → (from : Face K) × ((find_face n g ≡ Some from) × (is_north from.region ≡ false))
+  pub interest_from : (spent : Bool) (n id : ℕ) (mode : InterestMode) (options : InterestOptions) (e : Option K) (g : Rows K) → TreeRows cmp g → first_cause (call_causes cmp matching spent (Interest n id mode options e) g) ≡ None → (from : Face K) × ((find_face n g ≡ Some from) × (is_north from.region ≡ false))
   unfolding call_causes
   interest_from spent n id mode options e g rows accepted =
       let one = no_cause _ _ _ accepted in

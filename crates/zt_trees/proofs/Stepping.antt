@@ -1,20 +1,18 @@
 -- Steps take the oldest message of a direction of a link: what is true of joints stays true.
-use Rattle.std.proofs.Common.{◌≡◌, ◌≢◌, ◌⊎◌, inl, inr, ℕ, ◌+◌, ◌≤◌, Bool, true, false, cond, if◌then◌else◌, ◌&&◌, ◌||◌, ◌==◌, not, List, [], ◌∷◌, ◌++◌, map, filter, Option, Some, None, option_map, refl, sym, ap, ◌∙◌, subst, eq-eqb, eqb-true, ne_eqb, arith, ⊎_elim}
-use Rattle.std.proofs.lemmas.Bool.{and_from, and_parts, or_cases}
+use Rattle.std.proofs.Common.{◌≡◌, ℕ, Bool, true, false, if◌then◌else◌, ◌||◌, ◌==◌, not, List, [], ◌∷◌, map, Option, Some, None, option_map, refl, sym, ap, ◌∙◌, subst, eq-eqb, eqb-true, ne_eqb}
 use Rattle.std.specs.Cmp.{IsTotalOrder}
-use Rattle.std.specs.List.{list_any}
 use Rattle.std.specs.declared.cmp.Ordering.{Ordering}
 use Rattle.zt_region.specs.Region.{is_north}
 use Rattle.zt_protocol.specs.Plain.{PlainCall}
 use Rattle.zt_protocol.specs.declared.entries.Sent.{Sent}
 use Rattle.zt_protocol.specs.declared.messages.Message.{Message}
-use Rattle.zt_model.specs.Fabric.{Fabric, Link, Node, call_face}
+use Rattle.zt_model.specs.Fabric.{Fabric, Node, call_face}
 use Rattle.zt_model.specs.Hearing.{messages_for}
 use Rattle.zt_model.specs.Linking.{waiting_of}
 use Rattle.zt_model.specs.Parts.{find_face}
 use Rattle.zt_model.specs.Lists.{at_id, has_id, nth, rest_of}
 use Rattle.zt_model.specs.Refusals.{call_causes, first_cause}
-use Rattle.zt_model.specs.Rows.{ById, Face, Rows}
+use Rattle.zt_model.specs.Rows.{ById, Face}
 use Rattle.zt_model.specs.Says.{altered, said}
 use Rattle.zt_model.specs.Transcript.{FaceAt, face_numbered}
 use Rattle.zt_laws.specs.Order.{FabricIsInOrder}
@@ -23,15 +21,15 @@ use Rattle.zt_laws.proofs.Gateways.{PrintsSends}
 use Rattle.zt_laws.proofs.Hearing.{heard_all-region}
 use Rattle.zt_laws.proofs.Lists.{by_test, never}
 use Rattle.zt_trees.specs.Facts.{JointAgrees, TreesAgree}
-use Rattle.zt_trees.specs.Joints.{EachJoint, HasBothEnds, LinksStand, are_joined}
+use Rattle.zt_trees.specs.Joints.{EachJoint, are_joined}
 use Rattle.zt_trees.proofs.Effects.{Hears}
 use Rattle.zt_trees.proofs.Lines.{hears_call, same_number, tree_rows}
-use Rattle.zt_trees.proofs.Members.{IsThere, is_there}
+use Rattle.zt_trees.proofs.Members.{is_there}
 use Rattle.zt_trees.proofs.Quiet.{joined_back}
-use Rattle.zt_trees.proofs.Saying.{SaidWell, TreeRows}
+use Rattle.zt_trees.proofs.Saying.{SaidWell}
 use Rattle.zt_trees.proofs.Speaks.{lower_like, upper_like}
-use Rattle.zt_trees.proofs.Tracking.{Unmoved, thin}
-use Rattle.zt_trees.proofs.Turning.{Quietly, TurnsTo, joint_stays, joint_turns, queue, quietly, turned, turns_here}
+use Rattle.zt_trees.proofs.Tracking.{thin}
+use Rattle.zt_trees.proofs.Turning.{TurnsTo, joint_stays, joint_turns, queue, quietly, turned, turns_here}
 
 -- ---- queues
 
@@ -75,7 +73,7 @@ queue_taken {K} q w = ap (λ (o : Option (List (Message K))). (let ms : List (Me
 queue_still : {K : Type 0} (q k : ℕ) (w : ById (List (Message K))) → (q == k) ≡ false → queue (taken q w) k ≡ queue w k
 queue_still {K} q k w apart = ap (λ (o : Option (List (Message K))). (let ms : List (Message K) = elim o [ None ↦ [] | Some xs ↦ xs ] in ms)) (at_still q k w apart)
 
-has_taken : {K : Type 0} (q k : ℕ) (w : ById (List (Message K))) → has_id k w ≡ true → has_id k (taken q w) ≡ true
+pub has_taken : {K : Type 0} (q k : ℕ) (w : ById (List (Message K))) → has_id k w ≡ true → has_id k (taken q w) ≡ true
 has_taken q k w there = has_taken_same q k w ∙ there
 
 module _ {K : Type 0} (cmp : K → K → Ordering) (matching : K → K → Bool) (total : IsTotalOrder cmp) (s : Fabric K) (fine : FabricIsInOrder cmp matching s) (agree : TreesAgree cmp matching s)

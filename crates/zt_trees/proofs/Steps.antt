@@ -1,21 +1,19 @@
 -- A step: an end of a joint speaks the oldest message that waits for it to. Where the call is accepted its rows become
 -- what the message makes of them; where it is refused the message makes nothing of them.
-use Rattle.std.proofs.Common.{◌≡◌, ◌≢◌, ◌⊎◌, inl, inr, ℕ, ◌+◌, ◌≤◌, ◌<◌, max, Bool, true, false, cond, if◌then◌else◌, ◌&&◌, ◌||◌, ◌==◌, not, nat_lt, List, [], ◌∷◌, ◌++◌, length, filter, Option, Some, None, is_none, is_some, refl, sym, ap, ◌∙◌, subst, eq-eqb, eqb-true, ne_eqb, arith, ⊎_elim}
-use Rattle.std.proofs.lemmas.Bool.{and_from, and_parts, le-ltb, or_cases}
+use Rattle.std.proofs.Common.{◌≡◌, ◌≢◌, ℕ, ◌≤◌, ◌<◌, max, Bool, true, false, cond, if◌then◌else◌, ◌&&◌, ◌||◌, ◌==◌, not, nat_lt, List, [], ◌∷◌, ◌++◌, length, Option, Some, None, is_none, is_some, refl, sym, ap, ◌∙◌, subst, eq-eqb, eqb-true, ne_eqb, arith}
+use Rattle.std.proofs.lemmas.Bool.{and_parts, le-ltb}
 use Rattle.std.specs.Option.{option_to_list}
 use Rattle.std.proofs.lemmas.Nat.{and_assoc}
-use Rattle.std.specs.Int.Bits.{and_zero_r, bit_and}
+use Rattle.std.specs.Int.Bits.{and_zero_r}
 use Rattle.std.specs.Cmp.{IsTotalOrder}
 use Rattle.std.specs.FinMap.Entries.{put}
 use Rattle.std.specs.List.{list_any}
 use Rattle.std.specs.Ordering.{nat_cmp}
 use Rattle.std.specs.declared.cmp.Ordering.{Ordering}
 use Rattle.std.specs.declared.cmp.Ordering.TheVariants.{Equal}
-use Rattle.zt_region.specs.declared.region.Region.{Region}
-use Rattle.zt_region.specs.declared.region.WhatAmI.{WhatAmI}
 use Rattle.zt_region.specs.declared.region.WhatAmI.TheVariants.{Router, Client}
 use Rattle.zt_region.specs.Region.{is_north, whatami_eq}
-use Rattle.zt_protocol.specs.Interest.{has_aggregate, has_tokens, is_current, is_future, without_aggregate}
+use Rattle.zt_protocol.specs.Interest.{has_aggregate, has_tokens, is_current, is_future}
 use Rattle.zt_protocol.specs.declared.errors.Refusal.{Refusal}
 use Rattle.zt_protocol.specs.declared.errors.Refusal.TheVariants as refusal
 use Rattle.zt_protocol.specs.declared.interests.InterestMode.{InterestMode}
@@ -27,24 +25,24 @@ use Rattle.zt_model.specs.Entities.{numbered_by, numbered_with}
 use Rattle.zt_model.specs.Hearing.{messages_for, told_pair}
 use Rattle.zt_model.specs.Lists.{at_id, has_id, is_some_and, same, without_id}
 use Rattle.zt_model.specs.Parts.{find_face, is_routed}
-use Rattle.zt_model.specs.Refusals.{Causes, GREATEST_DICTIONARY, adds_row, answers_nothing, asks_from_north, call_causes, fills_dictionary, first_cause, is_illegal_current, is_interest_id_in_use, is_token_id_in_use, is_unknown_ask, is_unknown_face, is_unknown_router, is_unknown_token, names_nothing, on_face}
+use Rattle.zt_model.specs.Refusals.{Causes, GREATEST_DICTIONARY, adds_row, asks_from_north, call_causes, fills_dictionary, first_cause, is_interest_id_in_use, is_token_id_in_use, is_unknown_ask, is_unknown_face, is_unknown_router, is_unknown_token, on_face}
 use Rattle.zt_model.specs.Routing.{asked_as, sent_as, unheld}
-use Rattle.zt_model.specs.Rows.{Ask, ById, Face, InterestRow, Pending, Rows}
+use Rattle.zt_model.specs.Rows.{ById, Face, InterestRow, Pending, Rows}
 use Rattle.zt_model.specs.Says.{altered, row_of, said}
 use Rattle.zt_model.specs.Telling.{registered, registers, undeclared, unregistered}
 use Rattle.zt_model.specs.Transcript.{Each}
 use Rattle.zt_model.specs.Wants.{kept_options}
 use Rattle.zt_laws.specs.Sound.{RiseFrom}
 use Rattle.zt_laws.proofs.Calls.{no_cause, not_on_face}
-use Rattle.zt_laws.proofs.Hearing.{find_each, find_passes}
+use Rattle.zt_laws.proofs.Hearing.{find_each}
 use Rattle.zt_laws.proofs.Keys.{same_itself}
-use Rattle.zt_laws.proofs.Lists.{any_none, by_test, each_append, each_fails, each_filter, each_weaker, filter_all, never, of_cond}
-use Rattle.zt_trees.specs.Facts.{FitsFalling, FitsModes, InterestsRise, IsClear, IsForAbove, IsForBelow, IsTreeFace, JointAgrees, LeadsDown, LeadsUp, interests_by, token_interests, tokens_by, top_of}
-use Rattle.zt_trees.proofs.Effects.{Acts, Hears, own_declare, own_final, own_finish, own_interest, own_undeclare}
+use Rattle.zt_laws.proofs.Lists.{by_test, each_append, each_fails, each_filter, each_weaker, filter_all, never, of_cond}
+use Rattle.zt_trees.specs.Facts.{FitsModes, IsClear, IsTreeFace, JointAgrees, tokens_by, top_of}
+use Rattle.zt_trees.proofs.Effects.{Acts, own_declare, own_final, own_finish, own_interest, own_undeclare}
 use Rattle.zt_trees.proofs.Knowledge.{is_no_router}
 use Rattle.zt_trees.proofs.Saying.{SaidWell, TreeRows}
 use Rattle.zt_trees.proofs.Speaks.{lower_like, lower_speaks, not_in_use, put_is_told, upper_asks, upper_ends, upper_is_refused, upper_speaks_token, without_none}
-use Rattle.zt_trees.proofs.Tracking.{Unmoved, thin}
+use Rattle.zt_trees.proofs.Tracking.{thin}
 use Rattle.zt_trees.proofs.Waiting.{below_top}
 
 -- ---- causes, one after another
@@ -69,7 +67,7 @@ face_test n g test f found fails = ap (λ o. is_some_and o test) found ∙ fails
 known_face : {K : Type 0} (n : ℕ) (g : Rows K) (f : Face K) → find_face n g ≡ Some f → is_unknown_face n g ≡ false
 known_face n g f found = ap is_none found
 
-found_at : {A : Type 0} (id : ℕ) (rows : ById A) → has_id id rows ≡ true → (x : A) × (at_id id rows ≡ Some x)
+pub found_at : {A : Type 0} (id : ℕ) (rows : ById A) → has_id id rows ≡ true → (x : A) × (at_id id rows ≡ Some x)
 found_at id [] h = cc
 found_at id (row ∷ rows) h = by_test (id == row.0) (λ here. rw here (row.1, refl)) (λ here. rw here (found_at id rows (rw here at h)))
 
@@ -77,7 +75,7 @@ no_id_below : {A : Type 0} (id : ℕ) (rows : ById A) → Each (λ row. row.0 < 
 no_id_below id [] all = refl
 no_id_below id (row ∷ rows) all = let less : row.0 < id = all.0 in let miss : (id == row.0) ≡ false = ne_eqb id row.0 (λ is. omega arith) in rw miss (no_id_below id rows all.1)
 
-not_true : {b : Bool} → not b ≡ false → b ≡ true
+pub not_true : {b : Bool} → not b ≡ false → b ≡ true
 not_true {b} h = by_test b (λ e. e) (λ e. let t : not b ≡ true = ap not e in never t h)
 
 module _ {K : Type 0} (cmp : K → K → Ordering) (matching : K → K → Bool) (total : IsTotalOrder cmp) (equal_is_same : (a b : K) → cmp a b ≡ Equal → a ≡ b) (g : Rows K) (p : ℕ) (z : Face K) (rows : TreeRows cmp g) (found : find_face p g ≡ Some z) (lives : RiseFrom (λ row. row.0) 0 z.live) where

@@ -1,21 +1,19 @@
 -- A call is made at a gateway of a fabric: what becomes of each joint.
-use Rattle.std.proofs.Common.{◌≡◌, ◌≢◌, ◌⊎◌, inl, inr, ℕ, ◌+◌, ◌-◌, ◌≤◌, Bool, true, false, cond, if◌then◌else◌, ◌&&◌, ◌||◌, ◌==◌, not, List, [], ◌∷◌, ◌++◌, length, map, filter, Option, Some, None, option_map, refl, sym, ap, ◌∙◌, subst, eq-eqb, eqb-true, ne_eqb, arith, ⊎_elim}
-use Rattle.std.proofs.lemmas.Bool.{or_cases}
+use Rattle.std.proofs.Common.{◌≡◌, ◌≢◌, ℕ, ◌-◌, ◌≤◌, Bool, true, false, ◌==◌, List, [], ◌∷◌, ◌++◌, map, Option, Some, None, option_map, refl, sym, ap, ◌∙◌, subst, eq-eqb, eqb-true, ne_eqb, arith}
 use Rattle.std.specs.Cmp.{IsTotalOrder}
-use Rattle.std.specs.List.{list_any}
 use Rattle.std.specs.declared.cmp.Ordering.{Ordering}
 use Rattle.zt_region.specs.Region.{is_north}
 use Rattle.zt_protocol.specs.Plain.{PlainCall}
 use Rattle.zt_protocol.specs.declared.entries.Sent.{Sent}
 use Rattle.zt_protocol.specs.declared.messages.Message.{Message}
-use Rattle.zt_model.specs.Fabric.{Fabric, Link, Node, Place, at_nth, number_from, number_of_place, printed_for, with_rows}
-use Rattle.zt_model.specs.Hearing.{heard_all, messages_for, rows_heard}
+use Rattle.zt_model.specs.Fabric.{Fabric, Node, at_nth, number_from, printed_for, with_rows}
+use Rattle.zt_model.specs.Hearing.{heard_all, messages_for}
 use Rattle.zt_model.specs.Linking.{waiting_of}
-use Rattle.zt_model.specs.Lists.{at_id, first_where, has_id, nth, rest_of}
+use Rattle.zt_model.specs.Lists.{at_id, has_id, nth}
 use Rattle.zt_model.specs.Parts.{find_face}
-use Rattle.zt_model.specs.Rows.{ById, Face, Rows}
+use Rattle.zt_model.specs.Rows.{ById, Face}
 use Rattle.zt_model.specs.Says.{altered, said}
-use Rattle.zt_model.specs.Transcript.{Each, FaceAt, face_numbered}
+use Rattle.zt_model.specs.Transcript.{FaceAt, face_numbered}
 use Rattle.zt_laws.specs.Kept.{told_of}
 use Rattle.zt_laws.specs.Order.{FabricIsInOrder}
 use Rattle.zt_laws.specs.Sound.{CallHasFirstIds, is_placed, rows_after_call}
@@ -28,9 +26,8 @@ use Rattle.zt_laws.proofs.NextIds.{DrawNext, call_draws}
 use Rattle.zt_laws.proofs.Numbered.{nth_real}
 use Rattle.zt_laws.proofs.PartsOrder.{each_of_map}
 use Rattle.zt_trees.specs.Facts.{JointAgrees}
-use Rattle.zt_trees.specs.Joints.{EachJoint, HasBothEnds, LinksStand, are_joined}
-use Rattle.zt_trees.proofs.Effects.{Acts, Hears}
-use Rattle.zt_trees.proofs.Members.{IsThere, is_there, number_is_its, numbered}
+use Rattle.zt_trees.proofs.Effects.{Hears}
+use Rattle.zt_trees.proofs.Members.{is_there, number_is_its, numbered}
 use Rattle.zt_trees.proofs.Saying.{SaidWell, find_heard_at, lower_hears_all, upper_hears_all}
 use Rattle.zt_trees.proofs.Speaks.{lower_like, upper_like}
 use Rattle.zt_trees.proofs.Tracking.{Unmoved, thin, unmoved_itself}
