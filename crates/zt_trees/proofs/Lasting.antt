@@ -1,17 +1,16 @@
 -- Calls and steps that close no face: fabrics of trees still agree, where their gateways are still those of trees.
-use Rattle.std.proofs.Common.{◌≡◌, ◌≢◌, ℕ, Bool, true, false, ◌&&◌, ◌||◌, ◌==◌, not, nat_lt, List, [], ◌∷◌, ◌++◌, map, Option, Some, None, Err, is_some, refl, sym, ap, ◌∙◌, subst, ⊎_elim}
+use Rattle.std.proofs.Common.{◌≡◌, ◌≢◌, ℕ, Bool, true, false, not, nat_lt, List, [], Option, Some, None, Err, is_some, refl, sym, ap, ◌∙◌, subst}
 use Rattle.std.specs.Cmp.{IsTotalOrder}
-use Rattle.std.specs.List.{list_any}
 use Rattle.std.specs.declared.cmp.Ordering.{Ordering}
 use Rattle.std.specs.declared.cmp.Ordering.TheVariants.{Equal}
-use Rattle.zt_protocol.specs.Plain.{PlainCall, PlainEntry, NewSession, NewTransport, DeclareToken, UndeclareToken, Interest, InterestFinal, DeclareFinal, CloseFace, Expire, SetTrees, SetEntities, PlainLine, Gateway, Session, Face as FaceLine, Link as LinkLine, Unlink, Step, Speak, Moment, SetTreesAt}
+use Rattle.zt_protocol.specs.Plain.{PlainCall, NewSession, NewTransport, DeclareToken, UndeclareToken, Interest, InterestFinal, DeclareFinal, CloseFace, Expire, SetTrees, SetEntities, PlainLine, Gateway, Session, Face as FaceLine, Link as LinkLine, Unlink, Step, Speak, Moment, SetTreesAt}
 use Rattle.zt_protocol.specs.Refusal.{number_of}
 use Rattle.zt_protocol.specs.declared.errors.Refusal.{Refusal}
 use Rattle.zt_protocol.specs.declared.errors.Refusal.TheVariants as refusal
 use Rattle.zt_protocol.specs.declared.messages.Message.{Message}
 use Rattle.zt_protocol.specs.declared.messages.Message.TheVariants as message
-use Rattle.zt_model.specs.Fabric.{CallAt, Fabric, Link, Node, Place, after_hearing, after_refusal, altered_at, altered_by_line, built_causes, call_at, call_at_place, call_face, call_of, call_of_face, call_of_step, causes_of_call, entry_by, entry_of, fabric_after, line_causes, line_spends_ids, said_at, said_by_line, sorted_by_face, table_at, with_call_face, with_waiting, without_message}
-use Rattle.zt_model.specs.Linking.{call_of_message, oldest, sending_end, speaking_end, waiting_of}
+use Rattle.zt_model.specs.Fabric.{CallAt, Fabric, Link, Node, Place, after_hearing, after_refusal, altered_by_line, built_causes, call_at, call_at_place, call_face, call_of, call_of_face, call_of_step, causes_of_call, entry_by, entry_of, fabric_after, line_causes, line_spends_ids, said_at, said_by_line, sorted_by_face, table_at, with_call_face, with_waiting, without_message}
+use Rattle.zt_model.specs.Linking.{call_of_message, oldest, sending_end}
 use Rattle.zt_model.specs.Lists.{has_id, is_some_and, nth}
 use Rattle.zt_model.specs.Refusals.{call_causes, first_cause}
 use Rattle.zt_model.specs.Rows.{ById}
@@ -24,7 +23,7 @@ use Rattle.zt_laws.proofs.Gateways.{after_hearing_nothing, prints_sorted}
 use Rattle.zt_laws.proofs.Lists.{by_test, never, of_cond}
 use Rattle.zt_laws.proofs.LinesOrder.{called_at, calls_nothing}
 use Rattle.zt_trees.specs.Facts.{IsTreeGateway, TreesAgree}
-use Rattle.zt_trees.specs.Joints.{HasBothEnds, IsForest, IsJoined, LinksStand, are_joined, closes_no_face, is_call_or_step}
+use Rattle.zt_trees.specs.Joints.{IsForest, LinksStand, closes_no_face, is_call_or_step}
 use Rattle.zt_trees.proofs.After.{after_call, agree_after_line, joined_ends, some_oldest, step_is, with_nothing}
 use Rattle.zt_trees.proofs.Lines.{after_is}
 use Rattle.zt_trees.proofs.Standing.{closes_face, links_stand, ranks_stand}

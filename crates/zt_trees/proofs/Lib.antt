@@ -1,4 +1,5 @@
 pub mod After
+pub mod Between
 pub mod Calls
 pub mod Climbing
 pub mod Effects
@@ -6,6 +7,7 @@ pub mod Hears
 pub mod Knowledge
 pub mod Lasting
 pub mod Lines
+pub mod Making
 pub mod Members
 pub mod Parts
 pub mod Quiet

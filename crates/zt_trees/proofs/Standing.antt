@@ -1,22 +1,20 @@
 -- Calls and steps that close no face leave links and ranks as they are.
-use Rattle.std.proofs.Common.{◌≡◌, ◌≢◌, ◌⊎◌, inl, inr, ℕ, ◌+◌, ◌-◌, ◌≤◌, ◌<◌, Bool, true, false, cond, if◌then◌else◌, ◌&&◌, ◌||◌, ◌==◌, not, List, [], ◌∷◌, ◌++◌, length, map, filter, Option, Some, None, option_map, is_none, refl, sym, ap, ◌∙◌, subst, eq-eqb, eqb-true, ne_eqb, arith, ⊎_elim}
+use Rattle.std.proofs.Common.{◌≡◌, ◌≢◌, ℕ, ◌-◌, ◌≤◌, ◌<◌, Bool, true, false, if◌then◌else◌, ◌||◌, ◌==◌, not, List, [], ◌∷◌, ◌++◌, map, Option, Some, None, option_map, refl, sym, ap, ◌∙◌, subst, eq-eqb, eqb-true}
 use Rattle.std.specs.Cmp.{IsTotalOrder}
-use Rattle.std.specs.List.{list_any}
 use Rattle.std.specs.declared.cmp.Ordering.{Ordering}
 use Rattle.zt_region.specs.Region.{is_north}
 use Rattle.zt_protocol.specs.Plain.{PlainCall, NewSession, NewTransport, DeclareToken, UndeclareToken, Interest, InterestFinal, DeclareFinal, CloseFace, Expire, SetTrees, SetEntities}
 use Rattle.zt_protocol.specs.declared.entries.Sent.{Sent}
 use Rattle.zt_protocol.specs.declared.messages.Message.{Message}
-use Rattle.zt_model.specs.Fabric.{Fabric, Node, Place, at_nth, call_face, printed_for, with_rows}
+use Rattle.zt_model.specs.Fabric.{Fabric, Node, at_nth, call_face, printed_for}
 use Rattle.zt_model.specs.Hearing.{heard_all, messages_for, rows_heard}
-use Rattle.zt_model.specs.Linking.{is_end_of}
-use Rattle.zt_model.specs.Lists.{at_id, first_where, has_id, nth}
-use Rattle.zt_model.specs.Parts.{Sends, find_face}
+use Rattle.zt_model.specs.Lists.{at_id, has_id, nth}
+use Rattle.zt_model.specs.Parts.{find_face}
 use Rattle.zt_model.specs.Refusals.{call_causes, first_cause, is_unknown_token}
 use Rattle.zt_model.specs.Rows.{ById, Face, Rows}
 use Rattle.zt_model.specs.Says.{altered, said}
 use Rattle.zt_model.specs.Telling.{registered, registers, undeclared, unregistered}
-use Rattle.zt_model.specs.Transcript.{Each, FaceAt, face_numbered}
+use Rattle.zt_model.specs.Transcript.{FaceAt, face_numbered}
 use Rattle.zt_laws.specs.Order.{FabricIsInOrder}
 use Rattle.zt_laws.specs.Sound.{CallHasFirstIds, opens_face, rows_after_call}
 use Rattle.zt_laws.proofs.Calls.{no_cause, not_on_face}
@@ -29,10 +27,10 @@ use Rattle.zt_laws.proofs.LinesOrder.{gateway_in_order}
 use Rattle.zt_laws.proofs.Numbered.{length-at_nth, nth_real}
 use Rattle.zt_laws.proofs.ToldFrom.{found_by_number}
 use Rattle.zt_trees.specs.Facts.{TreesAgree}
-use Rattle.zt_trees.specs.Joints.{HasBothEnds, IsForest, IsJoined, LinksStand, are_joined}
+use Rattle.zt_trees.specs.Joints.{IsForest, LinksStand}
 use Rattle.zt_trees.proofs.Effects.{Acts, Hears, own_declare, own_final, own_finish, own_interest, own_undeclare, any_entities}
 use Rattle.zt_trees.proofs.Lines.{hears_call, interest_from, tree_rows}
-use Rattle.zt_trees.proofs.Members.{IsThere, is_there, numbered}
+use Rattle.zt_trees.proofs.Members.{is_there, numbered}
 use Rattle.zt_trees.proofs.Saying.{TreeRows, find_heard_at, find_map}
 use Rattle.zt_trees.proofs.Steps.{found_at, not_true}
 use Rattle.zt_trees.proofs.Turning.{nth_other, turned}

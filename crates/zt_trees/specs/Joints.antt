@@ -4,7 +4,7 @@
 use Rattle.std.specs.Prelude.{◌≡◌, ℕ, ◌≤◌, ◌<◌, Bool, true, false, ◌==◌, ◌&&◌, ◌||◌, not, List, length, Some}
 use Rattle.std.specs.List.{list_any}
 use Rattle.zt_region.specs.Region.{is_north}
-use Rattle.zt_protocol.specs.Plain.{CloseFace, PlainLine, Unlink, Step, Speak, Moment, SetTreesAt}
+use Rattle.zt_protocol.specs.Plain.{CloseFace, PlainLine, Link as LinkLine, Unlink, Step, Speak, Moment, SetTreesAt}
 use Rattle.zt_protocol.specs.declared.messages.Message.{Message}
 use Rattle.zt_model.specs.Fabric.{Fabric, Link}
 use Rattle.zt_model.specs.Linking.{is_end_of, waiting_of}
@@ -67,3 +67,9 @@ abbrev pub closes_no_face : {K : Type 0} → PlainLine K → Bool
 closes_no_face (Speak (CloseFace n)) = false
 closes_no_face (Unlink link) = false
 closes_no_face _ = true
+
+-- the line opens and closes no link
+abbrev pub changes_no_link : {K : Type 0} → PlainLine K → Bool
+changes_no_link (LinkLine one two first back) = false
+changes_no_link (Unlink link) = false
+changes_no_link _ = true

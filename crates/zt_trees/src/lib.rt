@@ -11,7 +11,7 @@ ghost use Rattle.zt_model.specs.Transcript.{AllKeepWhatTheyShould, Each, FaceAt,
 ghost use Rattle.zt_model.specs.TreePromises.{IsTreeFabric, KnowsItsTree, are_links_empty, is_plain_number};
 ghost use Rattle.zt_laws.specs.Order.{FabricIsInOrder};
 ghost use Rattle.zt_trees.specs.Facts.{IsTreeGateway, JointAgrees, TreesAgree};
-ghost use Rattle.zt_trees.specs.Joints.{EachJoint, closes_no_face, is_call_or_step};
+ghost use Rattle.zt_trees.specs.Joints.{EachJoint, changes_no_link, closes_no_face, is_call_or_step};
 
 use zt_keys::Key;
 
@@ -28,11 +28,11 @@ pub fn plain_faces_know_their_trees<K: Key>()
         → face_numbered s n ≡ Some x → is_plain_number s n ≡ true → KnowsItsTree K.cmp K.matching s x.gateway x.face }
 {}
 
-/// Calls and steps, in any order: after a step, a call of a face or a call of a gateway, be it accepted or refused, what
-/// waits on each open link still makes of the one end's rows what the other end was told. Only where a line was refused
-/// for want of ids a row may be lost.
-pub fn calls_and_steps_keep_joints<K: Key>()
-    ensures { (is_built : PlainLine K → Bool) (line : PlainLine K) (s : Fabric K) → is_call_or_step line ≡ true
+/// Every line but those that open and close links, in any order: after it, be it accepted or refused, what waits on each open
+/// link still makes of the one end's rows what the other end was told. Only where a line was refused for want of ids a row
+/// may be lost.
+pub fn lines_between_links_keep_joints<K: Key>()
+    ensures { (is_built : PlainLine K → Bool) (line : PlainLine K) (s : Fabric K) → changes_no_link line ≡ true
         → FabricIsInOrder K.cmp K.matching s → TreesAgree K.cmp K.matching s → entry_of K.cmp K.matching is_built line s ≢ Err IdsSpent
         → EachJoint (JointAgrees K.cmp) (fabric_after K.cmp K.matching line (entry_of K.cmp K.matching is_built line s) s) }
 {}
