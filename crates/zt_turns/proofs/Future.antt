@@ -1,8 +1,7 @@
 -- Each turn of a transcript tells the future: who wants a token keeps it after its declaration.
-use Rattle.std.proofs.Common.{◌≡◌, ℕ, ◌-◌, Bool, true, false, not, ◌&&◌, ◌==◌, List, [], ◌∷◌, ◌++◌, map, Option, Some, None, Ok, Err, refl, sym, ap, ◌∙◌, subst}
+use Rattle.std.proofs.Common.{◌≡◌, ℕ, ◌-◌, Bool, true, false, not, ◌&&◌, ◌==◌, List, [], ◌∷◌, map, Option, Some, None, Ok, refl, sym, ap, ◌∙◌, subst}
 use Rattle.std.proofs.lemmas.Bool.{and_parts, not-true}
 use Rattle.std.specs.Cmp.{IsTotalOrder}
-use Rattle.std.specs.List.{flat_map}
 use Rattle.std.specs.Option.{option_to_list}
 use Rattle.std.specs.declared.cmp.Ordering.{Ordering}
 use Rattle.zt_region.specs.declared.region.Region.{Region}
@@ -14,7 +13,7 @@ use Rattle.zt_model.specs.Fabric.{CallAt, Fabric, Node, Place, after_hearing, al
 use Rattle.zt_model.specs.Linking.{LinkEnd, call_of_message, link_ends, oldest, speaking_end}
 use Rattle.zt_model.specs.Lists.{nth}
 use Rattle.zt_model.specs.Places.{Link}
-use Rattle.zt_model.specs.Promises.{TellsAfter, TellsOfRouters, TellsTheFuture, TellsWhoWants, Turn, calls_in, turns_from}
+use Rattle.zt_model.specs.Promises.{TellsAfter, TellsOfRouters, TellsTheFuture, TellsWhoWants, calls_in, turns_from}
 use Rattle.zt_model.specs.Refusals.{call_causes, first_cause}
 use Rattle.zt_model.specs.Rows.{ById, Face, Rows}
 use Rattle.zt_model.specs.Says.{altered, find_face, is_routed, registers, said}
@@ -22,11 +21,11 @@ use Rattle.zt_model.specs.Transcript.{Each, openings, with_opening}
 use Rattle.zt_laws.specs.Order.{FabricIsInOrder, RowsAreInOrder}
 use Rattle.zt_laws.specs.Shown.{as_shown, call_shown, node_shown, without_own}
 use Rattle.zt_laws.specs.Sound.{HasFirstIds, is_placed, opens_face, rows_after_call}
-use Rattle.zt_laws.proofs.AllLines.{in_order_after_line, without_message_is}
+use Rattle.zt_laws.proofs.AllLines.{without_message_is}
 use Rattle.zt_laws.proofs.Calls.{no_cause}
 use Rattle.zt_laws.proofs.CallsOrder.{altered_faces}
 use Rattle.zt_laws.proofs.Ends.{by_end}
-use Rattle.zt_laws.proofs.Gateways.{PrintsSends, prints_sorted}
+use Rattle.zt_laws.proofs.Gateways.{prints_sorted}
 use Rattle.zt_laws.proofs.LinesOrder.{after_prints, called_at, called_by_speaker, called_by_step, faces_placed, gateway_in_order}
 use Rattle.zt_laws.proofs.Lists.{by_test, each_append}
 use Rattle.zt_laws.proofs.PartsOrder.{each_flat_map}

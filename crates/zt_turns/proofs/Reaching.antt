@@ -1,22 +1,20 @@
 -- A declaration reaches each face that wants the expression.
-use Rattle.std.proofs.Common.{◌≡◌, ℕ, Bool, true, false, not, if◌then◌else◌, ◌&&◌, ◌||◌, ◌==◌, List, [], ◌∷◌, ◌++◌, filter, map, Option, Some, None, is_none, refl, sym, ap, ◌∙◌, subst}
+use Rattle.std.proofs.Common.{◌≡◌, ℕ, Bool, true, false, not, if◌then◌else◌, ◌&&◌, ◌==◌, List, [], ◌∷◌, ◌++◌, filter, Option, Some, None, is_none, refl, sym, ap, ◌∙◌, subst}
 use Rattle.std.proofs.lemmas.Bool.{or_right}
 use Rattle.std.specs.Cmp.{IsTotalOrder}
-use Rattle.std.specs.List.{list_any}
 use Rattle.std.specs.declared.cmp.Ordering.{Ordering}
 use Rattle.zt_region.specs.declared.region.Region.{Region}
 use Rattle.zt_region.specs.declared.region.WhatAmI.{WhatAmI}
 use Rattle.zt_region.specs.declared.region.Zid.{Zid}
 use Rattle.zt_region.specs.Admission.{admits}
-use Rattle.zt_region.specs.Region.{is_north, region_eq}
+use Rattle.zt_region.specs.Region.{is_north}
 use Rattle.zt_protocol.specs.Plain.{DeclareToken}
-use Rattle.zt_protocol.specs.declared.messages.Message.{Message}
 use Rattle.zt_model.specs.Hearing.{heard_all, messages_for, rows_heard}
 use Rattle.zt_model.specs.Lists.{has_id, same}
 use Rattle.zt_model.specs.Promises.{TellsWhoWants}
 use Rattle.zt_model.specs.Refusals.{call_causes, first_cause, is_unknown_router}
 use Rattle.zt_model.specs.Rows.{Face, Rows}
-use Rattle.zt_model.specs.Says.{Alter, Part, Say, Sends, answering, declaring, declaring_of, find_face, is_routed, is_told, parts_of, registered, registers, tell_to, to_each, with_face}
+use Rattle.zt_model.specs.Says.{Part, Say, Sends, answering, declaring, declaring_of, find_face, is_routed, is_told, parts_of, registered, registers, tell_to, to_each, with_face}
 use Rattle.zt_model.specs.Strategy.{is_router_hat, strategy_of}
 use Rattle.zt_model.specs.Telling.{answer_to}
 use Rattle.zt_model.specs.Transcript.{Each}
@@ -30,7 +28,7 @@ use Rattle.zt_laws.proofs.Calls.{no_cause, not_on_face}
 use Rattle.zt_laws.proofs.CallsOrder.{orderly_telling, quiet_with_routed}
 use Rattle.zt_laws.proofs.Hearing.{heard_all-region}
 use Rattle.zt_laws.proofs.Keys.{same_itself}
-use Rattle.zt_laws.proofs.Lists.{by_test, each_always, each_both, each_filter, each_map, each_weaker, never, of_cond}
+use Rattle.zt_laws.proofs.Lists.{by_test, each_both, each_filter, each_map, each_weaker, never, of_cond}
 use Rattle.zt_laws.proofs.PartsOrder.{orderly_each, quiet_face}
 use Rattle.zt_laws.proofs.Telling.{heard_tell}
 use Rattle.zt_laws.proofs.Told.{names-append}
