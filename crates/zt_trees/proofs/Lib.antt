@@ -3,6 +3,7 @@ pub mod Between
 pub mod Calls
 pub mod Climbing
 pub mod Effects
+pub mod Fresh
 pub mod Hears
 pub mod Knowledge
 pub mod Lasting

@@ -1,6 +1,8 @@
 -- What is true of a fabric of trees after every line, in whatever order links are opened, closed and stepped. Of each
 -- joint: what waits makes of the one end's rows what the other end was told. Where nothing waits, live tokens are told
--- ones and held interests are local ones, and that carries knowledge from gateway to gateway.
+-- ones and held interests are local ones, and that carries knowledge from gateway to gateway. Only a step that is refused
+-- for want of ids breaks it: its message has left the link, and no row comes of it. Interests without tokens are left out,
+-- since a full dictionary refuses them; any other step that is refused has a message that makes nothing of the rows.
 use Rattle.std.specs.Prelude.{◌≡◌, ◌⊎◌, ℕ, ◌≤◌, ◌<◌, ◌+◌, max, Bool, true, false, ◌==◌, ◌&&◌, not, List, [], ◌∷◌, length, Some, None, filter}
 use Rattle.std.specs.List.{list_any}
 use Rattle.std.specs.declared.cmp.Ordering.{Ordering}

@@ -3,13 +3,23 @@
 //! of trees after every line.
 #![tactic(auto)]
 
-ghost use Rattle.std.specs.Prelude.{◌≡◌, ◌≢◌, ℕ, Bool, true, Some, Err};
-ghost use Rattle.zt_protocol.specs.Plain.{PlainLine};
+ghost use Rattle.std.specs.Prelude.{◌≡◌, ◌≢◌, ◌≤◌, ◌+◌, ℕ, Bool, true, [], Some, Err};
+ghost use Rattle.zt_region.specs.declared.region.Bound.{Bound};
+ghost use Rattle.zt_region.specs.declared.region.Region.TheVariants.{North};
+ghost use Rattle.zt_region.specs.declared.region.WhatAmI.{WhatAmI};
+ghost use Rattle.zt_region.specs.declared.region.WhatAmI.TheVariants.{Client};
+ghost use Rattle.zt_region.specs.declared.region.Zid.{Zid};
+ghost use Rattle.zt_protocol.specs.Plain.{NewTransport, PlainCall, PlainLine};
 ghost use Rattle.zt_protocol.specs.declared.errors.Refusal.TheVariants.{IdsSpent};
 ghost use Rattle.zt_model.specs.Fabric.{Fabric, Node, empty_fabric, entry_of, fabric_after};
+ghost use Rattle.zt_model.specs.Hearing.{messages_for};
+ghost use Rattle.zt_model.specs.Parts.{find_face};
+ghost use Rattle.zt_model.specs.Rows.{Face, Rows};
+ghost use Rattle.zt_model.specs.Says.{said};
 ghost use Rattle.zt_model.specs.Transcript.{AllKeepWhatTheyShould, Each, FaceAt, face_numbered};
 ghost use Rattle.zt_model.specs.TreePromises.{IsTreeFabric, KnowsItsTree, are_links_empty, is_plain_number};
-ghost use Rattle.zt_laws.specs.Order.{FabricIsInOrder};
+ghost use Rattle.zt_laws.specs.Order.{FabricIsInOrder, RowsAreInOrder};
+ghost use Rattle.zt_laws.specs.Sound.{rows_after_call};
 ghost use Rattle.zt_trees.specs.Facts.{IsTreeGateway, JointAgrees, TreesAgree};
 ghost use Rattle.zt_trees.specs.Joints.{EachJoint, changes_no_link, closes_no_face, is_call_or_step};
 
@@ -44,4 +54,14 @@ pub fn calls_and_steps_keep_trees<K: Key>()
         → FabricIsInOrder K.cmp K.matching s → TreesAgree K.cmp K.matching s → entry_of K.cmp K.matching is_built line s ≢ Err IdsSpent
         → (let after = fabric_after K.cmp K.matching line (entry_of K.cmp K.matching is_built line s) s in
         Each (λ (node : Node K). IsTreeGateway K.cmp K.matching node.rows) after.gateways → TreesAgree K.cmp K.matching after) }
+{}
+
+/// A link that opens agrees: the new face to the north of a client gateway, with what is said to it and waits, and a new
+/// face above of which nothing is live, told, held or asked yet.
+pub fn new_links_agree<K: Key>()
+    ensures { (zid : Zid) (whatami : WhatAmI) (bound : Bound) (first : ℕ) (g : Rows K) (lower upper : Face K) → IsTreeGateway K.cmp K.matching g
+        → RowsAreInOrder K.cmp K.matching g → g.mode ≡ Client → 1 ≤ first
+        → (let opens : PlainCall K = NewTransport zid whatami North bound first in
+        find_face (g.made + 1) (rows_after_call K.cmp K.matching opens g) ≡ Some lower → upper.live ≡ [] → upper.told ≡ [] → upper.held ≡ [] → upper.asks ≡ []
+        → JointAgrees K.cmp lower upper (messages_for (g.made + 1) (said K.cmp K.matching opens g)) []) }
 {}
