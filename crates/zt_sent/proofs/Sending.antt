@@ -1,5 +1,5 @@
 -- The interests that a call sends are those that are due.
-use Rattle.std.proofs.Common.{◌≡◌, ℕ, ◌+◌, ◌≤◌, Bool, true, false, not, if◌then◌else◌, ◌&&◌, ◌||◌, ◌==◌, List, [], ◌∷◌, ◌++◌, filter, map, Option, Some, None, refl, sym, ap, ◌∙◌, subst, append-nil, arith, eqb-true, eq-eqb, ne_eqb}
+use Rattle.std.proofs.Common.{◌≡◌, ℕ, ◌+◌, ◌≤◌, Bool, true, false, not, if◌then◌else◌, ◌&&◌, ◌==◌, List, [], ◌∷◌, ◌++◌, filter, Option, Some, None, refl, sym, ap, ◌∙◌, append-nil, arith, eqb-true, eq-eqb, ne_eqb}
 use Rattle.std.specs.Cmp.{IsTotalOrder}
 use Rattle.std.specs.declared.cmp.Ordering.{Ordering}
 use Rattle.std.specs.declared.cmp.Ordering.TheVariants.{Equal}
@@ -15,22 +15,21 @@ use Rattle.zt_protocol.specs.declared.interests.InterestMode.{InterestMode}
 use Rattle.zt_protocol.specs.declared.messages.Message.{Message}
 use Rattle.zt_protocol.specs.declared.messages.Message.TheVariants as message
 use Rattle.zt_model.specs.Entities.{entities_for, numbered_by, with_numbers}
-use Rattle.zt_model.specs.Fabric.{CallAt}
 use Rattle.zt_model.specs.Hearing.{messages_for, rows_heard}
 use Rattle.zt_model.specs.Lists.{first_where, has_id}
 use Rattle.zt_model.specs.Promises.{interests_due, interests_in}
 use Rattle.zt_model.specs.Refusals.{can_draw}
-use Rattle.zt_model.specs.Routing.{face_opened, held_south, interests_from, is_greeted, is_target, is_target_of, opened, opening, opening_final, opening_interests, opening_tokens, route_to, sent_as, tokens_from}
+use Rattle.zt_model.specs.Routing.{face_opened, interests_from, is_greeted, is_target, is_target_of, opened, opening_final, opening_interests, opening_tokens, route_to, sent_as, tokens_from}
 use Rattle.zt_model.specs.Rows.{Face, InterestRow, Rows}
 use Rattle.zt_model.specs.Says.{Alter, Part, Say, Sends, answered_expressions, answering, answers_of, asking, declaring, declaring_of, final_of, find_face, interesting_above, is_routed, is_told, parts_of, registers, row_of, said, said_by, tell_to, to_each, to_face}
 use Rattle.zt_model.specs.Telling.{answer_to}
 use Rattle.zt_model.specs.Transcript.{Each}
-use Rattle.zt_model.specs.Trees.{pass_to, show_to, showing, source_of, with_routed}
+use Rattle.zt_model.specs.Trees.{pass_to, show_to, showing, source_of}
 use Rattle.zt_laws.specs.Order.{RowsAreInOrder}
 use Rattle.zt_laws.specs.Sound.{RiseFrom, opens_face}
 use Rattle.zt_laws.proofs.CallsOrder.{transport_in_order}
 use Rattle.zt_laws.proofs.Drawing.{said_undrawn}
-use Rattle.zt_laws.proofs.Hearing.{each_ruled, each_ruled_one, find_only, messages_for-append, messages_for_each}
+use Rattle.zt_laws.proofs.Hearing.{each_ruled, each_ruled_one, messages_for-append, messages_for_each}
 use Rattle.zt_laws.proofs.Lists.{by_test, each_always, each_append, each_both, each_filter, each_weaker, never, of_cond, rise_above}
 use Rattle.zt_laws.proofs.PartsOrder.{each_message_for}
 use Rattle.zt_laws.proofs.Silent.{silent_final}
@@ -117,9 +116,15 @@ module _ {K : Type 0} (cmp : K → K → Ordering) (matching : K → K → Bool)
 
   declaring_of_none : (n : ℕ) (source : Option Zid) (e : K) (f : Face K) → Each SendsNone (declaring_of cmp matching n source e f)
   declaring_of_none n None e f = tt
-  declaring_of_none n (Some zid) e f = (tt, ((λ g.
-    let all = to_each (pass_to cmp g f.region zid e) g.faces in
-    quiet_sends_none (filter (λ s. not (n == s.0)) all) (each_filter (λ s. IsQuietMessage s.1) (λ s. not (n == s.0)) all (each_pass cmp matching g f.region zid e))), (telling_none f.region e, showing_none f.region e)))
+  declaring_of_none n (Some zid) e f = (
+    tt,
+    (
+      (λ g.
+          let all = to_each (pass_to cmp g f.region zid e) g.faces in
+          quiet_sends_none (filter (λ s. not (n == s.0)) all) (each_filter (λ s. IsQuietMessage s.1) (λ s. not (n == s.0)) all (each_pass cmp matching g f.region zid e))),
+      (telling_none f.region e, showing_none f.region e),
+    ),
+  )
 
   module _ (total : IsTotalOrder cmp) (equal_is_same : (a b : K) → cmp a b ≡ Equal → a ≡ b) where
     answering_none : (n : ℕ) (interest : Option ℕ) (e : K) (f : Face K) → Each SendsNone (answering cmp matching n interest e f)
@@ -160,9 +165,15 @@ module _ {K : Type 0} (cmp : K → K → Ordering) (matching : K → K → Bool)
 
     interesting_none : (pendings : List (ℕ × ℕ)) (n id : ℕ) (interest : InterestRow K) → Each SendsNone (Say (λ h. to_face n (entities_for cmp matching h id interest) h) ∷ interesting_above cmp matching pendings n id interest)
     interesting_none pendings n id interest = (
-      (λ h. each_ruled_one MakesNoPending n (entities_for cmp matching h id interest) h (each_entity cmp MakesNoPending (λ number e i. tt) (λ number e info i. tt) matching h id interest)), (tt,
-      ((λ h. each_ruled_one MakesNoPending n (answers_of cmp matching h id interest) h (λ f. answers_make_none cmp matching f.next f.told interest.mode id (answered_expressions cmp matching h interest f))),
-      ((λ h. each_ruled_one MakesNoPending n (final_of id) h (λ f. each_weaker DrawsNothing MakesNoPending none_if_drawn (final_of id f) (silent_final id f))), tt))))
+      (λ h. each_ruled_one MakesNoPending n (entities_for cmp matching h id interest) h (each_entity cmp MakesNoPending (λ number e i. tt) (λ number e info i. tt) matching h id interest)),
+      (
+        tt,
+        (
+          (λ h. each_ruled_one MakesNoPending n (answers_of cmp matching h id interest) h (λ f. answers_make_none cmp matching f.next f.told interest.mode id (answered_expressions cmp matching h interest f))),
+          ((λ h. each_ruled_one MakesNoPending n (final_of id) h (λ f. each_weaker DrawsNothing MakesNoPending none_if_drawn (final_of id f) (silent_final id f))), tt),
+        ),
+      ),
+    )
 
     asking_sends : (n id : ℕ) (interest : InterestRow K) (asker : Region) (g : Rows K) → RowsAreInOrder cmp matching g
         → Each (λ f. interests_in (messages_for f.number (said_by cmp matching (asking cmp matching n id interest asker g) g)) ≡ (if is_target g asker interest.mode f then interest ∷ [] else [])) g.faces
@@ -239,7 +250,8 @@ module _ {K : Type 0} (cmp : K → K → Ordering) (matching : K → K → Bool)
         let rest : List (Part K) = Say (λ h. to_face n (λ f. tokens_from f.next (opening_tokens cmp matching h f)) h) ∷ Say (to_face n (opening_final cmp matching)) ∷ [] in
         let none_ = said_none rest two (
           (λ h. each_ruled_one MakesNoPending n (λ f. tokens_from f.next (opening_tokens cmp matching h f)) h (λ f. tokens_send_none f.next (opening_tokens cmp matching h f))),
-          ((λ h. each_ruled_one MakesNoPending n (opening_final cmp matching) h (λ f. each_weaker IsQuietMessage MakesNoPending (λ m quiet. none_if_drawn m (drawn_if_quiet m quiet)) (opening_final cmp matching f) (quiet_opening_final cmp matching f))), tt)) in
+          ((λ h. each_ruled_one MakesNoPending n (opening_final cmp matching) h (λ f. each_weaker IsQuietMessage MakesNoPending (λ m quiet. none_if_drawn m (drawn_if_quiet m quiet)) (opening_final cmp matching f) (quiet_opening_final cmp matching f))), tt),
+        ) in
         each_weaker (λ f. messages_for f.number ss ≡ (if n == f.number then rule f else [])) (λ f. interests_in (messages_for f.number (ss ++ said_by cmp matching rest two)) ≡ interests_due cmp matching gateway f (record { gateway = gateway; rows = g; call = NewTransport zid whatami region bound first }))
         (λ f says.
         ap interests_in (messages_for-append f.number ss (said_by cmp matching rest two))
