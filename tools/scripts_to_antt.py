@@ -186,10 +186,12 @@ $name = record {
 }
 ''')
 
-def script_definition(base):
+def script_definition(base, whole=False):
+    """The script, up to the lines that have entries where it isn't wanted whole."""
     key, transcript = Keys(), read(base + '.out')
     entries, totals = transcript_terms(transcript, key)
-    lines = read(base + '.in').split('\n')[:len(entries)]
+    lines = read(base + '.in').split('\n')[:None if whole else len(entries)]
+    if whole: lines = lines[:-1]
     for line in lines: line_term(line, key)
     key.settle()
     entries, totals = transcript_terms(transcript, key)
@@ -369,4 +371,4 @@ def main(words):
     if not bases: sys.exit(__doc__)
     write_crate(sorted(filter(is_taken, bases), key=os.path.basename))
 
-main(sys.argv[1:])
+if __name__ == "__main__": main(sys.argv[1:])

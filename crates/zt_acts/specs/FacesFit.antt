@@ -5,13 +5,15 @@
 --     alone-fit       the same where all is seen of each face and nothing is carried along
 --     all-fit         the same for the faces of a store
 --     each-found, each-spares, each-both     that each face of a store stands there; that ids left for all are left for each
-use Rattle.std.specs.Prelude.{◌≡◌, ◌≤◌, ℕ, true, false, ◌==◌, List, [], ◌∷◌, Option, Some, None, option_map, refl}
+use Rattle.std.specs.Prelude.{◌≡◌, ◌≤◌, ℕ, true, false, ◌==◌, List, [], ◌∷◌, Option, Some, None, option_map, refl, if◌then◌else◌, ◌++◌, filter}
 use Rattle.std.specs.List.{flat_map}
 use Rattle.std.specs.Ordering.{is_lt, nat_cmp}
 use Rattle.std.specs.declared.cmp.Ordering.{Ordering}
 use Rattle.std.proofs.Common.{ap, arith, ◌∙◌}
 use Rattle.std.proofs.lemmas.Bool.Decides.{nat_tests}
-use Rattle.zt_ordered.specs.Test.{and_first, and_second}
+use Rattle.zt_ordered.specs.Test.{and_first, and_second, by_test}
+use Rattle.zt_region.specs.Region.{region_eq}
+use Rattle.zt_region.specs.declared.region.Region.{Region}
 use Rattle.zt_model.specs.Acts.{Act, Fit, Store, acted_all}
 use Rattle.zt_model.specs.Parts.{find_face}
 use Rattle.zt_model.specs.Rows.{Face}
@@ -58,6 +60,18 @@ each-spares rule left (f ∷ fs) spares = (
 pub each-both : {A : Type 0} (P Q R : A → Type 0) → ((x : A) → P x → Q x → R x) → (xs : List A) → Each P xs → Each Q xs → Each R xs
 each-both P Q R both [] ps qs = tt
 each-both P Q R both (x ∷ xs) ps qs = (both x ps.0 qs.0, each-both P Q R both xs ps.1 qs.1)
+
+-- what a rule gives for a face that is of the region
+abbrev pub for_region : {K : Type 0} → Region → (Face K → List (Act K)) → Face K → List (Act K)
+for_region region rule f = if region_eq f.region region then rule f else []
+
+pub in-region-all : {K : Type 0} (region : Region) (rule : Face K → List (Act K)) (fs : List (Face K))
+    → flat_map rule (filter (λ f. region_eq f.region region) fs) ≡ flat_map (for_region region rule) fs
+in-region-all region rule [] = refl
+in-region-all region rule (f ∷ fs) =
+    by_test (region_eq f.region region)
+    (λ t. rw t (ap (λ (acts : List (Act _)). rule f ++ acts) (in-region-all region rule fs)))
+    (λ t. rw t (in-region-all region rule fs))
 
 -- a face stands as it was given, as far as it is seen, and what is known of it holds
 pub record Stands {K : Type 0} (seen : Face K → Face K) (Known : Face K → Type 0) (s : Store K) (f : Face K) : Type 0 where

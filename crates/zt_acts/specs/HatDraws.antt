@@ -68,7 +68,7 @@ module _ {K : Type 0} where
       one (DeclareQueryable id e info interest) = refl
 
   -- one id is drawn where an interest is sent
-  upstream_one : (now : ℕ) (ask : Option ℕ) (n id : ℕ) (mode : InterestMode) (options : InterestOptions) (e : Option K) → count_drawn n (upstream_acts now ask n (Interest id mode options e)) ≡ 1
+  pub upstream_one : (now : ℕ) (ask : Option ℕ) (n id : ℕ) (mode : InterestMode) (options : InterestOptions) (e : Option K) → count_drawn n (upstream_acts now ask n (Interest id mode options e)) ≡ 1
   unfolding upstream_acts
   upstream_one now ask n id Current options e = let own : (n == n) ≡ true = eq-eqb n n refl in rw own refl
   upstream_one now ask n id Future options e = let own : (n == n) ≡ true = eq-eqb n n refl in rw own refl

@@ -148,7 +148,7 @@ module _ {K : Type 0} (cmp : K → K → Ordering) (matching : K → K → Bool)
 
   -- ---- an interest ends at its face
 
-  untell-sends : (f : Face K) → sends_of (untell_acts cmp matching f) ≡ sends_to f.number (untell_to cmp matching f)
+  pub untell-sends : (f : Face K) → sends_of (untell_acts cmp matching f) ≡ sends_to f.number (untell_to cmp matching f)
   unfolding sends_of untell_to
   untell-sends f = by_test (is_north f.region) (λ t. rw t refl) (λ t. rw t (each (unwanted cmp matching f)))
     where

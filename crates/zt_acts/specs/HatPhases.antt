@@ -75,7 +75,7 @@ none-else : (region : Region) (regions : List Region) → Each (λ q. region_eq 
 none-else region [] apart = refl
 none-else region (r ∷ regions) apart = let other = region-apart r region apart.0 in rw other (none-else region regions apart.1)
 
-stands-once : (regions : List Region) (region : Region) → AreApart regions → IsAmong regions region → StandsOnce regions region
+pub stands-once : (regions : List Region) (region : Region) → AreApart regions → IsAmong regions region → StandsOnce regions region
 stands-once [] region apart among = cc
 stands-once (r ∷ regions) region apart among =
     by_test (region_eq region r)

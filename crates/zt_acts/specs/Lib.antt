@@ -10,3 +10,4 @@ pub mod HatInterestSends
 pub mod HatSaid
 pub mod FacesFit
 pub mod TokensFit
+pub mod AsksFit

@@ -1,7 +1,7 @@
 -- What strategies plan for their faces when a token comes or goes fits, where numbers rise and ids are left.
 --     unpropagate-fits     what a strategy that isn't the router's has its faces told of an expression that is gone
 --     propagate-fits       and of one that was registered
-use Rattle.std.specs.Prelude.{◌≡◌, ◌≤◌, ◌+◌, ◌-◌, ℕ, Bool, true, false, nat_le, ◌==◌, ◌&&◌, ◌||◌, not, if◌then◌else◌, List, [], ◌∷◌, ◌++◌, Some, None, is_some, filter, refl}
+use Rattle.std.specs.Prelude.{◌≡◌, ◌≤◌, ◌+◌, ◌-◌, ℕ, Bool, true, false, nat_le, ◌==◌, ◌&&◌, ◌||◌, not, List, [], ◌∷◌, Some, None, is_some, refl}
 use Rattle.std.specs.List.{flat_map, list_any}
 use Rattle.std.specs.declared.cmp.Ordering.{Ordering}
 use Rattle.std.proofs.Common.{ap, arith, subst, sym, ◌∙◌}
@@ -27,25 +27,13 @@ use Rattle.zt_changes.specs.Queries.{ids_left}
 use Rattle.zt_changes.specs.Touches.{face-acted}
 use Rattle.zt_tables.specs.HatActs.{forget_acts, tell_acts}
 use Rattle.zt_tables.specs.HatTokenActs.{propagate_token_acts, unpropagate_token_acts}
-use Rattle.zt_acts.specs.FacesFit.{alone-fit, each-both, each-found, each-spares}
+use Rattle.zt_acts.specs.FacesFit.{alone-fit, each-both, each-found, each-spares, for_region, in-region-all}
 
 itself : (a : ℕ) → (a == a) ≡ true
 itself a = grind (arith, nat_tests)
 
 within : (next : ℕ) → next + 1 ≤ 4294967295 → nat_le (next + 1) 4294967295 ≡ true
 within next h = grind (arith, nat_tests)
-
--- what a rule gives for a face that is of the region
-abbrev for_region : {K : Type 0} → Region → (Face K → List (Act K)) → Face K → List (Act K)
-for_region region rule f = if region_eq f.region region then rule f else []
-
-in-region-all : {K : Type 0} (region : Region) (rule : Face K → List (Act K)) (fs : List (Face K))
-    → flat_map rule (filter (λ f. region_eq f.region region) fs) ≡ flat_map (for_region region rule) fs
-in-region-all region rule [] = refl
-in-region-all region rule (f ∷ fs) =
-    by_test (region_eq f.region region)
-    (λ t. rw t (ap (λ (acts : List (Act _)). rule f ++ acts) (in-region-all region rule fs)))
-    (λ t. rw t (in-region-all region rule fs))
 
 module _ {K : Type 0} (cmp : K → K → Ordering) (matching : K → K → Bool) where
   -- ---- one message

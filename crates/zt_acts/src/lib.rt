@@ -3,7 +3,7 @@
 //! The acts that tell, forget, route, end and open send what the model says (`specs/HatTokenSends`, `HatInterestSends`,
 //! `HatPhases`), draw as many ids as their messages (`HatDraws`), and no region's strategy disturbs another's (`HatAlike`,
 //! `HatApart`). `HatPlans` says that the changes of a call are added and fit, and that a strategy runs as long as its gateway,
-//! `FacesFit` and `TokensFit` that what is planned for one face after another fits.
+//! `FacesFit`, `TokensFit` and `AsksFit` that what is planned for one face after another fits.
 #![tactic(auto)]
 
 mod fitting;

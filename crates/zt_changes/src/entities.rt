@@ -22,11 +22,7 @@ fn subscribers_changed<'a, K>(change: &'a Change<K>, f: u32, found: &'a [K]) -> 
 }
 
 /// The subscribers of the face after the changes, where `found` were handed in before.
-pub fn subscribers_after<'a, K>(
-    changes: &'a [Change<K>],
-    f: u32,
-    mut found: &'a [K],
-) -> &'a [K]
+pub fn subscribers_after<'a, K>(changes: &'a [Change<K>], f: u32, mut found: &'a [K]) -> &'a [K]
     ensures { result.now ≡ folded (subscribers_step f) (map plain_change changes.now) found.now }
 {
     let mut rest = changes;
@@ -46,7 +42,9 @@ fn queryables_changed<'a, K>(
 {
     match change {
         Change::SetEntities {
-            face, queryables, ..
+            face,
+            queryables,
+            ..
         } if *face == f => queryables,
         Change::CloseFace { face } if *face == f => &[],
         _ => found,

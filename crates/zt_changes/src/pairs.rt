@@ -30,11 +30,7 @@ fn adds_same<K: Key>(
 }
 
 /// Whether the changes add to what the face holds an interest of the same expression and options that stays.
-pub fn same_added<K: Key>(
-    changes: &[Change<K>],
-    f: u32,
-    interest: &RemoteInterest<K>,
-) -> bool
+pub fn same_added<K: Key>(changes: &[Change<K>], f: u32, interest: &RemoteInterest<K>) -> bool
     ensures { result
         ≡ any_put (asks_same K.cmp K.matching (plain_interest interest.now))
         (map (held_edit f) (map plain_change changes.now)) }

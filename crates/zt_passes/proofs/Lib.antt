@@ -3,4 +3,8 @@ pub mod OwnedLists
 pub mod Prefixes
 pub mod Numbers
 pub mod Stepping
-pub mod Closing
+pub mod Allowed
+pub mod Standings
+pub mod Zipped
+pub mod Accounting
+pub mod AllHanded

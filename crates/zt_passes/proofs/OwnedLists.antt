@@ -1,8 +1,9 @@
 -- What a pass has entered in a journal that grows.
-use Rattle.std.proofs.Common.{◌≡◌, ℕ, suc, ◌+◌, ◌<◌, ◌≢◌, ◌==◌, Bool, true, false, List, [], ◌∷◌, ◌++◌, length, refl, ap, arith}
+use Rattle.std.proofs.Common.{◌≡◌, ℕ, suc, ◌+◌, ◌<◌, ◌≢◌, ◌==◌, Bool, true, false, List, [], ◌∷◌, ◌++◌, length, refl, ap, arith, zero, Some, Option, slice_get, ◌∙◌}
 use Rattle.std.proofs.lemmas.List.{append-nil}
 use Rattle.std.specs.List.{AllByRecursion}
 use Rattle.std.proofs.lemmas.Bool.{eq-eqb, ne_eqb}
+use Rattle.std.specs.Option.{unwrap_or}
 use Rattle.zt_passes.specs.Owned.{with_owned, owned_from, owned}
 
 module _ {E : Type 0} (author : E → ℕ) where
@@ -29,3 +30,22 @@ module _ {E : Type 0} (author : E → ℕ) where
   pub owned-none : (k n : ℕ) (xs : List E) → AllByRecursion (λ e. author e < n) xs → owned_from author k n xs ≡ []
   owned-none k n [] below = refl
   owned-none k n (x ∷ xs) below = rw (ne_eqb (author x) n (λ e. omega arith)) (owned-none (k + 1) n xs below.1)
+
+stands-here : {E : Type 0} (k place : ℕ) (e entry : E) (es : List E) (others : List (ℕ × E))
+    → ((i : ℕ) → slice_get others i ≡ Some (place, entry) → (j : ℕ) × ((place ≡ (k + 1) + j) × (slice_get es j ≡ Some entry)))
+    → (b : Bool) (i : ℕ) → slice_get (with_owned b (k, e) others) i ≡ Some (place, entry) → (j : ℕ) × ((place ≡ k + j) × (slice_get (e ∷ es) j ≡ Some entry))
+stands-here {E} k place e entry es others later true zero at = let same : k ≡ place = ap (λ (found : Option (ℕ × E)). (unwrap_or found (k, e)).0) at in
+    let is : e ≡ entry = ap (λ (found : Option (ℕ × E)). (unwrap_or found (k, e)).1) at in (0, ((omega arith), ap Some is))
+stands-here k place e entry es others later true (suc i) at = let rest = later i at in let far = rest.1.0 in (suc rest.0, ((omega arith), rest.1.1))
+stands-here k place e entry es others later false i at = let rest = later i at in let far = rest.1.0 in (suc rest.0, ((omega arith), rest.1.1))
+
+-- what a pass has entered stands at its place
+owned-stands : {E : Type 0} (author : E → ℕ) (k n : ℕ) (log : List E) (i place : ℕ) (entry : E) → slice_get (owned_from author k n log) i ≡ Some (place, entry)
+    → (j : ℕ) × ((place ≡ k + j) × (slice_get log j ≡ Some entry))
+owned-stands author k n [] i place entry at = absurd cc
+owned-stands author k n (e ∷ es) i place entry at = stands-here k place e entry es (owned_from author (k + 1) n es)
+    (λ m there. owned-stands author (k + 1) n es m place entry there) (author e == n) i at
+
+pub owned-at : {E : Type 0} (author : E → ℕ) (n : ℕ) (log : List E) (i place : ℕ) (entry : E) → slice_get (owned author n log) i ≡ Some (place, entry) → slice_get log place ≡ Some entry
+owned-at author n log i place entry at = let found = owned-stands author 0 n log i place entry at in
+    let same : place ≡ found.0 = let far = found.1.0 in omega arith in ap (slice_get log) same ∙ found.1.1

@@ -2,3 +2,11 @@ pub mod Owned
 pub mod Views
 pub mod Rule
 pub mod Plays
+pub mod Single
+pub mod Passes
+pub mod Seats
+pub mod Drawing
+pub mod Turns
+pub mod Copies
+pub mod Account
+pub mod Handed

@@ -30,6 +30,10 @@ module _ {S : Type 0} where
   abbrev pub part_released : Part S → Part S
   part_released p = record p { locked = false }
 
+  -- the pass had the lock, and left the value so
+  abbrev pub part_left : ℕ → S → Part S → Part S
+  part_left seen x p = record p { found = x; seen = seen; locked = false }
+
   abbrev pub part_counted : ℕ → Part S → Part S
   part_counted count p = record p { known = count }
 
@@ -39,11 +43,21 @@ module _ {S : Type 0} where
 
   -- the pass with the number that was drawn
   abbrev pub part_made : ℕ → Part S → Part S
-  part_made number p = record { number = number; seen = p.seen; known = number + 1; looks = []; drawn = []; opening = p.opening; found = p.opening; locked = false }
+  part_made number p = record {
+    number = number;
+    seen = p.seen;
+    known = number + 1;
+    looks = [];
+    drawn = [];
+    opening = p.opening;
+    found = p.opening;
+    locked = false;
+  }
 
   -- the lock was given back, with the value
   abbrev pub Released : Step S → Sat S → ℕ → Sat S → Type 0
-  Released step before word after = (p : Part S) (x : S) → before ≡ holding p x → after ≡ alone (part_released p)
+  Released step before word after = (p : Part S) (x : S) → before ≡ holding p x
+      → after ≡ alone (part_released p)
 
   -- the count that was known is drawn as a number, or another count was found
   abbrev pub Drew : Step S → Sat S → ℕ → Sat S → Type 0
@@ -68,14 +82,18 @@ module _ {S E O : Type 0} (journal : S → List E) (author : E → ℕ) (state :
   -- the lock was taken, with the value, or was held by another
   abbrev pub Took : Step S → Sat S → ℕ → Sat S → Type 0
   Took step before word after = (p : Part S) → before ≡ alone p
-      → MatchBool (word == 0) ((x : S) × (after ≡ holding (part_locked x p) x) × Continues x p) (after ≡ alone p)
+      → MatchBool (word == 0)
+      ((x : S) × (after ≡ holding (part_locked x p) x) × Continues x p)
+      (after ≡ alone p)
 
   -- the value's new journal is published, and the pass knows it
   abbrev pub Published : Step S → Sat S → ℕ → Sat S → Type 0
   Published step before word after = (p : Part S) (x : S) → before ≡ holding p x
-      → (after ≡ holding (part_entered (word + 1) x p) x) × (word ≡ length (journal p.found)) × (p.seen ≤ word)
+      → (after ≡ holding (part_entered (word + 1) x p) x)
+      × (word ≡ length (journal p.found)) × (p.seen ≤ word)
 
   -- the length of the journal was read
   abbrev pub Looked : Step S → Sat S → ℕ → Sat S → Type 0
   Looked step before word after = (p : Part S) → before.0 ≡ p ∷ []
-      → (after ≡ (part_looked word p ∷ [], before.1)) × (p.seen ≤ word) × (p.locked ≡ true → word ≡ length (journal p.found))
+      → (after ≡ (part_looked word p ∷ [], before.1)) × (p.seen ≤ word)
+      × (p.locked ≡ true → word ≡ length (journal p.found))

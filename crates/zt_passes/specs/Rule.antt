@@ -1,6 +1,7 @@
 -- The rule over the words, the value at home and all views.
--- The words are the length of the journal, how many numbers were drawn, and 1 while the lock is held. A view is a list
--- of parts: a pass is one part, one that has just drawn a number is two, and a spent view has none.
+-- The words are the length of the journal, how many numbers were drawn, and 1 while the lock is held. A
+-- view is a list of parts: a pass is one part, one that has just drawn a number is two, and a spent view
+-- has none.
 use Rattle.std.specs.Prelude.{◌≡◌, ℕ, ◌+◌, ◌<◌, ◌≤◌, ◌⊎◌, true, false, List, [], ◌∷◌, length}
 use Rattle.std.specs.List.{sum_by, AllByRecursion}
 use mathlib.Core.Option.{Option, none, some}
@@ -16,10 +17,20 @@ held p = elim p.locked [ true ↦ 1 | false ↦ 0 ]
 
 -- the part of the first pass: nothing was seen or entered
 abbrev pub first_part : {S : Type 0} → S → Part S
-first_part value = record { number = 0; seen = 0; known = 1; looks = []; drawn = []; opening = value; found = value; locked = false }
+first_part value = record {
+  number = 0;
+  seen = 0;
+  known = 1;
+  looks = [];
+  drawn = [];
+  opening = value;
+  found = value;
+  locked = false;
+}
 
 module _ {S E O : Type 0} (journal : S → List E) (author : E → ℕ) (state : S → O) where
-  -- what one part knows of the journal `log`, of the count of numbers and of the value that all began with
+  -- what one part knows of the journal `log`, of the count of numbers and of the value that all began
+  -- with
   pub record Fits (first : S) (log : List E) (count : ℕ) (p : Part S) : Type 0 where
     pub below_known : p.number < p.known
     pub known_drawn : p.known ≤ count

@@ -21,5 +21,6 @@ pub struct Part<J> {
     pub locked: bool,
 }
 
-/// A pass is one part. One that has just drawn a number is two, a view that was joined into another is none.
+/// A pass is one part. One that has just drawn a number is two, a view that was joined into another
+/// is none.
 pub type View<J> = LinkedList<Part<J>>;

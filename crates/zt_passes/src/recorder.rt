@@ -39,7 +39,8 @@ pub trait Recorder: Drop + Sized {
     /// Whether the copy shows the entry.
     ghost shows: { Entered → Self.Entry → Type 0 };
 
-    /// Carries out the call and adds its entry. The only error is want of memory, and it leaves the journal as it was.
+    /// Carries out the call and adds its entry. The only error is want of memory, and it leaves the
+    /// journal as it was.
     fn enter(&mut self, pass: u32, call: Self::Call) -> Result<Self::Receipt, AllocError>
         ensures state { state self.new ≡ state self.old }
         ensures ok { IfOk result (λ receipt. (entry : Entered)
@@ -51,10 +52,12 @@ pub trait Recorder: Drop + Sized {
             × (length (journal self.new) < 2 ^ 64)) }
         ensures err { IfErr result (λ _. journal self.new ≡ journal self.old) };
 
-    /// A copy of the entry at the place, or `None` where the journal is no longer. The only error is want of memory.
+    /// A copy of the entry at the place, or `None` where the journal is no longer. The only error is
+    /// want of memory.
     fn entry(&self, alloc: Global, place: u64) -> Result<Option<Self::Entry>, AllocError>
         ensures found { IfOk result (λ found. MatchOption found
             (length (journal self.now) ≤ place)
-            (λ copy. (entry : Entered) × (slice_get (journal self.now) place ≡ Some entry) × shows entry copy)) }
+            (λ copy. (entry : Entered) × (slice_get (journal self.now) place ≡ Some entry)
+            × shows entry copy)) }
         ensures replay { is_replay (state self.now) (journal self.now) };
 }

@@ -9,7 +9,7 @@ use Rattle.std.specs.declared.cmp.Ordering.{Ordering}
 use Rattle.std.specs.declared.cmp.Ordering.TheVariants.{Less, Equal}
 use Rattle.std.proofs.Common.{ap, subst, sym, ◌∙◌}
 use Rattle.std.proofs.lemmas.Bool.{false≢true}
-use Rattle.zt_region.specs.Region.{region_eq, zid_eq}
+use Rattle.zt_region.specs.Region.{zid_eq}
 use Rattle.zt_region.specs.declared.region.Region.{Region}
 use Rattle.zt_region.specs.declared.region.Zid.{Zid}
 use Rattle.zt_ordered.specs.Table.{Table}
@@ -85,15 +85,15 @@ module _ {K : Type 0} (cmp : K → K → Ordering) (o : IsTotalOrder cmp) where
         let rest = among-with k e xs in
         rw p (by_test (same cmp k x) (λ t. rw t (by_test (same cmp k e) (λ u. rw u refl) (λ u. rw u refl))) (λ t. rw t rest)))
 
-    rising-in_order : (es : List K) → AreRising cmp (in_key_order cmp es)
+    pub rising-in_order : (es : List K) → AreRising cmp (in_key_order cmp es)
     rising-in_order [] = tt
     rising-in_order (e ∷ es) = rising-with cmp o e (in_key_order cmp es) (rising-in_order es)
 
-    among-in_order : (k : K) (es : List K) → is_among cmp k (in_key_order cmp es) ≡ is_among cmp k es
+    pub among-in_order : (k : K) (es : List K) → is_among cmp k (in_key_order cmp es) ≡ is_among cmp k es
     among-in_order k [] = refl
     among-in_order k (e ∷ es) = among-with k e (in_key_order cmp es) ∙ ap (λ b. same cmp k e || b) (among-in_order k es)
 
-    among-filter : (p : K → Bool) (k : K) (es : List K) → is_among cmp k (filter p es) ≡ (p k && is_among cmp k es)
+    pub among-filter : (p : K → Bool) (k : K) (es : List K) → is_among cmp k (filter p es) ≡ (p k && is_among cmp k es)
     among-filter p k [] = by_test (p k) (λ t. rw t refl) (λ t. rw t refl)
     among-filter p k (e ∷ es) =
         let rest = among-filter p k es in
@@ -104,14 +104,14 @@ module _ {K : Type 0} (cmp : K → K → Ordering) (o : IsTotalOrder cmp) where
         (λ t. by_test (p e) (λ u. rw (u, t) rest) (λ u. rw (u, t) rest))
 
     module _ (matching : K → K → Bool) (about : Option K) where
-      rising-gathered : (es keys : List K) → AreRising cmp keys → AreRising cmp (folded (gathered cmp matching about) es keys)
+      pub rising-gathered : (es keys : List K) → AreRising cmp keys → AreRising cmp (folded (gathered cmp matching about) es keys)
       rising-gathered [] keys rising = rising
       rising-gathered (e ∷ es) keys rising =
           by_test (is_about matching about e)
           (λ t. rw t (rising-gathered es (with_key cmp e keys) (rising-with cmp o e keys rising)))
           (λ t. rw t (rising-gathered es keys rising))
 
-      among-gathered : (k : K) (es keys : List K) → is_among cmp k (folded (gathered cmp matching about) es keys) ≡ ((is_about matching about k && is_among cmp k es) || is_among cmp k keys)
+      pub among-gathered : (k : K) (es keys : List K) → is_among cmp k (folded (gathered cmp matching about) es keys) ≡ ((is_about matching about k && is_among cmp k es) || is_among cmp k keys)
       among-gathered k [] keys = by_test (is_about matching about k) (λ t. rw t refl) (λ t. rw t refl)
       among-gathered k (e ∷ es) keys =
           by_test (same cmp k e)
@@ -147,27 +147,27 @@ abbrev pub others_of : {K : Type 0} → Zid → List ((Region × Zid) × K) → 
 others_of own pairs = map (λ row. (row.region, row.expr)) (filter (λ row. not (zid_eq row.source own)) (map routed_row pairs))
 
 -- ---- gathered face by face, and group by group
-module _ {K : Type 0} (cmp : K → K → Ordering) (matching : K → K → Bool) (about : Option K) (region : Region) where
+module _ {K : Type 0} (cmp : K → K → Ordering) (matching : K → K → Bool) (about : Option K) (test : Region → Bool) where
   abbrev all_of : List (Region × K) → List K → List K
-  all_of rows keys = folded (gathered cmp matching about) (keys_within region rows) keys
+  all_of rows keys = folded (gathered cmp matching about) (keys_within test rows) keys
 
   pub gathered-both : (xs ys : List (Region × K)) (keys : List K) → all_of ys (all_of xs keys) ≡ all_of (xs ++ ys) keys
   gathered-both [] ys keys = refl
   gathered-both (x ∷ xs) ys keys =
-      by_test (region_eq x.0 region) (λ t. rw t (gathered-both xs ys (gathered cmp matching about x.1 keys))) (λ t. rw t (gathered-both xs ys keys))
+      by_test (test x.0) (λ t. rw t (gathered-both xs ys (gathered cmp matching about x.1 keys))) (λ t. rw t (gathered-both xs ys keys))
 
   abbrev pub live_gathered : ById K → List K → List K
   live_gathered live keys = folded (λ row. gathered cmp matching about row.1) live keys
 
-  -- the tokens of a face, if it is of the region
+  -- the tokens of a face, if its region passes
   abbrev pub face_gathered : ℕ × FaceTable K → List K → List K
-  face_gathered row keys = if region_eq row.1.face.region region then live_gathered row.1.face.live keys else keys
+  face_gathered row keys = if test row.1.face.region then live_gathered row.1.face.live keys else keys
 
   face-then : (r : Region) (live : ById K) (rest : List (Region × K)) (keys : List K)
-      → all_of rest (if region_eq r region then live_gathered live keys else keys) ≡ all_of (map (λ row. (r, row.1)) live ++ rest) keys
-  face-then r [] rest keys = by_test (region_eq r region) (λ t. rw t refl) (λ t. rw t refl)
+      → all_of rest (if test r then live_gathered live keys else keys) ≡ all_of (map (λ row. (r, row.1)) live ++ rest) keys
+  face-then r [] rest keys = by_test (test r) (λ t. rw t refl) (λ t. rw t refl)
   face-then r (row ∷ live) rest keys =
-      by_test (region_eq r region)
+      by_test (test r)
       (λ t. rw t (rw t at (face-then r live rest (gathered cmp matching about row.1 keys))))
       (λ t. rw t (rw t at (face-then r live rest keys)))
 
@@ -179,18 +179,18 @@ module _ {K : Type 0} (cmp : K → K → Ordering) (matching : K → K → Bool)
   module _ (own : Zid) where
     abbrev pub group_gathered : (Region × Zid) × Table K (Unit {0}) → List K → List K
     group_gathered row keys =
-        if region_eq row.0.0 region && not (zid_eq row.0.1 own) then folded (λ key. gathered cmp matching about key.0) row.1.rows keys else keys
+        if test row.0.0 && not (zid_eq row.0.1 own) then folded (λ key. gathered cmp matching about key.0) row.1.rows keys else keys
 
     group-then : (g : Region × Zid) (es : List (K × Unit {0})) (rest : List ((Region × Zid) × K)) (keys : List K)
-        → all_of (others_of own rest) (if region_eq g.0 region && not (zid_eq g.1 own) then folded (λ key. gathered cmp matching about key.0) es keys else keys)
+        → all_of (others_of own rest) (if test g.0 && not (zid_eq g.1 own) then folded (λ key. gathered cmp matching about key.0) es keys else keys)
         ≡ all_of (others_of own (pairs_of g es ++ rest)) keys
-    group-then g [] rest keys = by_test (region_eq g.0 region && not (zid_eq g.1 own)) (λ t. rw t refl) (λ t. rw t refl)
+    group-then g [] rest keys = by_test (test g.0 && not (zid_eq g.1 own)) (λ t. rw t refl) (λ t. rw t refl)
     group-then g (e ∷ es) rest keys =
         by_test (zid_eq g.1 own)
-        (λ t. by_test (region_eq g.0 region)
+        (λ t. by_test (test g.0)
         (λ u. rw (t, u) (rw (t, u) at (group-then g es rest keys)))
         (λ u. rw (t, u) (rw (t, u) at (group-then g es rest keys))))
-        (λ t. by_test (region_eq g.0 region)
+        (λ t. by_test (test g.0)
         (λ u. rw (t, u) (rw (t, u) at (group-then g es rest (gathered cmp matching about e.0 keys))))
         (λ u. rw (t, u) (rw (t, u) at (group-then g es rest keys))))
 

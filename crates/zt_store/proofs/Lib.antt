@@ -17,3 +17,6 @@ mod HeldEdits
 pub mod Counting
 mod CountGroups
 mod Appending
+mod AlikeIds
+mod FaceWalk
+mod SeenAfter

@@ -1,7 +1,7 @@
 -- Keys gathered one by one.
 --     gathered cmp matching about key keys    the key put among keys in order, if it is about an expression, or one is
 --                                             asked for all
---     keys_within region rows                 the keys of the rows that stand in a region
+--     keys_within test rows                   the keys of the rows that stand in regions that pass
 --     live_in, live_matching                  the expressions that have a live row in a region, and those that match
 use Rattle.std.specs.Prelude.{if◌then◌else◌, List, Option, filter, map}
 use Rattle.std.specs.declared.cmp.Ordering.{Ordering}
@@ -16,8 +16,8 @@ use Rattle.zt_model.specs.Wants.{is_about}
 abbrev pub gathered : {K : Type 0} → (K → K → Ordering) → (K → K → Bool) → Option K → K → List K → List K
 gathered cmp matching about key keys = if is_about matching about key then with_key cmp key keys else keys
 
-abbrev pub keys_within : {K : Type 0} → Region → List (Region × K) → List K
-keys_within region rows = map (λ row. row.1) (filter (λ row. region_eq row.0 region) rows)
+abbrev pub keys_within : {K : Type 0} → (Region → Bool) → List (Region × K) → List K
+keys_within test rows = map (λ row. row.1) (filter (λ row. test row.0) rows)
 
 module _ {K : Type 0} (cmp : K → K → Ordering) where
   -- the expressions that have a live row in the region, in key order

@@ -24,3 +24,5 @@ pub mod Gathered
 pub mod HoldersAfter
 pub mod Pairs
 pub mod Sent
+pub mod Alike
+pub mod South

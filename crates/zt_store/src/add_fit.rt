@@ -9,11 +9,12 @@ use zt_keys::{Key, Memory};
 use zt_rows::Change;
 
 impl<K: Key> Plan<K> {
-    /// Adds a change that fits what the plan leaves of these tables, at the end. So a plan that fits them goes on fitting
-    /// them. The only error is want of memory, and then the plan stays.
+    /// Adds a change that fits what the plan leaves of these tables, at the end. So a plan that fits
+    /// them goes on fitting them. The only error is want of memory, and then the plan stays.
     pub fn add_fit(&mut self, tables: &Tables<K>, change: Change<K>) -> Result<(), Memory>
         requires plan_fits { Fit K.cmp self.old tables.now.store }
-        requires change_fits { Fits K.cmp (plain_change change) (acted_all K.cmp self.old tables.now.store) }
+        requires change_fits { let store = acted_all K.cmp self.old tables.now.store in
+            Fits K.cmp (plain_change change) store }
         ensures ok { OnOk result (self.new ≡ self.old ++ plain_change change ∷ []) }
         ensures err { OnErr result (self.new ≡ self.old) }
         ensures fit { Fit K.cmp self.new tables.now.store }

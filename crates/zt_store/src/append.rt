@@ -26,7 +26,8 @@ where
 }
 
 impl<K: Key> Plan<K> {
-    /// Adds all changes of the other plan at the end. The only error is want of memory, and then the plan stays.
+    /// Adds all changes of the other plan at the end. The only error is want of memory, and then the
+    /// plan stays.
     pub fn append(&mut self, more: Plan<K>) -> Result<(), Memory>
         ensures ok { OnOk result (self.new ≡ self.old ++ more) }
         ensures err { OnErr result (self.new ≡ self.old) }

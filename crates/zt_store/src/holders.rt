@@ -20,7 +20,11 @@ use zt_ordered::SortedRows;
 use zt_rows::{Change, FaceRows};
 
 // Puts the number behind the others, if its face is a holder.
-fn push_holder(numbers: &mut Vec<u32>, number: u32, is_holder: bool) -> Result<(), AllocError>
+pub(crate) fn push_holder(
+    numbers: &mut Vec<u32>,
+    number: u32,
+    is_holder: bool,
+) -> Result<(), AllocError>
     ensures { OnOk result (numbers.new.items ≡ (if is_holder then numbers.old.items ++ number ∷ [] else numbers.old.items)) }
 {
     if is_holder {
@@ -97,7 +101,10 @@ fn any_held<K: Key>(changes: &[Change<K>]) -> bool
 }
 
 // The numbers as rows.
-fn rows_of_numbers(alloc: Global, numbers: &[u32]) -> Result<SortedRows<u32, ()>, AllocError>
+pub(crate) fn rows_of_numbers(
+    alloc: Global,
+    numbers: &[u32],
+) -> Result<SortedRows<u32, ()>, AllocError>
     ensures { IfOk result (λ rows. HasEach (λ n. list_any (λ m. n == m) numbers.now) rows.rows) }
 {
     let mut rows = SortedRows::new(alloc);
@@ -109,7 +116,11 @@ fn rows_of_numbers(alloc: Global, numbers: &[u32]) -> Result<SortedRows<u32, ()>
 }
 
 // The face is found, or it isn't.
-fn set_face(found: &mut SortedRows<u32, ()>, f: u32, is_holder: bool) -> Result<(), AllocError>
+pub(crate) fn set_face(
+    found: &mut SortedRows<u32, ()>,
+    f: u32,
+    is_holder: bool,
+) -> Result<(), AllocError>
     ensures { OnOk result ((n : ℕ) → has_face n found.new.rows ≡ (if f == n then is_holder else has_face n found.old.rows)) }
 {
     if is_holder {

@@ -12,7 +12,8 @@ impl<K: Key> Plan<K> {
     /// Whether the face is open and of the region.
     pub fn is_in(&self, tables: &Tables<K>, f: u32, region: Region) -> bool
         ensures { Fit K.cmp self.now tables.now.store
-            → result ≡ is_face_where f (λ x. region_eq x.region region) (acted_all K.cmp self.now tables.now.store) }
+            → result
+            ≡ is_face_where f (λ x. region_eq x.region region) (acted_all K.cmp self.now tables.now.store) }
     {
         match self.face(tables, f) {
             Some(row) => row.region == region,

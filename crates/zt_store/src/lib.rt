@@ -11,6 +11,7 @@
 #![tactic(auto)]
 
 mod add_fit;
+mod alike;
 mod append;
 mod apply;
 mod asks;
@@ -33,10 +34,14 @@ mod queries;
 mod release;
 mod reserve;
 mod reserve_few;
+mod seen;
 mod sent;
+mod settings;
+mod south;
 mod tables;
 mod tokens;
 mod tokens_of;
+mod tokens_seen;
 
 pub use plan::Plan;
 pub use tables::Tables;

@@ -10,8 +10,8 @@ use zt_changes::next_id_after;
 use zt_keys::Key;
 
 impl<K: Key> Tables<K> {
-    /// The id that the face draws next, `None` exactly where the face isn't open. What was drawn for the face is below it.
-    /// At 4294967295 none is left to be drawn.
+    /// The id that the face draws next, `None` exactly where the face isn't open. What was drawn for
+    /// the face is below it, and at 4294967295 none is left to be drawn.
     pub fn next_id(&self, f: u32) -> Option<u32>
         ensures next { result ≡ option_map (λ x. x.next) (find_face f self.now.store.rows) }
         ensures below { IfSome (find_face f self.now.store.rows) AreIdsBelow }
@@ -25,10 +25,12 @@ impl<K: Key> Tables<K> {
 }
 
 impl<K: Key> Plan<K> {
-    /// The id that the face draws next, `None` exactly where the face isn't open. At 4294967295 none is left to be drawn.
+    /// The id that the face draws next, `None` exactly where the face isn't open. At 4294967295 none is
+    /// left to be drawn. A scan of the plan.
     pub fn next_id(&self, tables: &Tables<K>, f: u32) -> Option<u32>
         ensures { Fit K.cmp self.now tables.now.store
-            → result ≡ option_map (λ x. x.next) (find_face f (acted_all K.cmp self.now tables.now.store).rows) }
+            → result
+            ≡ option_map (λ x. x.next) (find_face f (acted_all K.cmp self.now tables.now.store).rows) }
     {
         let left = f.saturating_sub(tables.made());
         next_id_after(self.changes(), f, left, tables.next_id(f))

@@ -118,6 +118,13 @@ impl<K: Key> Plan<K> {
         self.tokens.len()
     }
 
+    // The expressions that the changes bring, in order.
+    pub(crate) fn tokens(&self) -> &[K]
+        ensures { result.now ≡ tokens_added self.now }
+    {
+        &self.tokens
+    }
+
     /// How many changes there are.
     pub fn len(&self) -> usize
         ensures len { result ≡ length self.now }

@@ -38,7 +38,7 @@ impl<K: Key> Plan<K> {
     }
 
     // Whether a live row of the expression stands in a region that passes.
-    fn any_live(&self, tables: &Tables<K>, expr: &K, test: RegionTest) -> bool
+    pub(crate) fn any_live(&self, tables: &Tables<K>, expr: &K, test: RegionTest) -> bool
         ensures { Fit K.cmp self.now tables.now.store
             → result ≡ any_in K.cmp expr.now (passes test) (live_rows (acted_all K.cmp self.now tables.now.store).rows) }
     {

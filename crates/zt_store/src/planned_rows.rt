@@ -1,5 +1,5 @@
 // What is asked of the rows of a face after a plan, by going over them.
-ghost use Rattle.std.specs.Prelude.{◌≡◌, ◌&&◌, IfSome, IsTrue, filter, is_some, map, option_map};
+ghost use Rattle.std.specs.Prelude.{◌≡◌, ◌<◌, ◌&&◌, IfSome, IsTrue, filter, is_some, map, option_map};
 ghost use Rattle.std.specs.Option.{option_copied};
 ghost use Rattle.std.specs.FinMap.Entries.{is_sorted};
 ghost use Rattle.std.specs.List.{list_any};
@@ -12,7 +12,7 @@ ghost use Rattle.zt_model.specs.Wants.{asks_token, wants};
 ghost use Rattle.zt_rows.specs.ById.{next_id};
 ghost use Rattle.zt_changes.specs.Edits.{kept_by};
 ghost use Rattle.zt_changes.specs.Kinds.{candidate_of, next_of, stands_under};
-ghost use Rattle.zt_changes.specs.Opened.{facts_of, facts_opened, number_above, numbers_of, stays_open};
+ghost use Rattle.zt_changes.specs.Opened.{facts_of, facts_opened, is_rising, number_above, numbers_of, stays_open};
 ghost use Rattle.zt_changes.specs.Queries.{from_face, list_of_face, next_face_after};
 ghost use Rattle.zt_changes.specs.RowEdits.{held_edit};
 
@@ -208,11 +208,15 @@ impl<K: Key> Plan<K> {
         None
     }
 
-    /// The least number of an open face above `after`.
+    /// The least number of an open face above `after`. The numbers of the faces rise after the plan too, so that a walk
+    /// from number to number misses none.
     pub fn next_face(&self, tables: &Tables<K>, after: u32) -> Option<u32>
-        ensures { Fit K.cmp self.now tables.now.store
+        ensures next { Fit K.cmp self.now tables.now.store
             → result ≡ next_face_after after (acted_all K.cmp self.now tables.now.store).rows.faces }
+        ensures above { IfSome result (λ number. after < number) }
+        ensures rising { IsTrue (is_rising (numbers_of (acted_all K.cmp self.now tables.now.store).rows.faces)) }
     {
+        tables.faces_rise();
         match self.next_left(tables, after) {
             Some(number) => Some(number),
             None => next_opened(self.changes(), tables.made(), after),

@@ -10,7 +10,8 @@ use zt_rows::Change;
 
 // The message of a change that sends one, with its face.
 fn message_of<K: Key>(change: &Change<K>) -> Option<(u32, &Message<K>)>
-    ensures { option_map (λ sent. (sent.0, sent.1.now)) result ≡ message_of (plain_change change.now) }
+    ensures { option_map (λ sent. (sent.0, sent.1.now)) result
+        ≡ message_of (plain_change change.now) }
 {
     match change {
         Change::Send { face, message } => Some((*face, message)),
@@ -19,8 +20,8 @@ fn message_of<K: Key>(change: &Change<K>) -> Option<(u32, &Message<K>)>
 }
 
 impl<K: Key> Plan<K> {
-    /// The message of the change at the index, counted from 0, with its face; `None` exactly where that change sends none,
-    /// or there is none.
+    /// The message of the change at the index, counted from 0, with its face; `None` exactly where that
+    /// change sends none, or there is none.
     pub fn sent(&self, i: usize) -> Option<(u32, &Message<K>)>
         ensures { option_map (λ sent. (sent.0, sent.1.now)) result ≡ sent_at i self.now }
     {

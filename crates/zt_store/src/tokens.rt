@@ -15,7 +15,7 @@ use zt_region::Region;
 
 impl<K: Key> Tables<K> {
     // Whether a live row of the expression stands in a region that passes.
-    fn any_live(&self, expr: &K, test: RegionTest) -> bool
+    pub(crate) fn any_live(&self, expr: &K, test: RegionTest) -> bool
         ensures { result ≡ any_in K.cmp expr.now (passes test) (live_rows self.now.store.rows) }
     {
         self.count_live(expr, test) != 0

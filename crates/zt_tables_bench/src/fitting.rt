@@ -5,12 +5,12 @@ ghost use Rattle.zt_model.specs.Lists.{at_id};
 ghost use Rattle.zt_model.specs.Parts.{find_face, told_id};
 
 use std::alloc::Global;
-use zt_test_plans::{add_fitting, apply_fitting, new_plan};
 use zt_keys::{Key, Memory};
 use zt_protocol::{InterestMode, InterestOptions};
 use zt_region::{Bound, Region, WhatAmI};
 use zt_rows::{Change, FaceRow, HeldRow, RemoteInterest};
 use zt_tables::{Plan, Tables};
+use zt_test_plans::{add_fitting, apply_fitting, new_plan};
 
 // Whether a face declared a token under the id.
 fn is_live<K: Key>(tables: &Tables<K>, f: u32, id: u32) -> bool

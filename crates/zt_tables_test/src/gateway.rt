@@ -1,11 +1,11 @@
 // A gateway to try changes on, and the changes.
 use std::alloc::Global;
-use zt_test_plans::{apply_fitting, plan_fitting};
 use zt_keys::{Key, KeyError, KeyExpr};
 use zt_protocol::{InterestMode, InterestOptions, Message};
 use zt_region::{Admission, Bound, Region, WhatAmI, Zid};
 use zt_rows::{AskRow, Change, FaceRow, HeldRow, PendingRow, RemoteInterest, UpstreamRow};
 use zt_tables::{Plan, Tables};
+use zt_test_plans::{apply_fitting, plan_fitting};
 
 pub(crate) const OWN: Zid = Zid(1);
 

@@ -8,12 +8,12 @@ ghost use Rattle.zt_tables_test.specs.Free.{IsFreeFrom};
 use crate::gateway::{Changes, change, gateway, key};
 use std::alloc::Global;
 use std::test::Fail;
-use zt_test_plans::{apply_fitting, has_face};
 use zt_keys::{Key, KeyError, KeyExpr, Memory};
 use zt_protocol::Message;
 use zt_region::Region;
 use zt_rows::Change;
 use zt_tables::{Plan, Tables};
+use zt_test_plans::{apply_fitting, has_face};
 
 const FACES: u32 = 10;
 

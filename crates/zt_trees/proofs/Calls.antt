@@ -1,42 +1,36 @@
 -- Calls at a gateway of a tree: what each says to a face is said well, and what it changes of a face itself.
-use Rattle.std.proofs.Common.{◌≡◌, ◌≢◌, ℕ, ◌+◌, Bool, true, false, cond, if◌then◌else◌, ◌&&◌, ◌==◌, not, List, [], ◌∷◌, ◌++◌, map, filter, Option, Some, None, refl, sym, ap, ◌∙◌, subst, eq-eqb, eqb-true, ne_eqb, arith}
-use Rattle.std.specs.FinMap.Entries.{put}
-use Rattle.std.specs.List.{flat_map, list_any}
-use Rattle.std.specs.Ordering.{nat_cmp}
+use Rattle.std.proofs.Common.{◌≡◌, ◌≢◌, ℕ, Bool, true, false, if◌then◌else◌, ◌&&◌, ◌==◌, not, List, [], ◌∷◌, ◌++◌, map, filter, Option, Some, None, refl, sym, ap, ◌∙◌, subst, eq-eqb, eqb-true, ne_eqb}
+use Rattle.std.specs.List.{flat_map}
 use Rattle.std.specs.declared.cmp.Ordering.{Ordering}
 use Rattle.zt_region.specs.declared.region.Region.{Region}
 use Rattle.zt_region.specs.declared.region.WhatAmI.{WhatAmI}
 use Rattle.zt_region.specs.declared.region.Zid.{Zid}
-use Rattle.zt_region.specs.Region.{is_north, region_eq, region_eq-same}
-use Rattle.zt_protocol.specs.Plain.{PlainCall, NewSession, NewTransport, DeclareToken, UndeclareToken, Interest, InterestFinal, DeclareFinal, CloseFace, Expire, SetTrees, SetEntities, Trees}
-use Rattle.zt_protocol.specs.declared.messages.Message.{Message}
+use Rattle.zt_region.specs.Region.{region_eq, region_eq-same}
+use Rattle.zt_protocol.specs.Plain.{DeclareToken, UndeclareToken, InterestFinal, DeclareFinal, CloseFace, Expire, SetTrees, SetEntities, Trees}
 use Rattle.zt_protocol.specs.declared.messages.Message.TheVariants as message
 use Rattle.zt_protocol.specs.declared.messages.QueryableInfo.{QueryableInfo}
-use Rattle.zt_model.specs.Closing.{closing, expiring, is_expired, leaving, without_asks, without_face}
-use Rattle.zt_model.specs.Entities.{entity_expressions, with_entities, with_numbers}
-use Rattle.zt_model.specs.Hearing.{messages_for, rows_heard}
-use Rattle.zt_model.specs.Lists.{at_id, first_where, has_id, without_id}
-use Rattle.zt_model.specs.Parts.{Alter, Part, Say, Sends, altered_by, find_face, is_routed, said_by, to_each, unsaid_to, with_face}
-use Rattle.zt_model.specs.Routing.{ended, ending, finalising, finishing, initial_finalised, unheld}
-use Rattle.zt_model.specs.Rows.{Ask, ById, Face, InterestRow, Pending, Rows}
-use Rattle.zt_model.specs.Says.{altered, declaring_of, finalising_held, forget, hiding_undeclared, parts_of, said, tell, undeclaring_of}
-use Rattle.zt_model.specs.Strategy.{is_broker, is_router_hat, strategy_of}
-use Rattle.zt_model.specs.Telling.{answering, declaring, registered, registers, undeclared, undeclaring, unregistered}
+use Rattle.zt_model.specs.Closing.{closing, is_expired, leaving, without_asks, without_face}
+use Rattle.zt_model.specs.Entities.{entity_expressions, with_numbers}
+use Rattle.zt_model.specs.Lists.{at_id, first_where, has_id}
+use Rattle.zt_model.specs.Parts.{Alter, Part, Say, find_face, is_routed, to_each, unsaid_to, with_face}
+use Rattle.zt_model.specs.Routing.{ended, ending, finalising, finishing}
+use Rattle.zt_model.specs.Rows.{Face, InterestRow, Pending, Rows}
+use Rattle.zt_model.specs.Says.{declaring_of, finalising_held, forget, hiding_undeclared, parts_of, undeclaring_of}
+use Rattle.zt_model.specs.Strategy.{is_router_hat, strategy_of}
+use Rattle.zt_model.specs.Telling.{answering, declaring, registers, undeclaring}
 use Rattle.zt_model.specs.Transcript.{Each}
-use Rattle.zt_model.specs.Trees.{changing_table, counted_table, forgetting, greet_to, hiding, is_child, left_out, routed_expressions, routers_in_order, showing, source_of, table_of, with_table, without_left_out}
-use Rattle.zt_model.specs.Wants.{kept_options}
-use Rattle.zt_laws.specs.Sound.{RiseFrom}
-use Rattle.zt_laws.proofs.Hearing.{find_each, find_passes}
-use Rattle.zt_laws.proofs.Lists.{by_test, each_always, each_append, each_filter, each_weaker, never, of_cond, rise_filter}
+use Rattle.zt_model.specs.Trees.{counted_table, forgetting, greet_to, hiding, is_child, left_out, routed_expressions, routers_in_order, showing, source_of, table_of}
+use Rattle.zt_laws.proofs.Hearing.{find_each}
+use Rattle.zt_laws.proofs.Lists.{by_test, each_always, each_append, each_filter, never, of_cond, rise_filter}
 use Rattle.zt_laws.proofs.PartsOrder.{each_flat_map}
-use Rattle.zt_trees.specs.Facts.{IsTreeFace, LeadsDown, LeadsUp}
+use Rattle.zt_trees.specs.Facts.{IsTreeFace}
 use Rattle.zt_trees.proofs.Knowledge.{is_no_router}
-use Rattle.zt_trees.proofs.Parts.{Good, Inside, good_answer, good_ended, good_ending, good_finalising, good_forget, good_hiding, good_hiding_undeclared, good_initial, good_moment, good_numbers, good_registered, good_showing, good_tell, good_undeclaring, still_inside, tree_face_less}
-use Rattle.zt_trees.proofs.Saying.{IsReal, SaidWell, TreeRows, tree_rows_heard}
-use Rattle.zt_trees.proofs.Tracking.{IsGood, SameEar, Unmoved, altered_to, ear_itself, ear_trans, find_with_face, good_one, good_unsaid, said_well, sent_each, unmoved_ear, unmoved_itself, unmoved_trans, with_face_rows}
+use Rattle.zt_trees.proofs.Parts.{Good, Inside, good_answer, good_ending, good_finalising, good_forget, good_hiding, good_hiding_undeclared, good_initial, good_moment, good_registered, good_showing, good_tell, good_undeclaring, still_inside, tree_face_less}
+use Rattle.zt_trees.proofs.Saying.{IsReal, SaidWell, TreeRows}
+use Rattle.zt_trees.proofs.Tracking.{SameEar, find_with_face, good_unsaid, sent_each, with_face_rows}
 
 module _ {K : Type 0} (cmp : K → K → Ordering) (matching : K → K → Bool) (p n : ℕ) (up : Bool) (R : Face K → Face K → Type 0) (itself : (f : Face K) → R f f) (trans : (f h k : Face K) → R f h → R h k → R f k) (ear : (f h : Face K) → R f h → SameEar f h)
-  (own : n ≡ p → (f h : Face K) → SameEar f h → R f h) (ends : (id : ℕ) (f : Face K) → R f (ended id f)) (mode : WhatAmI) where
+    (own : n ≡ p → (f h : Face K) → SameEar f h → R f h) (ends : (id : ℕ) (f : Face K) → R f (ended id f)) (mode : WhatAmI) where
   abbrev Fine : Part K → Type 0
   Fine part = Good cmp matching p n up R itself trans ear own ends mode part
 
@@ -166,17 +160,16 @@ module _ {K : Type 0} (cmp : K → K → Ordering) (matching : K → K → Bool)
   unfolding parts_of with_face
   entities_fine k subscribers queryables still g = (
     (λ h f inside found.
-    let change : Face K → Face K = λ f. record f { subscribers = subscribers; queryables = queryables } in
-    let numbered : Rows K = with_numbers cmp (entity_expressions cmp subscribers queryables) h in
-    let rows : TreeRows cmp numbered = record { rises = inside.0.rises; faces = inside.0.faces; real = inside.0.real } in
-    (
-      (
-        with_face_rows cmp matching k change numbered (λ f. refl) (each_always (λ (f : Face K). (k == f.number) ≡ true → IsTreeFace h.mode f → IsTreeFace h.mode (change f)) (λ f _ face. tree_face_less h.mode f (change f) refl refl refl (λ e. e) (λ e. e) (λ e. e) face) h.faces)
-            (λ f r. record { next = r.next; told = r.told }) rows,
-        inside.1,
-      ),
-      ((if k == p then change f else f), find_with_face cmp matching p k change numbered f (λ f. refl) found, of_cond (R f) (k == p) (change f) f (λ _. still f) (λ _. itself f)),
-    )),
+        let change : Face K → Face K = λ f. record f { subscribers = subscribers; queryables = queryables } in
+        let numbered : Rows K = with_numbers cmp (entity_expressions cmp subscribers queryables) h in
+        let rows : TreeRows cmp numbered = record { rises = inside.0.rises; faces = inside.0.faces; real = inside.0.real } in (
+          (
+            with_face_rows cmp matching k change numbered (λ f. refl) (each_always (λ (f : Face K). (k == f.number) ≡ true → IsTreeFace h.mode f → IsTreeFace h.mode (change f)) (λ f _ face. tree_face_less h.mode f (change f) refl refl refl (λ e. e) (λ e. e) (λ e. e) face) h.faces)
+                (λ f r. record { next = r.next; told = r.told }) rows,
+            inside.1,
+          ),
+          ((if k == p then change f else f), find_with_face cmp matching p k change numbered f (λ f. refl) found, of_cond (R f) (k == p) (change f) f (λ _. still f) (λ _. itself f)),
+        )),
     tt,
   )
 
@@ -186,19 +179,18 @@ module _ {K : Type 0} (cmp : K → K → Ordering) (matching : K → K → Bool)
       let counted = counted_table t in (
         (λ h f inside found. ((record { rises = inside.0.rises; faces = inside.0.faces; real = inside.0.real }, inside.1), (f, found, itself f))),
         each_append Fine (forgetting cmp matching region (left_out cmp region counted g)) _
-            (each_flat_map Fine (λ (e : K). Say (forget cmp matching region e) ∷ hiding cmp region e) (left_out cmp region counted g) (λ e. (good_forget cmp matching p n up R itself trans ear own ends mode region e, good_hiding cmp matching p n up R itself trans ear own ends mode region e)))
-            (
+            (each_flat_map Fine (λ (e : K). Say (forget cmp matching region e) ∷ hiding cmp region e) (left_out cmp region counted g) (λ e. (good_forget cmp matching p n up R itself trans ear own ends mode region e, good_hiding cmp matching p n up R itself trans ear own ends mode region e))) (
               (λ h f inside found. ((record { rises = inside.0.rises; faces = inside.0.faces; real = inside.0.real }, inside.1), (f, found, itself f))),
               (
                 (λ h f inside found side.
-                let face = tree_face_of h p f inside.0 found in
-                let apart : region_eq f.region region ≡ false = by_test (region_eq f.region region)
-                (λ here.
-                let is : f.region ≡ region = region_eq-same f.region region here in
-                let hat : is_router_hat (strategy_of h.mode f.region) ≡ true = ap (λ m. is_router_hat (strategy_of m f.region)) inside.1 ∙ ap (λ r. is_router_hat (strategy_of mode r)) is ∙ router in
-                never hat (is_no_router h f face))
-                (λ e. e) in
-                subst (λ ms. SaidWell cmp up ms f.told f.asks) (sym (sent_each cmp matching p (greet_to cmp h region (table_of g region)) h f inside.0.rises found ∙ nothing h f apart (routers_in_order cmp (table_of h region)))) tt),
+                    let face = tree_face_of h p f inside.0 found in
+                    let apart : region_eq f.region region ≡ false = by_test (region_eq f.region region)
+                    (λ here.
+                    let is : f.region ≡ region = region_eq-same f.region region here in
+                    let hat : is_router_hat (strategy_of h.mode f.region) ≡ true = ap (λ m. is_router_hat (strategy_of m f.region)) inside.1 ∙ ap (λ r. is_router_hat (strategy_of mode r)) is ∙ router in
+                    never hat (is_no_router h f face))
+                    (λ e. e) in
+                    subst (λ ms. SaidWell cmp up ms f.told f.asks) (sym (sent_each cmp matching p (greet_to cmp h region (table_of g region)) h f inside.0.rises found ∙ nothing h f apart (routers_in_order cmp (table_of h region)))) tt),
                 tt,
               ),
             ),

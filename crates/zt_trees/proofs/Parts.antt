@@ -1,39 +1,29 @@
 -- The parts of calls at a gateway of a tree, as one of its faces sees them.
-use Rattle.std.proofs.Common.{◌≡◌, ℕ, ◌+◌, Bool, true, false, cond, if◌then◌else◌, ◌&&◌, ◌==◌, not, List, [], ◌∷◌, ◌++◌, map, filter, Option, Some, None, refl, sym, ap, ◌∙◌, subst, eq-eqb, eqb-true, ne_eqb}
-use Rattle.std.specs.FinMap.Entries.{put}
-use Rattle.std.specs.List.{flat_map, list_any}
-use Rattle.std.specs.Ordering.{nat_cmp}
+use Rattle.std.proofs.Common.{◌≡◌, ℕ, Bool, true, false, if◌then◌else◌, ◌==◌, not, List, [], ◌∷◌, filter, Option, Some, None, refl, sym, ap, ◌∙◌, subst, eqb-true}
 use Rattle.std.specs.declared.cmp.Ordering.{Ordering}
 use Rattle.zt_region.specs.declared.region.Region.{Region}
 use Rattle.zt_region.specs.declared.region.WhatAmI.{WhatAmI}
 use Rattle.zt_region.specs.declared.region.WhatAmI.TheVariants.{Client}
-use Rattle.zt_region.specs.declared.region.Zid.{Zid}
-use Rattle.zt_region.specs.Region.{is_north, region_eq, region_eq-same}
-use Rattle.zt_protocol.specs.Plain.{Trees}
+use Rattle.zt_region.specs.Region.{is_north}
 use Rattle.zt_protocol.specs.declared.messages.Message.{Message}
-use Rattle.zt_protocol.specs.declared.messages.QueryableInfo.{QueryableInfo}
-use Rattle.zt_model.specs.Closing.{expiring, is_expired, leaving, without_asks, without_face}
-use Rattle.zt_model.specs.Entities.{with_entities, with_numbers}
+use Rattle.zt_model.specs.Entities.{with_numbers}
 use Rattle.zt_model.specs.Hearing.{rows_heard}
-use Rattle.zt_model.specs.Lists.{at_id, first_where, has_id, without_id}
-use Rattle.zt_model.specs.Parts.{Alter, Part, Say, Sends, find_face, to_each, unsaid_to, with_face}
-use Rattle.zt_model.specs.Routing.{ended, end_upstream_to, ending, final_of_both, finalising, finish_to, finishing, initial_finalised, unheld, untell_to}
-use Rattle.zt_model.specs.Rows.{Ask, ById, Face, InterestRow, Pending, Rows}
-use Rattle.zt_model.specs.Says.{forget_to, tell_to, finalising_held, hiding_undeclared}
-use Rattle.zt_model.specs.Strategy.{is_broker, is_router_hat, strategy_of}
-use Rattle.zt_model.specs.Telling.{answer_to, answering, declaring, registered, undeclared, undeclaring, unregistered}
+use Rattle.zt_model.specs.Lists.{first_where, without_id}
+use Rattle.zt_model.specs.Parts.{Alter, Part, Say, Sends, to_each, with_face}
+use Rattle.zt_model.specs.Routing.{ended, end_upstream_to, ending, final_of_both, finalising, finish_to, initial_finalised, unheld, untell_to}
+use Rattle.zt_model.specs.Rows.{Face, InterestRow, Rows}
+use Rattle.zt_model.specs.Says.{forget_to, tell_to, hiding_undeclared}
+use Rattle.zt_model.specs.Strategy.{is_broker}
+use Rattle.zt_model.specs.Telling.{answer_to, registered, undeclared, undeclaring, unregistered}
 use Rattle.zt_model.specs.Transcript.{Each}
-use Rattle.zt_model.specs.Trees.{changing_table, counted_table, forgetting, greet_to, hide_to, hiding, is_newly_shown, left_out, router_regions, show_to, showing, table_of, with_own_rows, with_routed, with_table, without_left_out, without_own_rows}
+use Rattle.zt_model.specs.Trees.{hide_to, hiding, is_newly_shown, router_regions, show_to, showing, with_own_rows, with_routed, without_own_rows}
 use Rattle.zt_model.specs.Wants.{kept_options}
 use Rattle.zt_laws.specs.Sound.{RiseFrom}
-use Rattle.zt_laws.proofs.Hearing.{find_passes}
-use Rattle.zt_laws.proofs.Lists.{by_test, each_always, each_append, each_filter, each_weaker, never, of_cond, rise_filter}
-use Rattle.zt_laws.proofs.PartsOrder.{each_flat_map}
-use Rattle.zt_trees.specs.Facts.{IsTreeFace, LeadsDown, LeadsUp}
-use Rattle.zt_trees.proofs.Knowledge.{is_no_router}
+use Rattle.zt_laws.proofs.Lists.{each_always, each_filter, of_cond}
+use Rattle.zt_trees.specs.Facts.{IsTreeFace}
 use Rattle.zt_trees.proofs.Rules.{answer_well, end_upstream_well, final_of_both_well, finish_well, forget_well, hide_well, show_well, tell_well, untell_well}
 use Rattle.zt_trees.proofs.Saying.{IsReal, SaidWell, TreeRows, tree_rows_heard}
-use Rattle.zt_trees.proofs.Tracking.{IsGood, SameEar, Unmoved, find_with_face, good_each, good_one, good_unsaid, with_face_rows}
+use Rattle.zt_trees.proofs.Tracking.{IsGood, SameEar, find_with_face, good_each, good_one, with_face_rows}
 
 -- a change that leaves of a face its region, bound and mode, and holds and asks no more than before, leaves it one of a tree
 pub tree_face_less : {K : Type 0} (mode : WhatAmI) (f h : Face K) → h.region ≡ f.region → h.bound ≡ f.bound → h.mode ≡ f.mode → (f.held ≡ [] → h.held ≡ []) → (Each (λ row. kept_options Client row.1.options ≡ row.1.options) f.held → Each (λ row. kept_options Client row.1.options ≡ row.1.options) h.held) → (f.asks ≡ [] → h.asks ≡ []) → IsTreeFace mode f → IsTreeFace mode h
@@ -43,7 +33,7 @@ tree_face_less mode f h region_ bound_ mode_ held_ kept_ asks_ face = record {
 }
 
 module _ {K : Type 0} (cmp : K → K → Ordering) (matching : K → K → Bool) (p n : ℕ) (up : Bool) (R : Face K → Face K → Type 0) (itself : (f : Face K) → R f f) (trans : (f h k : Face K) → R f h → R h k → R f k) (ear : (f h : Face K) → R f h → SameEar f h)
-  (own : n ≡ p → (f h : Face K) → SameEar f h → R f h) (ends : (id : ℕ) (f : Face K) → R f (ended id f)) (mode : WhatAmI) where
+    (own : n ≡ p → (f h : Face K) → SameEar f h → R f h) (ends : (id : ℕ) (f : Face K) → R f (ended id f)) (mode : WhatAmI) where
   -- the rows are those of a tree, at a gateway of the mode
   abbrev pub Inside : Rows K → Type 0
   Inside g = TreeRows cmp g × (g.mode ≡ mode)
@@ -93,8 +83,11 @@ module _ {K : Type 0} (cmp : K → K → Ordering) (matching : K → K → Bool)
   pub good_ended : (k id : ℕ) → Good (Alter (with_face k (ended id)))
   unfolding with_face
   good_ended k id = λ g f inside found. (
-    (with_face_rows cmp matching k (ended id) g (λ f. refl) (each_always (λ f. (k == f.number) ≡ true → IsTreeFace g.mode f → IsTreeFace g.mode (ended id f)) (λ f _ face. tree_face_less g.mode f (ended id f) refl refl refl (λ h. h) (λ h. h) (λ h. h) face) g.faces)
-    (λ f r. record { next = r.next; told = r.told }) inside.0, inside.1),
+    (
+      with_face_rows cmp matching k (ended id) g (λ f. refl) (each_always (λ f. (k == f.number) ≡ true → IsTreeFace g.mode f → IsTreeFace g.mode (ended id f)) (λ f _ face. tree_face_less g.mode f (ended id f) refl refl refl (λ h. h) (λ h. h) (λ h. h) face) g.faces)
+          (λ f r. record { next = r.next; told = r.told }) inside.0,
+      inside.1,
+    ),
     ((if k == p then ended id f else f), find_with_face cmp matching p k (ended id) g f (λ f. refl) found, of_cond (R f) (k == p) (ended id f) f (λ _. ends id f) (λ _. itself f)),
   )
 

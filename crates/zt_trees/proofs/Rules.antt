@@ -1,41 +1,38 @@
 -- What the rules of gateways say to a face of a tree is said well.
-use Rattle.std.proofs.Common.{◌≡◌, ◌⊎◌, inl, inr, ℕ, ◌+◌, ◌≤◌, ◌<◌, max, Bool, true, false, cond, if◌then◌else◌, ◌&&◌, ◌||◌, ◌==◌, not, List, [], ◌∷◌, ◌++◌, map, filter, Option, Some, None, refl, sym, ap, ◌∙◌, subst, arith, eq-eqb, eqb-true, ne_eqb, ⊎_elim}
+use Rattle.std.proofs.Common.{◌≡◌, ℕ, ◌+◌, ◌≤◌, Bool, true, false, if◌then◌else◌, ◌&&◌, ◌||◌, ◌==◌, not, List, [], ◌∷◌, ◌++◌, map, filter, Option, Some, None, refl, sym, ap, ◌∙◌, subst, arith, eq-eqb, ne_eqb, ⊎_elim}
 use Rattle.std.proofs.lemmas.Bool.{and_from, and_parts, or_cases, or_left, or_right}
 use Rattle.std.proofs.lemmas.Nat.{and_assoc}
 use Rattle.std.specs.Int.Bits.{and_self, bit_and}
 use Rattle.std.specs.List.{flat_map, list_any}
-use Rattle.std.specs.Option.{option_to_list}
 use Rattle.std.specs.declared.cmp.Ordering.{Ordering}
 use Rattle.zt_region.specs.declared.region.Region.{Region}
-use Rattle.zt_region.specs.declared.region.Region.TheVariants.{North, Local, South}
+use Rattle.zt_region.specs.declared.region.Region.TheVariants.{North}
 use Rattle.zt_region.specs.declared.region.WhatAmI.{WhatAmI}
-use Rattle.zt_region.specs.declared.region.WhatAmI.TheVariants.{Router, Peer, Client}
-use Rattle.zt_region.specs.declared.region.Zid.{Zid}
-use Rattle.zt_region.specs.Region.{is_north, region_eq, region_eq-same}
-use Rattle.zt_protocol.specs.Interest.{has_aggregate, has_queryables, has_subscribers, has_tokens, is_current, is_future, without_aggregate}
+use Rattle.zt_region.specs.declared.region.WhatAmI.TheVariants.{Client}
+use Rattle.zt_region.specs.Region.{is_north, region_eq-same}
+use Rattle.zt_protocol.specs.Interest.{has_tokens, is_current, is_future, without_aggregate}
 use Rattle.zt_protocol.specs.declared.interests.InterestMode.{InterestMode}
 use Rattle.zt_protocol.specs.declared.interests.InterestOptions.{InterestOptions}
 use Rattle.zt_protocol.specs.declared.messages.Message.{Message}
 use Rattle.zt_protocol.specs.declared.messages.Message.TheVariants.{DeclareToken, UndeclareToken, DeclareFinal, Interest, InterestFinal, DeclareSubscriber, DeclareQueryable}
-use Rattle.zt_model.specs.Entities.{aggregate_of, all_merged, entities_for, info_of, matching_queryables, matching_subscribers, queryable_of, queryables_for, subscriber_of, subscribers_for}
-use Rattle.zt_model.specs.Hearing.{asks_answered, with_answer}
-use Rattle.zt_model.specs.Lists.{at_id, first_of, in_key_order, is_among, is_some_and, same}
+use Rattle.zt_model.specs.Hearing.{with_answer}
+use Rattle.zt_model.specs.Lists.{at_id, in_key_order, is_among, is_some_and}
 use Rattle.zt_model.specs.Routing.{asks_same, end_upstream_to, final_of, final_of_both, finish_to, is_finished_by, is_held_south, is_target, is_target_of, route_to, untell_to}
 use Rattle.zt_model.specs.Rows.{Ask, ById, Face, InterestRow, Rows}
 use Rattle.zt_model.specs.Says.{answered_expressions, answers_from, answers_of, forget_to, forget_untold, is_routed, is_told, tell_to, told_id}
-use Rattle.zt_model.specs.Strategy.{is_broker, is_client_hat, is_router_hat, strategy_of}
+use Rattle.zt_model.specs.Strategy.{is_client_hat, is_router_hat, strategy_of}
 use Rattle.zt_model.specs.Telling.{answer_to, is_answered_by}
 use Rattle.zt_model.specs.Transcript.{Each}
-use Rattle.zt_model.specs.Trees.{greet_to, hide_to, is_hidden, is_newly_shown, pass_to, show_to, unpass_to}
+use Rattle.zt_model.specs.Trees.{hide_to, is_hidden, is_newly_shown, show_to}
 use Rattle.zt_model.specs.Visible.{is_visible, shows}
 use Rattle.zt_model.specs.Wants.{kept_options, wants}
-use Rattle.zt_laws.proofs.Lists.{any-map, any_alike, by_test, each_always, each_append, each_filter, each_map, each_weaker, never, of_cond}
+use Rattle.zt_laws.proofs.Lists.{any-map, any_alike, by_test, each_always, each_append, each_map, each_weaker, never, of_cond}
 use Rattle.zt_laws.proofs.PartsOrder.{each_flat_map}
 use Rattle.zt_laws.proofs.Told.{told_id_each, told_id_none}
-use Rattle.zt_trees.specs.Facts.{IsTreeFace, LeadsDown, LeadsUp, tokens_by}
+use Rattle.zt_trees.specs.Facts.{IsTreeFace, tokens_by}
 use Rattle.zt_trees.proofs.Hears.{IsWell, is_of_mode}
 use Rattle.zt_trees.proofs.Knowledge.{is_no_router}
-use Rattle.zt_trees.proofs.Saying.{IsReal, SaidWell, TreeRows, asks_by}
+use Rattle.zt_trees.proofs.Saying.{IsReal, SaidWell, asks_by}
 
 -- the options that a client's face keeps, it keeps
 pub kept_twice : (o : InterestOptions) → kept_options Client (kept_options Client o) ≡ kept_options Client o

@@ -1,28 +1,27 @@
 -- What faces are sent, one message after another, and that the parts of a call say it well.
-use Rattle.std.proofs.Common.{◌≡◌, ◌⊎◌, inl, inr, ℕ, ◌+◌, ◌≤◌, ◌<◌, max, Bool, true, false, cond, if◌then◌else◌, ◌&&◌, ◌||◌, ◌==◌, not, List, [], ◌∷◌, ◌++◌, map, filter, Option, Some, None, option_map, refl, sym, ap, ◌∙◌, subst, arith, eq-eqb, eqb-true, ⊎_elim}
-use Rattle.std.proofs.lemmas.Bool.{and_from, and_parts, or_cases}
-use Rattle.std.specs.List.{flat_map, list_any}
+use Rattle.std.proofs.Common.{◌≡◌, inl, inr, ℕ, ◌≤◌, Bool, true, false, ◌&&◌, ◌==◌, not, List, [], ◌∷◌, ◌++◌, map, filter, Some, None, option_map, refl, sym, ap, ◌∙◌, subst, arith, eq-eqb, eqb-true, ⊎_elim}
+use Rattle.std.proofs.lemmas.Bool.{or_cases}
+use Rattle.std.specs.List.{list_any}
 use Rattle.std.specs.declared.cmp.Ordering.{Ordering}
 use Rattle.zt_region.specs.Region.{is_north}
 use Rattle.zt_region.specs.declared.region.WhatAmI.{WhatAmI}
 use Rattle.zt_region.specs.declared.region.WhatAmI.TheVariants.{Client}
-use Rattle.zt_protocol.specs.Interest.{is_current, is_future}
 use Rattle.zt_protocol.specs.declared.messages.Message.{Message}
 use Rattle.zt_protocol.specs.declared.messages.Message.TheVariants.{DeclareToken, UndeclareToken, DeclareFinal, Interest, InterestFinal, DeclareSubscriber, DeclareQueryable}
-use Rattle.zt_model.specs.Hearing.{asks_answered, heard, heard_all, messages_for, rows_heard, with_answer}
-use Rattle.zt_model.specs.Lists.{first_where, is_among, same, without_id}
-use Rattle.zt_model.specs.Parts.{Alter, Part, Say, Sends, altered_by, find_face, said_by}
-use Rattle.zt_model.specs.Rows.{Ask, ById, Face, InterestRow, Pending, Rows}
+use Rattle.zt_model.specs.Hearing.{asks_answered, heard, heard_all, messages_for, rows_heard}
+use Rattle.zt_model.specs.Lists.{first_where, same, without_id}
+use Rattle.zt_model.specs.Parts.{Sends, find_face}
+use Rattle.zt_model.specs.Rows.{Ask, ById, Face, InterestRow, Rows}
 use Rattle.zt_model.specs.Strategy.{is_broker}
 use Rattle.zt_model.specs.Transcript.{Each}
 use Rattle.zt_model.specs.Wants.{kept_options}
-use Rattle.zt_laws.specs.Kept.{Told, told_by, told_of}
+use Rattle.zt_laws.specs.Kept.{told_by, told_of}
 use Rattle.zt_laws.specs.Sound.{RiseFrom}
-use Rattle.zt_laws.proofs.Hearing.{heard_all-number, heard_all-region, messages_for-append}
-use Rattle.zt_laws.proofs.Lists.{any-map, any_alike, by_test, each_map, each_weaker, never, of_cond, rise_map}
+use Rattle.zt_laws.proofs.Hearing.{heard_all-number}
+use Rattle.zt_laws.proofs.Lists.{by_test, each_map, never, of_cond, rise_map}
 use Rattle.zt_laws.proofs.NextIds.{DrawNext}
-use Rattle.zt_trees.specs.Facts.{IsTreeFace, JointAgrees, LeadsDown, LeadsUp, tokens_after, tokens_by}
-use Rattle.zt_trees.proofs.Hears.{DrawsNext, IsWell, is_of_mode, lower_hears, upper_hears}
+use Rattle.zt_trees.specs.Facts.{IsTreeFace, JointAgrees, tokens_after, tokens_by}
+use Rattle.zt_trees.proofs.Hears.{DrawsNext, IsWell, lower_hears, upper_hears}
 
 module _ {K : Type 0} (cmp : K → K → Ordering) where
   -- ---- the asks of a face once it has heard a message

@@ -1,20 +1,17 @@
 -- One face, followed through the parts of a call: what it is sent is said well, and what the call itself changes of it.
-use Rattle.std.proofs.Common.{◌≡◌, ℕ, Bool, true, false, cond, if◌then◌else◌, ◌&&◌, ◌==◌, not, List, [], ◌∷◌, ◌++◌, map, filter, Option, Some, None, option_map, refl, sym, ap, ◌∙◌, subst, eq-eqb, eqb-true, ne_eqb}
-use Rattle.std.specs.List.{flat_map, list_any}
+use Rattle.std.proofs.Common.{◌≡◌, ℕ, Bool, true, false, if◌then◌else◌, ◌&&◌, ◌==◌, not, List, [], ◌∷◌, map, filter, Option, Some, None, option_map, refl, sym, ap, ◌∙◌, subst, eq-eqb, eqb-true}
 use Rattle.std.specs.declared.cmp.Ordering.{Ordering}
-use Rattle.zt_region.specs.declared.region.WhatAmI.{WhatAmI}
 use Rattle.zt_region.specs.Region.{is_north}
 use Rattle.zt_protocol.specs.declared.messages.Message.{Message}
 use Rattle.zt_model.specs.Hearing.{heard_all, messages_for, rows_heard}
-use Rattle.zt_model.specs.Lists.{first_where}
 use Rattle.zt_model.specs.Parts.{Alter, Part, Say, Sends, altered_by, find_face, said_by, to_each, to_face, unsaid_to, with_face}
-use Rattle.zt_model.specs.Rows.{Ask, ById, Face, InterestRow, Pending, Rows}
+use Rattle.zt_model.specs.Rows.{Ask, ById, Face, Pending, Rows}
 use Rattle.zt_model.specs.Transcript.{Each}
 use Rattle.zt_laws.specs.Sound.{RiseFrom}
 use Rattle.zt_laws.proofs.Hearing.{find_each, find_passes, heard_all-region, messages_for-append, messages_for_each, messages_for_other, messages_for_own}
-use Rattle.zt_laws.proofs.Lists.{by_test, each_always, each_append, each_filter, each_map, each_weaker, filter_all, never, of_cond, rise_map}
+use Rattle.zt_laws.proofs.Lists.{by_test, each_always, each_filter, each_map, each_weaker, filter_all, never, of_cond, rise_map}
 use Rattle.zt_trees.specs.Facts.{IsTreeFace, tokens_after}
-use Rattle.zt_trees.proofs.Saying.{IsReal, SaidWell, TreeRows, all_asks, all_told, asks_after, find_heard_at, find_map, tree_rows_heard, well_append}
+use Rattle.zt_trees.proofs.Saying.{IsReal, SaidWell, TreeRows, all_asks, all_told, find_heard_at, find_map, well_append}
 
 -- what a rule reads of a face to which messages were said
 pub record SameEar {K : Type 0} (f h : Face K) : Type 0 where
@@ -105,7 +102,7 @@ module _ {K : Type 0} (cmp : K → K → Ordering) (matching : K → K → Bool)
       (λ here. rw here (by_test (p == s.0) (λ own. rw own (ap (λ ms. s.1 ∷ ms) (messages_unsaid p n ss apart))) (λ own. rw own (messages_unsaid p n ss apart))))
 
   module _ (p : ℕ) (up : Bool) (I : Rows K → Type 0) (rows_of : (g : Rows K) → I g → TreeRows cmp g) (heard_ : (ss : Sends K) (g : Rows K) → I g → I (rows_heard cmp ss g))
-    (R : Face K → Face K → Type 0) (itself : (f : Face K) → R f f) (trans : (f h k : Face K) → R f h → R h k → R f k) (ear : (f h : Face K) → R f h → SameEar f h) where
+      (R : Face K → Face K → Type 0) (itself : (f : Face K) → R f f) (trans : (f h k : Face K) → R f h → R h k → R f k) (ear : (f h : Face K) → R f h → SameEar f h) where
     -- a part that keeps the face, and says well what it says to it
     abbrev pub IsGood : Part K → Type 0
     IsGood (Alter change) = (g : Rows K) (f : Face K) → I g → find_face p g ≡ Some f → I (change g) × ((h : Face K) × (find_face p (change g) ≡ Some h) × R f h)

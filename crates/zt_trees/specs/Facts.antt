@@ -15,6 +15,7 @@ use Rattle.zt_protocol.specs.declared.interests.InterestMode.{InterestMode}
 use Rattle.zt_model.specs.Fabric.{Fabric, Node}
 use Rattle.zt_model.specs.Hearing.{put_if, told_pair, untold}
 use Rattle.zt_model.specs.Lists.{same, without_id}
+use Rattle.zt_model.specs.Refusals.{GREATEST_DICTIONARY}
 use Rattle.zt_model.specs.Routing.{asks_same}
 use Rattle.zt_model.specs.Rows.{Ask, ById, Face, InterestRow, Pending, Rows}
 use Rattle.zt_model.specs.Strategy.{is_broker}
@@ -167,6 +168,7 @@ module _ {K : Type 0} (cmp : K → K → Ordering) (matching : K → K → Bool)
     pub faces : Each (IsTreeFace g.mode) g.faces
     pub one_north : length (filter (λ f. is_north f.region) g.faces) ≤ 1
     pub own_rows : Each (λ row. zid_eq row.source g.zid ≡ true) g.routed
+    pub dictionary : length g.dictionary ≤ GREATEST_DICTIONARY
     pub asks_above :
         Each (λ f. is_north f.region ≡ false → Each (λ row. (is_current row.1.mode && has_tokens row.1.options) ≡ true → AsksAbove g row.1) f.held) g.faces
 

@@ -1,9 +1,10 @@
 -- An open link of a fabric of trees is a joint: a face below, which leads up to another gateway, and the face above that
 -- it leads to. What is printed for a face waits to be spoken by the face at the other end, so what waits for the lower
 -- face rises and what waits for the upper one falls.
-use Rattle.std.specs.Prelude.{◌≡◌, ℕ, ◌≤◌, ◌<◌, Bool, true, ◌==◌, ◌&&◌, ◌||◌, not, List, length, Some}
+use Rattle.std.specs.Prelude.{◌≡◌, ℕ, ◌≤◌, ◌<◌, Bool, true, false, ◌==◌, ◌&&◌, ◌||◌, not, List, length, Some}
 use Rattle.std.specs.List.{list_any}
 use Rattle.zt_region.specs.Region.{is_north}
+use Rattle.zt_protocol.specs.Plain.{CloseFace, PlainLine, Link as LinkLine, Unlink, Step, Speak, Moment, SetTreesAt}
 use Rattle.zt_protocol.specs.declared.messages.Message.{Message}
 use Rattle.zt_model.specs.Fabric.{Fabric, Link}
 use Rattle.zt_model.specs.Linking.{is_end_of, waiting_of}
@@ -52,3 +53,23 @@ pub record IsForest {K : Type 0} (s : Fabric K) : Type 0 where
   pub rank : ℕ → ℕ
   pub within : (n : ℕ) → rank n ≤ length s.gateways
   pub falls : (a b : ℕ) (x y : FaceAt K) → are_joined s a b ≡ true → face_numbered s a ≡ Some x → face_numbered s b ≡ Some y → is_north x.face.region ≡ true → rank y.gateway < rank x.gateway
+
+-- The line is a step, or a call at a face or a gateway: it opens and closes no link, and makes no gateway and no face.
+-- It may close a plain face.
+abbrev pub is_call_or_step : {K : Type 0} → PlainLine K → Bool
+is_call_or_step (Step link back) = true
+is_call_or_step (Speak call) = true
+is_call_or_step (Moment gateway now) = true
+is_call_or_step (SetTreesAt gateway region table) = true
+is_call_or_step _ = false
+
+abbrev pub closes_no_face : {K : Type 0} → PlainLine K → Bool
+closes_no_face (Speak (CloseFace n)) = false
+closes_no_face (Unlink link) = false
+closes_no_face _ = true
+
+-- the line opens and closes no link
+abbrev pub changes_no_link : {K : Type 0} → PlainLine K → Bool
+changes_no_link (LinkLine one two first back) = false
+changes_no_link (Unlink link) = false
+changes_no_link _ = true

@@ -3,12 +3,15 @@
 //! of trees after every line.
 #![tactic(auto)]
 
-ghost use Rattle.std.specs.Prelude.{◌≡◌, ℕ, true, Some};
-ghost use Rattle.zt_model.specs.Fabric.{Fabric, empty_fabric};
-ghost use Rattle.zt_model.specs.Transcript.{AllKeepWhatTheyShould, FaceAt, face_numbered};
+ghost use Rattle.std.specs.Prelude.{◌≡◌, ◌≢◌, ℕ, Bool, true, Some, Err};
+ghost use Rattle.zt_protocol.specs.Plain.{PlainLine};
+ghost use Rattle.zt_protocol.specs.declared.errors.Refusal.TheVariants.{IdsSpent};
+ghost use Rattle.zt_model.specs.Fabric.{Fabric, Node, empty_fabric, entry_of, fabric_after};
+ghost use Rattle.zt_model.specs.Transcript.{AllKeepWhatTheyShould, Each, FaceAt, face_numbered};
 ghost use Rattle.zt_model.specs.TreePromises.{IsTreeFabric, KnowsItsTree, are_links_empty, is_plain_number};
 ghost use Rattle.zt_laws.specs.Order.{FabricIsInOrder};
-ghost use Rattle.zt_trees.specs.Facts.{TreesAgree};
+ghost use Rattle.zt_trees.specs.Facts.{IsTreeGateway, JointAgrees, TreesAgree};
+ghost use Rattle.zt_trees.specs.Joints.{EachJoint, changes_no_link, closes_no_face, is_call_or_step};
 
 use zt_keys::Key;
 
@@ -23,4 +26,22 @@ pub fn plain_faces_know_their_trees<K: Key>()
     ensures { (s : Fabric K) (n : ℕ) (x : FaceAt K) → FabricIsInOrder K.cmp K.matching s → TreesAgree K.cmp K.matching s
         → IsTreeFabric s → AllKeepWhatTheyShould K.cmp K.matching s → are_links_empty s ≡ true
         → face_numbered s n ≡ Some x → is_plain_number s n ≡ true → KnowsItsTree K.cmp K.matching s x.gateway x.face }
+{}
+
+/// Every line but those that open and close links, in any order: after it, be it accepted or refused, what waits on each open
+/// link still makes of the one end's rows what the other end was told. Only where a line was refused for want of ids a row
+/// may be lost.
+pub fn lines_between_links_keep_joints<K: Key>()
+    ensures { (is_built : PlainLine K → Bool) (line : PlainLine K) (s : Fabric K) → changes_no_link line ≡ true
+        → FabricIsInOrder K.cmp K.matching s → TreesAgree K.cmp K.matching s → entry_of K.cmp K.matching is_built line s ≢ Err IdsSpent
+        → EachJoint (JointAgrees K.cmp) (fabric_after K.cmp K.matching line (entry_of K.cmp K.matching is_built line s) s) }
+{}
+
+/// A call or a step that closes no face keeps all of `TreesAgree`, where it leaves gateways of trees: links stay as they were
+/// made, and no gateway comes to lie above itself.
+pub fn calls_and_steps_keep_trees<K: Key>()
+    ensures { (is_built : PlainLine K → Bool) (line : PlainLine K) (s : Fabric K) → is_call_or_step line ≡ true → closes_no_face line ≡ true
+        → FabricIsInOrder K.cmp K.matching s → TreesAgree K.cmp K.matching s → entry_of K.cmp K.matching is_built line s ≢ Err IdsSpent
+        → (let after = fabric_after K.cmp K.matching line (entry_of K.cmp K.matching is_built line s) s in
+        Each (λ (node : Node K). IsTreeGateway K.cmp K.matching node.rows) after.gateways → TreesAgree K.cmp K.matching after) }
 {}

@@ -1,16 +1,17 @@
 -- Where as many passes come together as numbers were drawn, no other is left and the lock is free.
-use Rattle.std.proofs.Common.{◌≡◌, ℕ, zero, suc, ◌+◌, ◌<◌, ◌≤◌, ◌==◌, ⊎_elim, false, List, [], ◌∷◌, set, length, refl, sym, ap, arith}
+use Rattle.std.proofs.Common.{◌≡◌, ℕ, zero, suc, ◌+◌, ◌<◌, ◌≤◌, ◌==◌, ⊎_elim, false, List, [], ◌∷◌, set, length, refl, sym, ap, arith, ◌∙◌, subst}
 use Rattle.std.specs.List.{sum_by, AllByRecursion}
 use Rattle.std.proofs.lemmas.List.Sums.{sum_by-cons}
 use Rattle.std.proofs.lemmas.Bool.{eq-eqb, ne_eqb}
 use mathlib.Core.Logic.{dite}
-use mathlib.Core.Option.{none, some}
+use mathlib.Core.Option.{none, some, some-injective}
 use native.Mathlib.Decide.{ℕ_discrete, dec_lt}
 use lib.ListN.{get_elem?}
-use Rattle.atomic_table.specs.Table.{State}
+use Rattle.atomic_table.specs.Table.{State, Final, Seen}
 use Rattle.zt_passes.specs.declared.part.Part.{Part}
 use Rattle.zt_passes.specs.Owned.{below, with_owned, owned_from}
 use Rattle.zt_passes.specs.Views.{total, AllParts}
+use Rattle.zt_passes.specs.Handed.{Handed, IsLeft}
 use Rattle.zt_passes.specs.Rule.{held, Fits, IsShared}
 use Rattle.zt_passes.proofs.ViewSums.{AllByRecursion-map, AllByRecursion-both, total-cons, total-others, parts-at, parts-set, parts-map, parts-both, all-weightless}
 use Rattle.zt_passes.proofs.Numbers.{one_at, one_at-other, below-at, below-past}
@@ -63,10 +64,6 @@ all-of F [] f = tt
 all-of F (p ∷ ps) f = (f p, all-of F ps f)
 
 module _ {S E O : Type 0} (journal : S → List E) (author : E → ℕ) (state : S → O) (first : S) where
-  -- a pass that is handed in: it found no more numbers than n, and doesn't hold the lock
-  abbrev pub Handed : ℕ → Part S → Type 0
-  Handed n p = (p.known ≤ n) × (p.locked ≡ false)
-
   module _ (s : State S (List (Part S))) (r : IsShared journal author state first s) (id n : ℕ) (v : List (Part S)) (at : get_elem? s.views id ≡ some v)
       (all : length v ≡ n) (some_handed : 0 < n) (handed : AllByRecursion (Handed n) v) where
     abbrev others : List (List (Part S))
@@ -146,6 +143,29 @@ module _ {S E O : Type 0} (journal : S → List E) (author : E → ℕ) (state :
         let now = r.numbers f in
         let theirs = total-empty (λ (p : Part S). f p.number) others others-empty in
         let same = ap (below f) closing-count in omega arith
+
+module _ {S E O : Type 0} (journal : S → List E) (author : E → ℕ) (state : S → O) (first : S) where
+  -- the value that comes out of the table
+  pub left_by : (words : List ℕ) (items : List S) (id : ℕ) (v : List (Part S)) → 0 < length v → AllByRecursion (Handed (length v)) v
+      → Final (Seen (IsShared journal author state first) id v) words items → (value : S) → get_elem? items 0 ≡ some value → IsLeft journal author state value v
+  left_by words items id v some_handed handed final value here =
+      let s = final.0 in
+      let r = final.1.0 in
+      let at = final.1.1 in
+      let home = closing-home journal author state first s r id (length v) v at refl some_handed handed in
+      let count = closing-count journal author state first s r id (length v) v at refl some_handed handed in
+      let there : get_elem? items 0 ≡ some home.0 = final.4 0 home.0 (ap (λ hs. get_elem? hs 0) home.1) in
+      let same : home.0 ≡ value = some-injective home.0 value (sym there ∙ here) in
+      let log : journal value ≡ r.log = ap journal (sym same) ∙ home.2 in record {
+        first = first;
+        opened_first = ap state (sym same) ∙ home.3;
+        fits = subst (λ (n : ℕ). AllByRecursion (Fits journal author state first (journal value) n) v) count
+            (subst (λ (l : List E). AllByRecursion (Fits journal author state first l r.count) v) (sym log)
+            (parts-at (Fits journal author state first r.log r.count) s.views id v at r.parts));
+        numbers = closing-numbers journal author state first s r id (length v) v at refl some_handed handed;
+        authors = subst (λ (n : ℕ). AllByRecursion (λ e. author e < n) (journal value)) count
+            (subst (λ (l : List E). AllByRecursion (λ e. author e < r.count) l) (sym log) r.authors);
+      }
 
 -- ---- the entries of all passes together
 

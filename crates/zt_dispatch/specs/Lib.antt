@@ -1,0 +1,4 @@
+pub mod Ran
+pub mod Steps
+pub mod CallActs
+pub mod Does

@@ -1,0 +1,5 @@
+pub mod Apart
+pub mod Opened
+pub mod Part1
+pub mod Part2
+pub mod Part3

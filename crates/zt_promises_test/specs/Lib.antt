@@ -1,0 +1,4 @@
+pub mod Wrong
+pub mod Part1
+pub mod Part2
+pub mod Part3
