@@ -1,5 +1,5 @@
 -- The interests that a call sends are those that are due.
-use Rattle.std.proofs.Common.{◌≡◌, ℕ, ◌+◌, ◌≤◌, Bool, true, false, not, if◌then◌else◌, ◌&&◌, ◌||◌, ◌==◌, List, [], ◌∷◌, ◌++◌, filter, map, Option, Some, None, refl, sym, ap, ◌∙◌, subst, append-nil, arith, eqb-true, eq-eqb, ne_eqb}
+use Rattle.std.proofs.Common.{◌≡◌, ℕ, ◌+◌, ◌≤◌, Bool, true, false, not, if◌then◌else◌, ◌&&◌, ◌==◌, List, [], ◌∷◌, ◌++◌, filter, Option, Some, None, refl, sym, ap, ◌∙◌, append-nil, arith, eqb-true, eq-eqb, ne_eqb}
 use Rattle.std.specs.Cmp.{IsTotalOrder}
 use Rattle.std.specs.declared.cmp.Ordering.{Ordering}
 use Rattle.std.specs.declared.cmp.Ordering.TheVariants.{Equal}
@@ -15,22 +15,21 @@ use Rattle.zt_protocol.specs.declared.interests.InterestMode.{InterestMode}
 use Rattle.zt_protocol.specs.declared.messages.Message.{Message}
 use Rattle.zt_protocol.specs.declared.messages.Message.TheVariants as message
 use Rattle.zt_model.specs.Entities.{entities_for, numbered_by, with_numbers}
-use Rattle.zt_model.specs.Fabric.{CallAt}
 use Rattle.zt_model.specs.Hearing.{messages_for, rows_heard}
 use Rattle.zt_model.specs.Lists.{first_where, has_id}
 use Rattle.zt_model.specs.Promises.{interests_due, interests_in}
 use Rattle.zt_model.specs.Refusals.{can_draw}
-use Rattle.zt_model.specs.Routing.{face_opened, held_south, interests_from, is_greeted, is_target, is_target_of, opened, opening, opening_final, opening_interests, opening_tokens, route_to, sent_as, tokens_from}
+use Rattle.zt_model.specs.Routing.{face_opened, interests_from, is_greeted, is_target, is_target_of, opened, opening_final, opening_interests, opening_tokens, route_to, sent_as, tokens_from}
 use Rattle.zt_model.specs.Rows.{Face, InterestRow, Rows}
 use Rattle.zt_model.specs.Says.{Alter, Part, Say, Sends, answered_expressions, answering, answers_of, asking, declaring, declaring_of, final_of, find_face, interesting_above, is_routed, is_told, parts_of, registers, row_of, said, said_by, tell_to, to_each, to_face}
 use Rattle.zt_model.specs.Telling.{answer_to}
 use Rattle.zt_model.specs.Transcript.{Each}
-use Rattle.zt_model.specs.Trees.{pass_to, show_to, showing, source_of, with_routed}
+use Rattle.zt_model.specs.Trees.{pass_to, show_to, showing, source_of}
 use Rattle.zt_laws.specs.Order.{RowsAreInOrder}
 use Rattle.zt_laws.specs.Sound.{RiseFrom, opens_face}
 use Rattle.zt_laws.proofs.CallsOrder.{transport_in_order}
 use Rattle.zt_laws.proofs.Drawing.{said_undrawn}
-use Rattle.zt_laws.proofs.Hearing.{each_ruled, each_ruled_one, find_only, messages_for-append, messages_for_each}
+use Rattle.zt_laws.proofs.Hearing.{each_ruled, each_ruled_one, messages_for-append, messages_for_each}
 use Rattle.zt_laws.proofs.Lists.{by_test, each_always, each_append, each_both, each_filter, each_weaker, never, of_cond, rise_above}
 use Rattle.zt_laws.proofs.PartsOrder.{each_message_for}
 use Rattle.zt_laws.proofs.Silent.{silent_final}
