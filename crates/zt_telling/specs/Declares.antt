@@ -1,5 +1,5 @@
 -- What a face's own declarations and undeclarations come to, and that it fits.
-use Rattle.std.specs.Prelude.{◌≡◌, ℕ, Bool, true, false, ◌==◌, IsTrue, List, [], ◌∷◌, ◌++◌, Option, Some, None, is_some, option_map, refl}
+use Rattle.std.specs.Prelude.{◌≡◌, ℕ, Bool, true, false, ◌==◌, List, [], ◌∷◌, ◌++◌, Option, Some, None, is_some, option_map, refl}
 use Rattle.std.specs.declared.cmp.Ordering.{Ordering}
 use Rattle.std.proofs.Common.{ap, subst, sym, ◌∙◌}
 use Rattle.std.proofs.lemmas.List.{append-nil}
@@ -46,7 +46,8 @@ mapped-some f None = refl
 mapped-some f (Some x) = refl
 
 -- whether there is one, of an answer that is read as another
-pub known-same : {A B : Type 0} (f : A → B) (o : Option A) (p : Option B) → option_map f o ≡ p → is_some p ≡ is_some o
+pub known-same : {A B : Type 0} (f : A → B) (o : Option A) (p : Option B) → option_map f o ≡ p
+    → is_some p ≡ is_some o
 known-same f o p is = ap is_some (sym is) ∙ mapped-some f o
 
 -- what is live on the face under the id
@@ -54,14 +55,16 @@ abbrev pub live_at : {K : Type 0} → ℕ → ℕ → Store K → Option K
 live_at n id s = from_face (λ f. at_id id f.live) (find_face n s.rows)
 
 module _ {K : Type 0} (cmp : K → K → Ordering) (hat : Strategy) (plain : is_router_hat hat ≡ false) (region : Region) (n id node : ℕ) (s : Store K) (owned : Owns region n s) where
-  pub register-known : (e : K) → is_some (live_at n id s) ≡ true → register_token_acts cmp hat region n id e node s ≡ []
+  pub register-known : (e : K) → is_some (live_at n id s) ≡ true
+      → register_token_acts cmp hat region n id e node s ≡ []
   unfolding register_token_acts
   register-known e known =
       by_option (find_face n s.rows)
       (λ x is. let has : has_id id x.live ≡ true = has-at id x.live ∙ rw is at known in rw (is, plain, has) refl)
       (λ none. rw none refl)
 
-  pub register-new : (e : K) → is_some (live_at n id s) ≡ false → register_token_acts cmp hat region n id e node s ≡ AddLive n id e ∷ []
+  pub register-new : (e : K) → is_some (live_at n id s) ≡ false
+      → register_token_acts cmp hat region n id e node s ≡ AddLive n id e ∷ []
   unfolding register_token_acts
   register-new e new =
       by_option (find_face n s.rows)
@@ -75,7 +78,8 @@ module _ {K : Type 0} (cmp : K → K → Ordering) (hat : Strategy) (plain : is_
       (λ x is. let has : has_id id x.live ≡ false = has-at id x.live ∙ rw is at new in (rw (is, has) refl, tt))
       (λ none. cc (rw none at owned))
 
-  pub unregister-unknown : (given : Option K) → live_at n id s ≡ None → unregister_token_acts cmp hat region n id given node s ≡ []
+  pub unregister-unknown : (given : Option K) → live_at n id s ≡ None
+      → unregister_token_acts cmp hat region n id given node s ≡ []
   unfolding unregister_token_acts
   unregister-unknown given unknown =
       by_option (find_face n s.rows)
@@ -91,14 +95,16 @@ module _ {K : Type 0} (cmp : K → K → Ordering) (hat : Strategy) (plain : is_
       (λ none. cc (rw none at owned))
 
   module _ (matching : K → K → Bool) (given : Option K) where
-    pub undeclared-known : (e : K) → live_at n id s ≡ Some e → expression_undeclared cmp matching hat n id given s ≡ Some e
+    pub undeclared-known : (e : K) → live_at n id s ≡ Some e
+        → expression_undeclared cmp matching hat n id given s ≡ Some e
     undeclared-known e known =
         let gives = λ (o : Option K). elim o as (λ _. Option K) [ None ↦ given | Some k ↦ Some k ] in
         by_option (find_face n s.rows)
         (λ x is. let live : at_id id x.live ≡ Some e = rw is at known in rw (plain, is) (ap gives live))
         (λ none. cc (rw none at known))
 
-    pub undeclared-given : live_at n id s ≡ None → expression_undeclared cmp matching hat n id given s ≡ given
+    pub undeclared-given : live_at n id s ≡ None
+        → expression_undeclared cmp matching hat n id given s ≡ given
     undeclared-given unknown =
         let gives = λ (o : Option K). elim o as (λ _. Option K) [ None ↦ given | Some k ↦ Some k ] in
         by_option (find_face n s.rows)

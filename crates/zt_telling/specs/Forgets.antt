@@ -54,12 +54,14 @@ module _ {K : Type 0} (cmp : K → K → Ordering) (matching : K → K → Bool)
   abbrev unless_told : Bool → List (Message K)
   unless_told heard = if heard then message.UndeclareToken 0 (Some e) 0 ∷ [] else []
 
-  pub gone-away : (face : Option (Face K)) → stands_in region face ≡ false → list_of_face rule face ≡ []
+  pub gone-away : (face : Option (Face K)) → stands_in region face ≡ false
+      → list_of_face rule face ≡ []
   gone-away None away = refl
   gone-away (Some x) away = rw away refl
 
   module _ (run : strategy_of g.mode region ≡ hat) (plain : is_router_hat hat ≡ false) where
-    strategy_is : (x : Face K) → region_eq x.region region ≡ true → strategy_of g.mode x.region ≡ hat
+    strategy_is : (x : Face K) → region_eq x.region region ≡ true
+        → strategy_of g.mode x.region ≡ hat
     strategy_is x here = ap (strategy_of g.mode) (region_eq-same x.region region here) ∙ run
 
     not-routed : (x : Face K) → region_eq x.region region ≡ true → is_routed g x ≡ false
@@ -71,13 +73,15 @@ module _ {K : Type 0} (cmp : K → K → Ordering) (matching : K → K → Bool)
     gone-seen (Some x) seen =
         by_test (region_eq x.region region) (λ t. rw (t, not-routed x t, seen) refl) (λ t. rw t refl)
 
-    pub gone-told : (id : ℕ) (face : Option (Face K)) → stands_in region face ≡ true → seen_at face ≡ false
+    pub gone-told : (id : ℕ) (face : Option (Face K)) → stands_in region face ≡ true
+        → seen_at face ≡ false
         → told_at face ≡ Some id → list_of_face rule face ≡ message.UndeclareToken id None 0 ∷ []
     unfolding forget_to
     gone-told id None here unseen told = cc
     gone-told id (Some x) here unseen told = rw (here, not-routed x here, unseen, told) refl
 
-    untold : (face : Option (Face K)) → stands_in region face ≡ true → seen_at face ≡ false → told_at face ≡ None
+    untold : (face : Option (Face K)) → stands_in region face ≡ true → seen_at face ≡ false
+        → told_at face ≡ None
         → list_of_face rule face
         ≡ unless_told (wanted_at face && not (is_client_hat hat) && shows region source)
     unfolding forget_to

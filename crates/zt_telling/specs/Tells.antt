@@ -55,11 +55,13 @@ module _ {K : Type 0} (cmp : K → K → Ordering) (matching : K → K → Bool)
   abbrev pub sought_at : Option (Face K) → Bool
   sought_at face = is_north region || is_some_and face (λ x. wants matching x e)
 
-  pub tell-away : (face : Option (Face K)) → stands_in region face ≡ false → list_of_face rule face ≡ []
+  pub tell-away : (face : Option (Face K)) → stands_in region face ≡ false
+      → list_of_face rule face ≡ []
   tell-away None away = refl
   tell-away (Some x) away = rw away refl
 
-  told-keeps : (rows : ById K) → list_any (λ row. same cmp e row.1) rows ≡ is_some (told_id cmp e rows)
+  told-keeps : (rows : ById K)
+      → list_any (λ row. same cmp e row.1) rows ≡ is_some (told_id cmp e rows)
   unfolding told_id
   told-keeps [] = refl
   told-keeps (row ∷ rows) = by_test (same cmp e row.1) (λ t. rw t refl) (λ t. rw t (told-keeps rows))

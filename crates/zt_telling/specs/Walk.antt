@@ -31,13 +31,16 @@ stands_in region face = is_some_and face (λ f. region_eq f.region region)
 abbrev pub for_region : {K A : Type 0} → Region → (Face K → List A) → Face K → List A
 for_region region rule f = if region_eq f.region region then rule f else []
 
-pub in-region-all : {K A : Type 0} (region : Region) (rule : Face K → List A) (fs : List (Face K)) → flat_map rule (filter (λ f. region_eq f.region region) fs) ≡ flat_map (for_region region rule) fs
+pub in-region-all : {K A : Type 0} (region : Region) (rule : Face K → List A) (fs : List (Face K))
+    → flat_map rule (filter (λ f. region_eq f.region region) fs)
+    ≡ flat_map (for_region region rule) fs
 in-region-all region rule [] = refl
 in-region-all region rule (f ∷ fs) = by_test (region_eq f.region region) (λ t. rw t (ap (λ rest. rule f ++ rest) (in-region-all region rule fs))) (λ t. rw t (in-region-all region rule fs))
 
 -- the acts for messages of a rule, at the face of a number
 pub acts-at : {K A B : Type 0} (region : Region) (acts : ℕ → A → List B) (rule : Face K → List A) (n : ℕ) (fs : List (Face K))
-    → list_of_face (for_region region (λ f. flat_map (acts f.number) (rule f))) (face_of n fs) ≡ flat_map (acts n) (list_of_face (for_region region rule) (face_of n fs))
+    → list_of_face (for_region region (λ f. flat_map (acts f.number) (rule f))) (face_of n fs)
+    ≡ flat_map (acts n) (list_of_face (for_region region rule) (face_of n fs))
 acts-at region acts rule n [] = refl
 acts-at region acts rule n (f ∷ fs) =
     by_test (n == f.number)
@@ -92,7 +95,8 @@ module _ {K A : Type 0} (rule : Face K → List A) where
   none-of n (f ∷ fs) below =
       let other : (n == f.number) ≡ false = apart-below n f.number (lt-true n f.number (and_first _ _ below)) in rw other (none-of n fs (and_second _ _ below))
 
-  pub walk-first : (fs : List (Face K)) → is_rising (numbers_of fs) ≡ true → flat_map rule fs ≡ list_of_face rule (face_of 0 fs) ++ flat_map rule (above 0 fs)
+  pub walk-first : (fs : List (Face K)) → is_rising (numbers_of fs) ≡ true
+      → flat_map rule fs ≡ list_of_face rule (face_of 0 fs) ++ flat_map rule (above 0 fs)
   walk-first [] rising = refl
   walk-first (f ∷ fs) rising =
       let below : is_below f.number (numbers_of fs) ≡ true = and_first _ _ rising in
@@ -108,7 +112,8 @@ module _ {K A : Type 0} (rule : Face K → List A) where
       let more : is_below 0 (numbers_of fs) ≡ true = below-more 0 f.number (numbers_of fs) less below in
       rw (over, t, none-of 0 fs more, above-all 0 fs more) refl)
 
-  next_number : (last n : ℕ) (fs : List (Face K)) → is_rising (numbers_of fs) ≡ true → number_above last (numbers_of fs) ≡ Some n
+  next_number : (last n : ℕ) (fs : List (Face K)) → is_rising (numbers_of fs) ≡ true
+      → number_above last (numbers_of fs) ≡ Some n
       → (last < n) × (flat_map rule (above last fs) ≡ list_of_face rule (face_of n fs) ++ flat_map rule (above n fs))
   next_number last n [] rising is = cc
   next_number last n (f ∷ fs) rising is =
@@ -132,14 +137,17 @@ module _ {K A : Type 0} (rule : Face K → List A) where
       let under : is_lt (nat_cmp n f.number) ≡ false = lt-false n f.number (omega arith) in
       (less, rw (t, under, other) go.1))
 
-  no_number : (last : ℕ) (fs : List (Face K)) → number_above last (numbers_of fs) ≡ None → flat_map rule (above last fs) ≡ []
+  no_number : (last : ℕ) (fs : List (Face K)) → number_above last (numbers_of fs) ≡ None
+      → flat_map rule (above last fs) ≡ []
   no_number last [] is = refl
   no_number last (f ∷ fs) is = by_test (is_lt (nat_cmp last f.number)) (λ t. cc (rw t at is)) (λ t. rw t (no_number last fs (rw t at is)))
 
 module _ {K : Type 0} (cmp : K → K → Ordering) (matching : K → K → Bool) {A : Type 0} (rule : Face K → List A) where
-  pub walk-next : (last n : ℕ) (fs : List (Face K)) → is_rising (numbers_of fs) ≡ true → next_face_after last fs ≡ Some n
+  pub walk-next : (last n : ℕ) (fs : List (Face K)) → is_rising (numbers_of fs) ≡ true
+      → next_face_after last fs ≡ Some n
       → (last < n) × (flat_map rule (above last fs) ≡ list_of_face rule (face_of n fs) ++ flat_map rule (above n fs))
   walk-next last n fs rising is = next_number rule last n fs rising (sym (above-numbers cmp matching last fs) ∙ is)
 
-  pub walk-none : (last : ℕ) (fs : List (Face K)) → next_face_after last fs ≡ None → flat_map rule (above last fs) ≡ []
+  pub walk-none : (last : ℕ) (fs : List (Face K)) → next_face_after last fs ≡ None
+      → flat_map rule (above last fs) ≡ []
   walk-none last fs is = no_number rule last fs (sym (above-numbers cmp matching last fs) ∙ is)

@@ -37,8 +37,10 @@ fn may_tell<K: Key>(tables: &Tables<K>, region: Region, source: Region) -> bool
 // Whether a face of the region may be told of the expression.
 fn seeks<K: Key>(tables: &Tables<K>, plan: &Plan<K>, region: Region, f: u32, expr: &K) -> bool
     requires { Fit K.cmp plan.now tables.now.store }
-    ensures { result ≡ (is_north region || is_some_and
-        (find_face f (planned K.cmp plan.now tables.now).rows) (λ x. wants K.matching x expr.now)) }
+    ensures { let rows = (planned K.cmp plan.now tables.now).rows in
+        result
+        ≡ (is_north region
+        || is_some_and (find_face f rows) (λ x. wants K.matching x expr.now)) }
 {
     region == Region::North || plan.wants(tables, f, expr)
 }

@@ -1,4 +1,4 @@
-use Rattle.std.proofs.Common.{◌++◌, ap, map, sym, ◌∙◌, OnOk, subst, ◌≡◌, List}
+use Rattle.std.proofs.Common.{◌++◌, ap, sym, ◌∙◌, OnOk, subst, ◌≡◌, List}
 use Rattle.std.specs.List.{flat_map}
 use Rattle.zt_model.specs.Acts.{Act}
 use Rattle.zt_store.specs.Planned.{planned}
