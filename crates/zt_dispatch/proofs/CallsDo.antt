@@ -27,6 +27,7 @@ use Rattle.zt_tables.specs.HatTokenActs.{unregister_token_acts}
 use Rattle.zt_changes.specs.Queries.{list_of_face}
 use Rattle.zt_dispatch.specs.Does.{AsksAreReady, Does, Means, RowsAreReady, is_face_routed, is_shown}
 use Rattle.zt_dispatch.specs.Steps.{Step, answering_ask, ending_upstream, finishing_ask, forgetting, hat_at, in_turn}
+use Rattle.zt_dispatch.proofs.AnsweredDoes.{answered-does}
 use Rattle.zt_dispatch.proofs.Doing.{does-nothing, does-turn}
 use Rattle.zt_dispatch.proofs.FinalDoes.{final-does}
 use Rattle.zt_dispatch.proofs.HeldDoes.{held-does}
@@ -103,6 +104,20 @@ module _ {K : Type 0} (cmp : K → K → Ordering) (matching : K → K → Bool)
     declare-steps id e node outside =
         ap (list_of_face (declaring_steps cmp matching n id e node None s)) found
         ∙ ap (λ (b : Bool). if b then registering cmp matching n id e node s f else answering_ask cmp matching None e ∷ registering cmp matching n id e node s f) outside
+
+    answered-parts : (id : ℕ) (e : K) (node interest : ℕ) → is_routed s.rows f ≡ false
+        → parts_of cmp matching (DeclareToken n id e node (Some interest)) s.rows ≡ answering cmp matching n (Some interest) e f ++ (if registers f (Some interest) then declaring cmp matching n id e f ++ showing cmp f.region e else [])
+    unfolding parts_of
+    answered-parts id e node interest outside =
+        ap (λ o. elim o as (λ _. List (Part K)) [ None ↦ [] | Some x ↦ if is_routed s.rows x then declaring_of cmp matching n (source_of s.rows x node) e x else answering cmp matching n (Some interest) e x ++ (if registers x (Some interest) then declaring cmp matching n id e x ++ showing cmp x.region e else []) ]) found
+        ∙ ap (λ (b : Bool). if b then declaring_of cmp matching n (source_of s.rows f node) e f else answering cmp matching n (Some interest) e f ++ (if registers f (Some interest) then declaring cmp matching n id e f ++ showing cmp f.region e else [])) outside
+
+    answered-steps : (id : ℕ) (e : K) (node interest : ℕ) → is_routed s.rows f ≡ false
+        → steps_of cmp matching (DeclareToken n id e node (Some interest)) s ≡ answering_ask cmp matching (ask_served n interest s) e ∷ (if registers f (Some interest) then registering cmp matching n id e node s f else [])
+    unfolding steps_of
+    answered-steps id e node interest outside =
+        ap (list_of_face (declaring_steps cmp matching n id e node (Some interest) s)) found
+        ∙ ap (λ (b : Bool). if b then registering cmp matching n id e node s f else answering_ask cmp matching (ask_served n interest s) e ∷ (if registers f (Some interest) then registering cmp matching n id e node s f else [])) outside
 
     held-parts : (id : ℕ) (interest : InterestRow K) → at_id id f.held ≡ Some interest → parts_of cmp matching (InterestFinal n id) s.rows ≡ finalising cmp matching n id interest
     unfolding parts_of
@@ -204,11 +219,31 @@ module _ {K : Type 0} (cmp : K → K → Ordering) (matching : K → K → Bool)
             (answers-none e steps ps s (registering-does cmp matching n s f found outside ready total equal_is_same id e node free)))
             (unknown-face n right.0)
 
+        answer-call : (n id : ℕ) (e : K) (node interest : ℕ) → AsksAreReady s → not (is_face_routed n s.rows) ≡ true → cause_of cmp matching (DeclareToken n id e node (Some interest)) s.rows ≡ None
+            → DoesCall (DeclareToken n id e node (Some interest)) s
+        unfolding call_causes
+        answer-call n id e node interest asks plain none =
+            let right = accepted (DeclareToken n id e node (Some interest)) s.rows none in
+            by_option (find_face n s.rows)
+            (λ f found.
+            let outside = plain-face n f found plain in
+            let free : registers f (Some interest) ≡ true → is_token_id_in_use cmp id e f ≡ false = λ t.
+            sym (ap (λ o. is_some_and o (λ x. (not (is_routed s.rows x) && registers x (Some interest)) && is_token_id_in_use cmp id e x)) found
+            ∙ ap (λ (b : Bool). (not b && registers f (Some interest)) && is_token_id_in_use cmp id e f) outside
+            ∙ ap (λ (b : Bool). b && is_token_id_in_use cmp id e f) t)
+            ∙ right.1.1.1.1.1.0 in
+            by-steps (DeclareToken n id e node (Some interest)) s
+            (answering_ask cmp matching (ask_served n interest s) e ∷ (if registers f (Some interest) then registering cmp matching n id e node s f else []))
+            (answering cmp matching n (Some interest) e f ++ (if registers f (Some interest) then declaring cmp matching n id e f ++ showing cmp f.region e else []))
+            (answered-steps s n f found id e node interest outside) (answered-parts s n f found id e node interest outside)
+            (answered-does cmp matching n s f found outside ready asks asks.unasked total equal_is_same interest id node e free))
+            (unknown-face n right.0)
+
         -- The acts of each of these calls, where it is accepted, are its meaning.
         pub shown-means : AsksAreReady s → (c : PlainCall K) → is_shown c s.rows ≡ true → cause_of cmp matching c s.rows ≡ None → Means cmp matching (call_acts cmp matching c s) c s
         shown-means asks (NewSession first) shown none = means (NewSession first) s none (session-call first s)
         shown-means asks (DeclareToken n id e node None) shown none = means (DeclareToken n id e node None) s none (declare-call n id e node shown none)
-        shown-means asks (DeclareToken n id e node (Some interest)) shown none = cc
+        shown-means asks (DeclareToken n id e node (Some interest)) shown none = means (DeclareToken n id e node (Some interest)) s none (answer-call n id e node interest asks shown none)
         shown-means asks (UndeclareToken n id given node) shown none = means (UndeclareToken n id given node) s none (undeclare-call n id given node shown none)
         shown-means asks (DeclareFinal n id) shown none = means (DeclareFinal n id) s none (final-call n id asks none)
         shown-means asks (SetEntities n subscribers queryables) shown none = means (SetEntities n subscribers queryables) s none (entities-call n subscribers queryables s)

@@ -74,8 +74,8 @@ module _ {K : Type 0} (cmp : K → K → Ordering) (matching : K → K → Bool)
         let after : Store K = record s { rows = with_face n (ended id) g } in
         let store_ : acted_all cmp (route_declare_final_acts n id s) s ≡ after = ap (λ acts. acted_all cmp acts s) (routed-acts true t) ∙ dropped-store in
         let ps : List (Part K) = Alter (with_face n (initial_finalised id)) ∷ Alter (with_face n (ended id)) ∷ [] in
-        let asks_mid = asks-kept n (initial_finalised id) (λ k. refl) (λ k. refl) s asks in
-        let asks_after = asks-kept n (ended id) (λ k. refl) (λ k. refl) mid asks_mid in
+        let asks_mid = asks-kept n (initial_finalised id) (λ k. refl) (λ k. refl) (λ k. refl) s asks in
+        let asks_after = asks-kept n (ended id) (λ k. refl) (λ k. refl) (λ k. refl) mid asks_mid in
         let served_mid = served-kept n (initial_finalised id) (λ k. refl) (λ k. refl) s (n, id) served (served-is n id s asks.numbered standing) in
         let served_after = served-kept n (ended id) (λ k. refl) (λ k. refl) mid (n, id) served served_mid in
         does-turn cmp matching (route_declare_final_acts n id) (finishing_ask served ∷ []) ps (Say (finish n id) ∷ []) s

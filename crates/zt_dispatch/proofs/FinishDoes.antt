@@ -72,7 +72,7 @@ module _ {K : Type 0} (cmp : K → K → Ordering) (matching : K → K → Bool)
   }
 
   module _ (n id : ℕ) (t : Store K) (ready : RowsAreReady cmp matching t.rows) (asks : AsksAreReady t) where
-    listed : Each (λ f. Each (λ row. was_sent_as n id row.1 ≡ lists t.rows (n, id) (f.number, row.0)) f.asks) t.rows.faces
+    pub listed : Each (λ f. Each (λ row. was_sent_as n id row.1 ≡ lists t.rows (n, id) (f.number, row.0)) f.asks) t.rows.faces
     listed = each-listed cmp matching (n, id) t.rows ready
 
     unfinished : (ask : Ask K) → was_sent_as n id ask ≡ false → is_finished_by t.rows n id ask ≡ false
@@ -93,10 +93,10 @@ module _ {K : Type 0} (cmp : K → K → Ordering) (matching : K → K → Bool)
 
     module _ (m : ℕ) (p : ℕ × ℕ) (at : at_id m t.numbers ≡ Some p) (there : lists t.rows (n, id) p ≡ true) (f : Face K) (found : find_face p.0 t.rows ≡ Some f) (a : Ask K) (ask_is : at_id p.1 f.asks ≡ Some a) where
       -- the ask that lists the pending is the only one
-      sole : (q : ℕ × ℕ) → lists t.rows (n, id) q ≡ true → q ≡ p
+      pub sole : (q : ℕ × ℕ) → lists t.rows (n, id) q ≡ true → q ≡ p
       sole q other = asks.once (n, id) q p other there
 
-      number : p.0 ≡ f.number
+      pub number : p.0 ≡ f.number
       number = eqb-true p.0 f.number (find_passes (λ x. p.0 == x.number) t.rows.faces f found)
 
       elsewhere : Each (λ x. (p.0 == x.number) ≡ false → finish_to t.rows n id x ≡ []) t.rows.faces
@@ -107,13 +107,13 @@ module _ {K : Type 0} (cmp : K → K → Ordering) (matching : K → K → Bool)
           (each_weaker (λ row. was_sent_as n id row.1 ≡ lists t.rows (n, id) (x.number, row.0)) (λ row. was_sent_as n id row.1 ≡ false)
           (λ row is. by_test (was_sent_as n id row.1) (λ sent. never (eq-eqb p.0 x.number (ap (λ (q : ℕ × ℕ). q.0) (sym (sole (x.number, row.0) (sym is ∙ sent))))) apart) (λ sent. sent)) x.asks each)) t.rows.faces listed
 
-      own-listed : Each (λ row. was_sent_as n id row.1 ≡ lists t.rows (n, id) (f.number, row.0)) f.asks
+      pub own-listed : Each (λ row. was_sent_as n id row.1 ≡ lists t.rows (n, id) (f.number, row.0)) f.asks
       own-listed = find_each (λ x. Each (λ row. was_sent_as n id row.1 ≡ lists t.rows (n, id) (x.number, row.0)) x.asks) (λ x. p.0 == x.number) t.rows.faces f listed found
 
-      own-asks : RiseFrom (λ row. row.0) 0 f.asks
+      pub own-asks : RiseFrom (λ row. row.0) 0 f.asks
       own-asks = (find_each HasRowsInOrder (λ x. p.0 == x.number) t.rows.faces f ready.order.lists.rows found).asks
 
-      ask-sent : was_sent_as n id a ≡ true
+      pub ask-sent : was_sent_as n id a ≡ true
       ask-sent = sym (ap (λ o. is_some_and (from_face (λ x. at_id p.1 x.asks) o) (was_sent_as n id)) found ∙ ap (λ o. is_some_and o (was_sent_as n id)) ask_is) ∙ there
 
       finals : finish_to t.rows n id f ≡ (if list_any (stands t.rows) a.pendings then [] else DeclareFinal p.1 ∷ [])
@@ -189,5 +189,5 @@ module _ {K : Type 0} (cmp : K → K → Ordering) (matching : K → K → Bool)
       does-turn cmp matching step (finishing_ask served ∷ []) (Alter (with_face n (ended id)) ∷ []) (Say (finish n id) ∷ []) s
       (does-one cmp matching (DropPending n id) (with_face n (ended id)) s refl refl)
       (does-last cmp matching (finishing_ask served) (Say (finish n id) ∷ []) after
-      (finish-does n id after (ready-ended n id s.rows ready) (asks-kept n (ended id) (λ f. refl) (λ f. refl) s asks) served
+      (finish-does n id after (ready-ended n id s.rows ready) (asks-kept n (ended id) (λ f. refl) (λ f. refl) (λ f. refl) s asks) served
       (served-kept n (ended id) (λ f. refl) (λ f. refl) s (n, id) served (served-is n id s asks.numbered standing))))

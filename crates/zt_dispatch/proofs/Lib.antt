@@ -15,4 +15,6 @@ pub mod FinishDoes
 pub mod NumberDoes
 pub mod FinalDoes
 pub mod HeldDoes
+pub mod AnswerDoes
+pub mod AnsweredDoes
 pub mod CallsDo

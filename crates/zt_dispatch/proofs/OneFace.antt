@@ -1,15 +1,17 @@
 -- Messages to one face, changes of one face, and the asks that they leave.
-use Rattle.std.proofs.Common.{◌≡◌, ℕ, true, false, if◌then◌else◌, ◌==◌, List, map, Option, Some, None, refl, sym, ap, ◌∙◌, subst, eq-eqb}
+use Rattle.std.proofs.Common.{◌≡◌, ℕ, true, false, if◌then◌else◌, ◌==◌, List, map, Option, Some, None, refl, sym, ap, ◌∙◌, subst, eq-eqb, []}
 use Rattle.std.specs.Option.{IsSome}
 use Rattle.std.specs.declared.cmp.Ordering.{Ordering}
 use Rattle.std.specs.Prelude.{is_none}
+use Rattle.zt_region.specs.declared.region.Region.{Region}
 use Rattle.zt_protocol.specs.declared.messages.Message.{Message}
 use Rattle.zt_model.specs.Acts.{Store}
 use Rattle.zt_model.specs.Hearing.{heard_all, rows_heard}
 use Rattle.zt_model.specs.Lists.{at_id, first_of, is_some_and}
-use Rattle.zt_model.specs.Parts.{Sends, find_face, to_face, with_face}
+use Rattle.zt_model.specs.Parts.{is_routed, Sends, find_face, to_face, with_face}
 use Rattle.zt_model.specs.Rows.{Ask, ById, Face, Rows}
 use Rattle.zt_model.specs.Telling.{was_sent_as}
+use Rattle.zt_model.specs.Strategy.{is_router_hat, strategy_of}
 use Rattle.zt_model.specs.Transcript.{Each}
 use Rattle.zt_laws.specs.Sound.{RiseFrom}
 use Rattle.zt_laws.proofs.Hearing.{rows_heard-to_face}
@@ -79,9 +81,17 @@ module _ {K : Type 0} where
       (each_weaker IsSent (λ f. IsSent (if n == f.number then change f else f))
       (λ f sent. by_test (n == f.number) (λ t. rw t (subst (λ (rows : ById (Ask K)). Each (λ row. is_none (first_of row.1.pendings) ≡ false) rows) (sym (asks_ f)) sent)) (λ t. rw t sent)) g.faces each)
 
+  unasked-changed : (n : ℕ) (change : Face K → Face K) → ((f : Face K) → (change f).asks ≡ f.asks) → ((f : Face K) → (change f).region ≡ f.region) → (g : Rows K)
+      → Each (λ f. is_routed g f ≡ true → f.asks ≡ []) g.faces → Each (λ f. is_routed (with_face n change g) f ≡ true → f.asks ≡ []) (with_face n change g).faces
+  unfolding with_face
+  unasked-changed n change asks_ region_ g each =
+      each_map (λ f. is_routed g f ≡ true → f.asks ≡ []) (λ f. if n == f.number then change f else f) g.faces
+      (each_weaker (λ f. is_routed g f ≡ true → f.asks ≡ []) (λ f. is_routed g (if n == f.number then change f else f) ≡ true → (if n == f.number then change f else f).asks ≡ [])
+      (λ f none. by_test (n == f.number) (λ t. rw t (λ routed. asks_ f ∙ none (ap (λ (r : Region). is_router_hat (strategy_of g.mode r)) (sym (region_ f)) ∙ routed))) (λ t. rw t none)) g.faces each)
+
   -- rows with the same asks
-  asks-same : (s : Store K) (h : Rows K) → ((p : ℕ × ℕ) → ask_in (Some p) h ≡ ask_in (Some p) s.rows) → Each IsSent h.faces → AsksAreReady s → AsksAreReady (record s { rows = h })
-  asks-same s h same_ sent asks = record {
+  asks-same : (s : Store K) (h : Rows K) → ((p : ℕ × ℕ) → ask_in (Some p) h ≡ ask_in (Some p) s.rows) → Each IsSent h.faces → Each (λ f. is_routed h f ≡ true → f.asks ≡ []) h.faces → AsksAreReady s → AsksAreReady (record s { rows = h })
+  asks-same s h same_ sent unasked asks = record {
     numbered = record {
       in_order = asks.numbered.in_order;
       below = asks.numbered.below;
@@ -90,15 +100,16 @@ module _ {K : Type 0} where
       every = λ p there. asks.numbered.every p (subst IsSome (same_ p) there);
     };
     sent = sent;
+    unasked = unasked;
     once = λ pending p q at_p at_q. asks.once pending p q
         (ap (λ o. is_some_and o (was_sent_as pending.0 pending.1)) (sym (same_ p)) ∙ at_p)
         (ap (λ o. is_some_and o (was_sent_as pending.0 pending.1)) (sym (same_ q)) ∙ at_q);
   }
 
   -- A change of one face that leaves its asks leaves the asks ready.
-  pub asks-kept : (n : ℕ) (change : Face K → Face K) → ((f : Face K) → (change f).number ≡ f.number) → ((f : Face K) → (change f).asks ≡ f.asks) → (s : Store K) → AsksAreReady s → AsksAreReady (record s { rows = with_face n change s.rows })
-  asks-kept n change number_ asks_ s asks =
-      asks-same s (with_face n change s.rows) (λ p. asks-found n change number_ asks_ p s.rows) (sent-changed n change asks_ s.rows asks.sent) asks
+  pub asks-kept : (n : ℕ) (change : Face K → Face K) → ((f : Face K) → (change f).number ≡ f.number) → ((f : Face K) → (change f).asks ≡ f.asks) → ((f : Face K) → (change f).region ≡ f.region) → (s : Store K) → AsksAreReady s → AsksAreReady (record s { rows = with_face n change s.rows })
+  asks-kept n change number_ asks_ region_ s asks =
+      asks-same s (with_face n change s.rows) (λ p. asks-found n change number_ asks_ p s.rows) (sent-changed n change asks_ s.rows asks.sent) (unasked-changed n change asks_ region_ s.rows asks.unasked) asks
 
   -- and which ask a pending serves
   pub served-kept : (n : ℕ) (change : Face K → Face K) → ((f : Face K) → (change f).number ≡ f.number) → ((f : Face K) → (change f).asks ≡ f.asks) → (s : Store K) (pending : ℕ × ℕ) (served : Option ℕ)

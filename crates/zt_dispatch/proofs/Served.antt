@@ -61,7 +61,7 @@ module _ {K : Type 0} where
       (λ m is. is ∙ ap (λ (k : ℕ). Some k) (ok.apart m n p (number-at p m s.numbers ok.in_order is) at))
       (λ none. absurd (some-number p n s.numbers at none))
 
-  where-in : (s : Store K) (m : ℕ) (test : Ask K → Bool) → is_ask_where m test s ≡ is_some_and (ask_in (at_id m s.numbers) s.rows) test
+  pub where-in : (s : Store K) (m : ℕ) (test : Ask K → Bool) → is_ask_where m test s ≡ is_some_and (ask_in (at_id m s.numbers) s.rows) test
   where-in s m test = at-number (at_id m s.numbers)
     where
       at-face : (p : ℕ × ℕ) (o : Option (Face K)) → is_some_and o (λ f. is_some_and (at_id p.1 f.asks) test) ≡ is_some_and (from_face (λ f. at_id p.1 f.asks) o) test

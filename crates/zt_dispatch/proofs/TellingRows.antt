@@ -103,7 +103,7 @@ module _ {K : Type 0} (cmp : K → K → Ordering) (matching : K → K → Bool)
       (λ t. let own : (f.number == f.number) ≡ true = eq-eqb f.number f.number refl in rw (t, own) (tell_heard cmp now f.next 0 e f real (told-new g source e f t)))
       (λ t. rw t refl)
 
-  none-told : (e : K) (told : ById K) → told_id cmp e told ≡ None → list_any (λ row. same cmp e row.1) told ≡ false
+  pub none-told : (e : K) (told : ById K) → told_id cmp e told ≡ None → list_any (λ row. same cmp e row.1) told ≡ false
   unfolding told_id
   none-told e [] none = refl
   none-told e (row ∷ told) none =

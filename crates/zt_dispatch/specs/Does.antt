@@ -3,7 +3,7 @@
 --     RowsAreReady     what calls keep of the rows
 --     AsksAreReady     what they keep of the asks and their numbers
 --     Means, is_shown  acts are the meaning of a call; the calls of which this is shown
-use Rattle.std.specs.Prelude.{◌≡◌, ℕ, Bool, true, false, ◌&&◌, not, List, [], Some, is_none}
+use Rattle.std.specs.Prelude.{◌≡◌, ℕ, Bool, true, false, not, List, [], Some, is_none}
 use Rattle.std.specs.declared.cmp.Ordering.{Ordering}
 use Rattle.zt_protocol.specs.Plain.{PlainCall, NewSession, DeclareToken, UndeclareToken, InterestFinal, DeclareFinal, SetEntities}
 use Rattle.zt_model.specs.Acts.{Act, Store, acted_all}
@@ -41,10 +41,12 @@ module _ {K : Type 0} where
   abbrev pub lists : Rows K → ℕ × ℕ → ℕ × ℕ → Bool
   lists g pending place = is_some_and (ask_in (Some place) g) (was_sent_as pending.0 pending.1)
 
-  -- What calls keep of the asks: each has its number, and was sent upstream; a pending is that of one ask at the most.
+  -- What calls keep of the asks: each has its number, and was sent upstream; faces of router regions have none; and a
+  -- pending is that of one ask at the most.
   pub record AsksAreReady (s : Store K) : Type 0 where
     pub numbered : AreAsksNumbered s
     pub sent : Each (λ f. Each (λ row. is_none (first_of row.1.pendings) ≡ false) f.asks) s.rows.faces
+    pub unasked : Each (λ f. is_routed s.rows f ≡ true → f.asks ≡ []) s.rows.faces
     pub once : (pending p q : ℕ × ℕ) → lists s.rows pending p ≡ true → lists s.rows pending q ≡ true → p ≡ q
 
 module _ {K : Type 0} (cmp : K → K → Ordering) (matching : K → K → Bool) where
@@ -58,10 +60,10 @@ abbrev pub is_face_routed : {K : Type 0} → ℕ → Rows K → Bool
 is_face_routed n g = is_some_and (find_face n g) (is_routed g)
 
 -- the calls of which it is shown so far that their acts are their meaning: opening a session, tokens outside router regions
--- that answer no interest, interests that end, finals from the north, and entities
+-- that answer an interest or none, interests that end, finals from the north, and entities
 abbrev pub is_shown : {K : Type 0} → PlainCall K → Rows K → Bool
 is_shown (NewSession first) g = true
-is_shown (DeclareToken n id e node interest) g = is_none interest && not (is_face_routed n g)
+is_shown (DeclareToken n id e node interest) g = not (is_face_routed n g)
 is_shown (UndeclareToken n id given node) g = not (is_face_routed n g)
 is_shown (InterestFinal n id) g = true
 is_shown (DeclareFinal n id) g = true
