@@ -9,7 +9,7 @@ use Rattle.zt_passes.specs.Owned.{below, with_owned, owned_from, owned}
 use Rattle.zt_passes.specs.Plays.{Sat}
 use Rattle.zt_passes.specs.Rule.{Fits}
 use Rattle.zt_passes.specs.Passes.{Standing, mine, part_of, pass_counted}
-use Rattle.zt_passes.specs.Account.{IsCounted, Accounts, AccountsForAll}
+use Rattle.zt_passes.specs.Account.{IsCounted, IsComplete, Accounts, AccountsForAll}
 use Rattle.zt_passes.specs.Handed.{Handed, AreAllHanded, IsLeft}
 use Rattle.zt_passes.proofs.ViewSums.{AllByRecursion-map}
 use Rattle.zt_passes.proofs.Zipped.{AllZip-set, AllZip-length, AllZip-left}
@@ -84,6 +84,10 @@ module _ {S : Type 0} where
   all-parts F G over (x ∷ xs) [] zip all = absurd zip
   all-parts F G over (x ∷ xs) (y ∷ ys) zip all = (over x y zip.0 all.0, all-parts F G over xs ys zip.1 all.1)
 
+-- the pass found no more numbers than n, and drew none past them
+abbrev IsWithin : {S : Type 0} → ℕ → Standing S → Type 0
+IsWithin n pass = (pass.known ≤ n) × AllByRecursion (λ m. m < n) pass.drawn
+
 module _ {S E O : Type 0} (journal : S → List E) (author : E → ℕ) (state : S → O) (value first : S) where
   accounts : (log_count : ℕ) → state value ≡ state first → (a b : Standing S) → IsCounted a b
       → Fits journal author state first (journal value) log_count (part_of b) → Accounts journal author state value a
@@ -99,7 +103,30 @@ module _ {S E O : Type 0} (journal : S → List E) (author : E → ℕ) (state :
         looks_long = AllByRecursion-map (λ (m : ℕ). m ≤ a.seen) (λ (m : ℕ). m ≤ length (journal value)) (λ m le. let seen = at-a.seen_long in omega arith) a.looks at-a.looks_seen;
       }
 
+  -- what the pass knows of numbers is below the count
+  within : (n : ℕ) (a b : Standing S) → IsCounted a b
+      → Fits journal author state first (journal value) n (part_of b) → IsWithin n a
+  within n a b counted f =
+      let Fact : Part S → Type 0 = Fits journal author state first (journal value) n in
+      let at-a = subst (λ (x : Standing S). Fact (part_of x)) counted.0 f in
+      let most = at-a.known_drawn in
+      let more = counted.1 in (
+        omega arith,
+        AllByRecursion-map (λ (m : ℕ). (a.number < m) × (m < b.known)) (λ (m : ℕ). m < n)
+            (λ m d. let below = d.1 in omega arith) a.drawn at-a.draws,
+      )
+
 module _ {S E O : Type 0} (journal : S → List E) (author : E → ℕ) (state : S → O) (value : S) where
+  pub complete : (olds news : List (Standing S)) → AllZip IsCounted olds news
+      → IsLeft journal author state value (map part_of news) → IsComplete olds
+  complete olds news zip left =
+      let n = length (map part_of news) in
+      let long = length-parts news ∙ sym (AllZip-length IsCounted olds news zip) in
+      let Fact : Part S → Type 0 = Fits journal author state left.first (journal value) n in
+      let each = within journal author state value left.first n in
+      subst (λ (m : ℕ). AllByRecursion (IsWithin m) olds) long
+      (all-parts Fact (IsWithin n) each olds news zip left.fits)
+
   sum-mine : (passes : List (Standing S)) → AllByRecursion (Accounts journal author state value) passes
       → sum_by (λ (pass : Standing S). length (mine journal author pass)) passes ≡ sum_by (λ (pass : Standing S). length (owned author pass.number (journal value))) passes
   sum-mine [] all = refl

@@ -5,9 +5,14 @@ use mathlib.Core.List.{IsPrefix}
 use Rattle.zt_passes.specs.Owned.{below, owned}
 use Rattle.zt_passes.specs.Passes.{Standing, mine, pass_counted}
 
--- the pass has found how many numbers were drawn, and nothing else of it changed
+-- the pass may have found how many numbers were drawn, and nothing else of it changed
 abbrev pub IsCounted : {S : Type 0} → Standing S → Standing S → Type 0
 IsCounted before after = (after ≡ pass_counted after.known before) × (before.known ≤ after.known)
+
+-- no pass is missing: none found more numbers than there are passes, or drew one past theirs
+abbrev pub IsComplete : {S : Type 0} → List (Standing S) → Type 0
+IsComplete passes = AllByRecursion (λ pass. (pass.known ≤ length passes)
+    × AllByRecursion (λ number. number < length passes) pass.drawn) passes
 
 module _ {S E O : Type 0} (journal : S → List E) (author : E → ℕ) (state : S → O) where
   -- The value's journal accounts for the pass: it begins with what the pass found, the entries with its

@@ -1,7 +1,7 @@
 // The end of a shared value: its passes come together, and the value comes out.
 ghost use Rattle.std.specs.Prelude.{◌≡◌, ◌<◌, ◌≤◌, [], length, map, MatchOption, IfOk, IfErr};
 ghost use Rattle.std.specs.List.{AllByRecursion, AllZip, Contains};
-ghost use Rattle.zt_passes.specs.Account.{IsCounted, AccountsForAll};
+ghost use Rattle.zt_passes.specs.Account.{IsCounted, IsComplete, AccountsForAll};
 ghost use Rattle.zt_passes.specs.Handed.{AreAllHanded, IsLeft};
 ghost use Rattle.zt_passes.specs.Passes.{pass_counted, part_of};
 ghost use Rattle.zt_passes.specs.Seats.{IsTable};
@@ -102,6 +102,7 @@ impl<J: Recorder> SharedRecorder<J> {
         requires own { AllByRecursion (λ pass. pass.table ≡ self) passes.items }
         ensures ok { IfOk result (λ value.
             AccountsForAll J.journal J.author J.state value passes.items) }
+        ensures whole { IfOk result (λ _. IsComplete passes.items) }
         ensures shared { IfErr result (λ error. error.shared ≡ self) }
         ensures passes { IfErr result (λ error. AllZip IsCounted passes.items error.passes.items) }
         ensures own { IfErr result (λ error.

@@ -1,10 +1,11 @@
-use Rattle.std.proofs.Common.{◌≡◌, ◌<◌, ◌≤◌, [], length, map, sym, ap, ◌∙◌, subst, arith}
+use Rattle.std.proofs.Common.{◌≡◌, ◌<◌, ◌≤◌, List, [], length, map, sym, ap, ◌∙◌, subst, arith}
 use Rattle.std.specs.List.{AllByRecursion}
 use Rattle.zt_passes.specs.Account.{IsCounted}
+use Rattle.zt_passes.specs.declared.part.Part.{Part}
 use Rattle.zt_passes.specs.Handed.{IsLeft}
 use Rattle.zt_passes.specs.Passes.{Standing, part_of}
 use Rattle.zt_passes.proofs.Zipped.{AllZip-right, AllZip-length}
-use Rattle.zt_passes.proofs.Accounting.{handed_all, accounts_all}
+use Rattle.zt_passes.proofs.Accounting.{handed_all, accounts_all, complete}
 use Rattle.zt_passes.proofs.shared.SharedRecorder.close.Goals as goal
 
 pub joined-seat-requires-clause-own : goal.joined-seat-requires-clause-own
@@ -26,6 +27,16 @@ returns-in-None-clause-ok g c =
     let left : IsLeft J.journal J.author J.state c.taken_out.result (map part_of c.missing.new.passes.items) =
     subst (λ me. IsLeft J.journal J.author J.state c.taken_out.result me.0) c.joined-seat.ensures.parts c.taken_out.ensures in
     accounts_all J.journal J.author J.state c.taken_out.result c.args.passes.items c.missing.new.passes.items c.missing.ensures.counted left
+
+pub returns-in-None-clause-whole : goal.returns-in-None-clause-whole
+returns-in-None-clause-whole g c =
+    let J = g.J.Recorder in
+    let value = c.taken_out.result in
+    let news = c.missing.new.passes.items in
+    let Left : List (Part g.row.J.Denot) → Type 0 = IsLeft J.journal J.author J.state value in
+    let left = subst (λ me. Left me.0) c.joined-seat.ensures.parts c.taken_out.ensures in
+    let zip = c.missing.ensures.counted in
+    complete J.journal J.author J.state value c.args.passes.items news zip left
 
 pub returns-in-Some-clause-own : goal.returns-in-Some-clause-own
 returns-in-Some-clause-own g c =
