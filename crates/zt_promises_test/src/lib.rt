@@ -1,5 +1,6 @@
-//! The wrong transcripts of `tests/wrong`, each refused by a promise of `zt_model`, as it is by a program that checks
-//! transcripts. A law is named for its script, and names the promise and the line whose entry breaks it.
+//! The wrong transcripts of `tests/wrong`: each breaks a promise of `zt_model`, but for one that has other totals than
+//! its lines and one that no promise forbids, which alone isn't the machine's own. A law is named for its script, and
+//! names the promise and the line whose entry breaks it.
 //!
 //! Written by tools/wrong_to_antt.py; change the transcripts or the tool, and not this file.
 #![tactic(auto)]
