@@ -1,1 +1,9 @@
 pub mod Sending
+pub mod Upstream
+pub mod Locals
+pub mod Ending
+pub mod Calls
+pub mod Upholding
+pub mod Asking
+pub mod Greeting
+pub mod Lasting

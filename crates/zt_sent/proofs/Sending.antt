@@ -44,7 +44,7 @@ use Rattle.zt_drawn.proofs.Needs.{held_opened}
 module _ {K : Type 0} where
   -- ---- interests among messages
 
-  none_in : (ms : List (Message K)) → Each MakesNoPending ms → interests_in ms ≡ []
+  pub none_in : (ms : List (Message K)) → Each MakesNoPending ms → interests_in ms ≡ []
   none_in [] none_ = refl
   none_in (message.DeclareToken id e interest node ∷ ms) none_ = none_in ms none_.1
   none_in (message.UndeclareToken id e node ∷ ms) none_ = none_in ms none_.1
@@ -54,7 +54,7 @@ module _ {K : Type 0} where
   none_in (message.DeclareSubscriber id e interest ∷ ms) none_ = none_in ms none_.1
   none_in (message.DeclareQueryable id e info interest ∷ ms) none_ = none_in ms none_.1
 
-  in-append : (ms ns : List (Message K)) → interests_in (ms ++ ns) ≡ interests_in ms ++ interests_in ns
+  pub in-append : (ms ns : List (Message K)) → interests_in (ms ++ ns) ≡ interests_in ms ++ interests_in ns
   in-append [] ns = refl
   in-append (message.DeclareToken id e interest node ∷ ms) ns = in-append ms ns
   in-append (message.UndeclareToken id e node ∷ ms) ns = in-append ms ns
@@ -101,7 +101,7 @@ module _ {K : Type 0} (cmp : K → K → Ordering) (matching : K → K → Bool)
   said_none (Alter change ∷ parts) g none_ = said_none parts (change g) none_.1
   said_none (Say rule ∷ parts) g none_ = each_append (λ s. MakesNoPending s.1) (rule g) (said_by cmp matching parts (rows_heard cmp (rule g) g)) (none_.0 g) (said_none parts (rows_heard cmp (rule g) g) none_.1)
 
-  none_for : (n : ℕ) (ss : Sends K) → Each (λ s. MakesNoPending s.1) ss → interests_in (messages_for n ss) ≡ []
+  pub none_for : (n : ℕ) (ss : Sends K) → Each (λ s. MakesNoPending s.1) ss → interests_in (messages_for n ss) ≡ []
   none_for n ss none_ = none_in (messages_for n ss) (each_message_for cmp MakesNoPending n ss none_)
 
   tells_none : (g : Rows K) (source : Region) (e : K) (f : Face K) → Each MakesNoPending (tell_to cmp matching g source e f)
@@ -198,7 +198,7 @@ module _ {K : Type 0} (cmp : K → K → Ordering) (matching : K → K → Bool)
     -- ---- calls
 
     -- of two gateways it is this one
-    due_here : (gateway : ℕ) (is : List (InterestRow K)) → (if not (gateway == gateway) then [] else is) ≡ is
+    pub due_here : (gateway : ℕ) (is : List (InterestRow K)) → (if not (gateway == gateway) then [] else is) ≡ is
     due_here gateway is = ap (λ b. if not b then [] else is) (eq-eqb gateway gateway refl)
 
     nothing_due : (gateway : ℕ) (c : PlainCall K) (g : Rows K) → Each (λ s. MakesNoPending s.1) (said cmp matching c g)
@@ -206,7 +206,7 @@ module _ {K : Type 0} (cmp : K → K → Ordering) (matching : K → K → Bool)
         → Each (λ f. interests_in (messages_for f.number (said cmp matching c g)) ≡ interests_due cmp matching gateway f (record { gateway = gateway; rows = g; call = c })) g.faces
     nothing_due gateway c g none_ due = each_always (λ f. interests_in (messages_for f.number (said cmp matching c g)) ≡ interests_due cmp matching gateway f (record { gateway = gateway; rows = g; call = c })) (λ f. none_for f.number (said cmp matching c g) none_ ∙ sym (due f)) g.faces
 
-    undrawn_none : (c : PlainCall K) (g : Rows K) → can_draw cmp matching c ≡ false → Each (λ s. MakesNoPending s.1) (said cmp matching c g)
+    pub undrawn_none : (c : PlainCall K) (g : Rows K) → can_draw cmp matching c ≡ false → Each (λ s. MakesNoPending s.1) (said cmp matching c g)
     undrawn_none c g draws = each_weaker (λ s. DrawsNothing s.1) (λ s. MakesNoPending s.1) (λ s one. none_if_drawn s.1 one) (said cmp matching c g) (said_undrawn cmp matching total c g draws)
 
     pub call_sends : (gateway : ℕ) (c : PlainCall K) (g : Rows K) → opens_face c ≡ false → RowsAreInOrder cmp matching g

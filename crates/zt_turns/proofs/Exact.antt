@@ -31,14 +31,14 @@ each_gateway P Q one i (node ∷ gs) all = (one i node all.0, each_gateway P Q o
 
 module _ {K : Type 0} (cmp : K → K → Ordering) (matching : K → K → Bool) where
   -- own rows are no live ones
-  live_shown : (g : Rows K) → live_rows (without_own g) ≡ live_rows g
+  pub live_shown : (g : Rows K) → live_rows (without_own g) ≡ live_rows g
   live_shown g = ap (λ (rows : List (RoutedRow K)). flat_map rows_of_face g.faces ++ map (λ row. (row.region, row.expr)) rows) (filter_within (is_from_other g.zid) (is_from_other g.zid) (λ row other. other) g.routed)
 
-  visible_shown : (g : Rows K) (own : Region) (e : K) → is_visible cmp (without_own g) own e ≡ is_visible cmp g own e
+  pub visible_shown : (g : Rows K) (own : Region) (e : K) → is_visible cmp (without_own g) own e ≡ is_visible cmp g own e
   unfolding is_visible
   visible_shown g own e = ap (list_any (λ row. same cmp e row.1 && shows own row.0)) (live_shown g)
 
-  admitted_shown : (g : Rows K) (own : Region) (e : K) → is_admitted cmp (without_own g) own e ≡ is_admitted cmp g own e
+  pub admitted_shown : (g : Rows K) (own : Region) (e : K) → is_admitted cmp (without_own g) own e ≡ is_admitted cmp g own e
   unfolding is_admitted
   admitted_shown g own e = ap (list_any (λ row. same cmp e row.1 && (shows own row.0 && admits g.refused row.0 own))) (live_shown g)
 

@@ -34,21 +34,21 @@ use Rattle.zt_laws.proofs.Unlinking.{closing_case}
 use Rattle.zt_turns.proofs.Reaching.{plain_reach, routed_reach}
 
 -- the member at a position, where that is changed
-nth_at : {A : Type 0} (n : ℕ) (change : A → A) (xs : List A) (x : A) → nth n xs ≡ Some x → nth n (at_nth n change xs) ≡ Some (change x)
+pub nth_at : {A : Type 0} (n : ℕ) (change : A → A) (xs : List A) (x : A) → nth n xs ≡ Some x → nth n (at_nth n change xs) ≡ Some (change x)
 nth_at n change [] x at_ = cc
 nth_at n change (y ∷ ys) x at_ =
     by_test (n == 1)
     (λ here. let e : Some y ≡ Some x = rw here at at_ in let is : y ≡ x = cc in rw here (rw here (ap (λ z. Some (change z)) is)))
     (λ here. rw here (rw here (nth_at (n - 1) change ys x (rw here at at_))))
 
-nth_map : {A B : Type 0} (f : A → B) (n : ℕ) (xs : List A) → nth n (map f xs) ≡ (let y : Option B = elim (nth n xs) [ None ↦ None | Some x ↦ Some (f x) ] in y)
+pub nth_map : {A B : Type 0} (f : A → B) (n : ℕ) (xs : List A) → nth n (map f xs) ≡ (let y : Option B = elim (nth n xs) [ None ↦ None | Some x ↦ Some (f x) ] in y)
 nth_map f n [] = refl
 nth_map f n (x ∷ xs) = by_test (n == 1) (λ here. rw here refl) (λ here. rw here (nth_map f (n - 1) xs))
 
 module _ {K : Type 0} where
   -- ---- the calls of lines, as a transcript shows them
 
-  call_at_shown : (s : Fabric K) (n : ℕ) (c : PlainCall K) → call_at (as_shown s) n c ≡ call_shown (call_at s n c)
+  pub call_at_shown : (s : Fabric K) (n : ℕ) (c : PlainCall K) → call_at (as_shown s) n c ≡ call_shown (call_at s n c)
   call_at_shown s n c = ap found (nth_map node_shown n s.gateways) ∙ by_node (nth n s.gateways)
     where
       found : Option (Node K) → Option (CallAt K)
@@ -58,15 +58,15 @@ module _ {K : Type 0} where
       by_node None = refl
       by_node (Some node) = refl
 
-  call_at_place_shown : (s : Fabric K) (c : PlainCall K) (o : Option Place) → call_at_place (as_shown s) c o ≡ call_shown (call_at_place s c o)
+  pub call_at_place_shown : (s : Fabric K) (c : PlainCall K) (o : Option Place) → call_at_place (as_shown s) c o ≡ call_shown (call_at_place s c o)
   call_at_place_shown s c None = refl
   call_at_place_shown s c (Some p) = call_at_shown s p.gateway (with_call_face p.face c)
 
-  call_of_face_shown : (s : Fabric K) (c : PlainCall K) (o : Option ℕ) → call_of_face (as_shown s) c o ≡ call_shown (call_of_face s c o)
+  pub call_of_face_shown : (s : Fabric K) (c : PlainCall K) (o : Option ℕ) → call_of_face (as_shown s) c o ≡ call_shown (call_of_face s c o)
   call_of_face_shown s c None = refl
   call_of_face_shown s c (Some face) = call_at_place_shown s c (nth face s.faces)
 
-  call_of_step_shown : (s : Fabric K) (back : Bool) (o : Option Link) → call_of_step (as_shown s) back o ≡ call_shown (call_of_step s back o)
+  pub call_of_step_shown : (s : Fabric K) (back : Bool) (o : Option Link) → call_of_step (as_shown s) back o ≡ call_shown (call_of_step s back o)
   call_of_step_shown s back None = refl
   call_of_step_shown s back (Some link) = by_oldest (oldest s link back)
     where

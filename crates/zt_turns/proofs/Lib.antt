@@ -1,3 +1,8 @@
 pub mod Exact
 pub mod Reaching
 pub mod Future
+pub mod Calls
+pub mod Faces
+pub mod Saying
+pub mod Printed
+pub mod Opened
