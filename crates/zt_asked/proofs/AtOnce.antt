@@ -28,14 +28,14 @@ use Rattle.zt_kept.proofs.Opening.{flat_map-append}
 
 module _ {K : Type 0} where
   -- the message answers nobody
-  abbrev AnswersNone : ℕ → Message K → Type 0
+  abbrev pub AnswersNone : ℕ → Message K → Type 0
   AnswersNone id m = answered_by id m ≡ []
 
-  answers_none : (id : ℕ) (ms : List (Message K)) → Each (AnswersNone id) ms → answers_in id ms ≡ []
+  pub answers_none : (id : ℕ) (ms : List (Message K)) → Each (AnswersNone id) ms → answers_in id ms ≡ []
   answers_none id [] none_ = refl
   answers_none id (m ∷ ms) none_ = ap (λ (es : List K). es ++ answers_in id ms) none_.0 ∙ answers_none id ms none_.1
 
-  final_none : (id k : ℕ) (f : Face K) → Each (AnswersNone k) (final_of id f)
+  pub final_none : (id k : ℕ) (f : Face K) → Each (AnswersNone k) (final_of id f)
   final_none id k f = by_ask (at_id id f.asks)
     where
       by_pendings : (ps : List (ℕ × ℕ)) → (let ms : List (Message K) = elim ps [ [] ↦ message.DeclareFinal id ∷ [] | p ∷ qs ↦ [] ] in Each (AnswersNone k) ms)
@@ -46,7 +46,7 @@ module _ {K : Type 0} where
       by_ask None = tt
       by_ask (Some ask) = by_pendings ask.pendings
 
-  route_none : (id : ℕ) (g : Rows K) (asker : Region) (interest : InterestRow K) (f : Face K) → Each (AnswersNone id) (route_to g asker interest f)
+  pub route_none : (id : ℕ) (g : Rows K) (asker : Region) (interest : InterestRow K) (f : Face K) → Each (AnswersNone id) (route_to g asker interest f)
   unfolding route_to
   route_none id g asker interest f = of_cond (Each (AnswersNone id)) (is_target g asker interest.mode f) (message.Interest f.next interest.mode interest.options interest.expr ∷ []) [] (λ _. (refl, tt)) (λ _. tt)
 
@@ -57,7 +57,7 @@ module _ {K : Type 0} where
 
 module _ {K : Type 0} (cmp : K → K → Ordering) (matching : K → K → Bool) where
   -- answers are what is answered
-  answers_are : (next : ℕ) (told : ById K) (mode : InterestMode) (id : ℕ) (es : List K) → answers_in id (answers_from cmp matching next told mode id es) ≡ es
+  pub answers_are : (next : ℕ) (told : ById K) (mode : InterestMode) (id : ℕ) (es : List K) → answers_in id (answers_from cmp matching next told mode id es) ≡ es
   unfolding answers_from
   answers_are next told mode id [] = refl
   answers_are next told mode id (e ∷ es) = by_test (is_future mode) (λ future. rw future (by_id (told_id cmp e told) (answers_are (next + 1) told mode id es) (answers_are next told mode id es))) (λ future. rw future (one 0 (answers_from cmp matching next told mode id es) (answers_are next told mode id es)))
@@ -76,7 +76,7 @@ module _ {K : Type 0} (cmp : K → K → Ordering) (matching : K → K → Bool)
       ap (λ es. if is_current interest.mode && has_tokens interest.options then filter (is_about matching interest.expr) es else [])
       (ap (visible_expressions cmp h) region_ ∙ ap (λ (rows : List (Region × K)). in_key_order cmp (map (λ row. row.1) (filter (λ row. shows f.region row.0) rows))) live_)
 
-  none_for : (id n : ℕ) (ss : Sends K) → Each (λ s. AnswersNone id s.1) ss → answers_in id (messages_for n ss) ≡ []
+  pub none_for : (id n : ℕ) (ss : Sends K) → Each (λ s. AnswersNone id s.1) ss → answers_in id (messages_for n ss) ≡ []
   none_for id n ss none_ = answers_none id (messages_for n ss) (each_message_for cmp (AnswersNone id) n ss none_)
 
   found_heard : (n : ℕ) (ss : Sends K) (g : Rows K) (f : Face K) → find_face n g ≡ Some f → find_face n (rows_heard cmp ss g) ≡ Some (heard_all cmp g.moment (messages_for f.number ss) f)
