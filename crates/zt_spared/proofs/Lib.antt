@@ -1,0 +1,6 @@
+pub mod Gone
+pub mod Untelling
+pub mod Telling
+pub mod Answering
+pub mod Sparing
+pub mod Kept
