@@ -1,0 +1,28 @@
+//! When asks end, line for line: theorems over the machine of `zt_model`, each the contract of a function that does
+//! nothing.
+#![tactic(auto)]
+
+ghost use Rattle.std.specs.Prelude.{Bool, List};
+ghost use Rattle.zt_protocol.specs.Plain.{PlainLine};
+ghost use Rattle.zt_model.specs.Fabric.{Fabric, entries_from};
+ghost use Rattle.zt_model.specs.Promises.{EachFace, FinishesInitial, NothingFollowsFinals, printed_to, turns_from};
+ghost use Rattle.zt_model.specs.Transcript.{Each};
+ghost use Rattle.zt_laws.specs.Order.{FabricIsInOrder};
+ghost use Rattle.zt_laws.specs.Shown.{as_shown};
+ghost use Rattle.zt_laws.specs.Sound.{HasFirstIds};
+
+use zt_keys::Key;
+
+/// In each turn of the machine's transcript, whichever lines are built, finals come last: after a final that is printed for
+/// an open face, nothing that is printed for it answers the final's interest.
+pub fn turns_finals_come_last<K: Key>()
+    ensures { (is_built : PlainLine K → Bool) (lines : List (PlainLine K)) (s : Fabric K) → Each HasFirstIds lines → FabricIsInOrder K.cmp K.matching s
+        → Each (λ t. EachFace (λ n g f. NothingFollowsFinals (printed_to t n f)) t.after) (turns_from K.cmp K.matching lines (entries_from K.cmp K.matching is_built lines s) (as_shown s)) }
+{}
+
+/// And it finishes initial interests: for a face that its line opens, it prints one final of the id 0 where the face has an
+/// initial interest, and else none.
+pub fn turns_finish_initial_interests<K: Key>()
+    ensures { (is_built : PlainLine K → Bool) (lines : List (PlainLine K)) (s : Fabric K) → Each HasFirstIds lines → FabricIsInOrder K.cmp K.matching s
+        → Each (FinishesInitial K.cmp K.matching) (turns_from K.cmp K.matching lines (entries_from K.cmp K.matching is_built lines s) (as_shown s)) }
+{}
