@@ -1,0 +1,12 @@
+pub mod Said
+pub mod Order
+pub mod Open
+pub mod Naming
+pub mod Causes
+pub mod Beside
+pub mod Spends
+pub mod Links
+pub mod Lacking
+pub mod Named
+pub mod NamedLines
+pub mod Whole
