@@ -402,7 +402,7 @@ module _ {K : Type 0} (cmp : K → K → Ordering) (matching : K → K → Bool)
       by_altered None is = cc
       by_altered (Some h) is = let same_ : h ≡ from = cc in ap (λ (k : Face K). with_face n (asked_as (sent_as g k.region mode) id (row_of cmp matching k mode options e)) (numbered_rows (row_of cmp matching k mode options e) g)) same_
 
-  row_kept : (g : Rows K) (n : ℕ) (from : Face K) (mode : InterestMode) (options : InterestOptions) (e : Option K) → TreeRows cmp g → find_face n g ≡ Some from → is_north from.region ≡ false → kept_options Client (row_of cmp matching from mode options e).options ≡ (row_of cmp matching from mode options e).options
+  pub row_kept : (g : Rows K) (n : ℕ) (from : Face K) (mode : InterestMode) (options : InterestOptions) (e : Option K) → TreeRows cmp g → find_face n g ≡ Some from → is_north from.region ≡ false → kept_options Client (row_of cmp matching from mode options e).options ≡ (row_of cmp matching from mode options e).options
   row_kept g n from mode options e rows at_ down =
       let client : from.mode ≡ Client = ((tree_face_of g n from rows at_).down down).mode in
       ap (λ m. kept_options Client (kept_options m options)) client ∙ kept_twice options ∙ ap (λ m. kept_options m options) (sym client)

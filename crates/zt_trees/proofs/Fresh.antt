@@ -55,7 +55,7 @@ module _ {K : Type 0} (cmp : K → K → Ordering) where
     modes = rw pendings tt;
   }
 
-each_in_order : {A : Type 0} (cmp : A → A → Ordering) (P : A → Type 0) (xs : List A) → Each P xs → Each P (in_key_order cmp xs)
+pub each_in_order : {A : Type 0} (cmp : A → A → Ordering) (P : A → Type 0) (xs : List A) → Each P xs → Each P (in_key_order cmp xs)
 each_in_order cmp P [] all = tt
 each_in_order {A} cmp P (x ∷ xs) all = put x (in_key_order cmp xs) all.0 (each_in_order cmp P xs all.1)
   where
@@ -68,7 +68,7 @@ each_in_order {A} cmp P (x ∷ xs) all = put x (in_key_order cmp xs) all.0 (each
           | Greater ↦ (all.0, put e ks h all.1)
         ]
 
-find_last : {K : Type 0} (n : ℕ) (fs : List (Face K)) (f : Face K) → Each (λ h. h.number < n) fs → f.number ≡ n → first_where (λ h. n == h.number) (fs ++ f ∷ []) ≡ Some f
+pub find_last : {K : Type 0} (n : ℕ) (fs : List (Face K)) (f : Face K) → Each (λ h. h.number < n) fs → f.number ≡ n → first_where (λ h. n == h.number) (fs ++ f ∷ []) ≡ Some f
 find_last n [] f below is = rw (eq-eqb n f.number (sym is)) refl
 find_last n (h ∷ fs) f below is = let less : h.number < n = below.0 in let miss : (n == h.number) ≡ false = ne_eqb n h.number (λ e. omega arith) in rw miss (find_last n fs f below.1 is)
 

@@ -39,7 +39,7 @@ use Rattle.zt_trees.proofs.Saying.{find_heard_at}
 use Rattle.zt_trees.proofs.Turning.{nth_other, queue, queue_added}
 
 -- a member stays where others come behind
-nth_front : {A : Type 0} (n : ℕ) (xs ys : List A) (x : A) → nth n xs ≡ Some x → nth n (xs ++ ys) ≡ Some x
+pub nth_front : {A : Type 0} (n : ℕ) (xs ys : List A) (x : A) → nth n xs ≡ Some x → nth n (xs ++ ys) ≡ Some x
 nth_front n [] ys x at_ = cc
 nth_front n (y ∷ xs) ys x at_ = by_test (n == 1) (λ here. rw here (rw here at at_)) (λ here. rw here (nth_front (n - 1) xs ys x (rw here at at_)))
 
@@ -82,7 +82,7 @@ module _ {K : Type 0} (cmp : K → K → Ordering) (matching : K → K → Bool)
 
   -- ---- a gateway is made
 
-  gateway_made : (node : Node K) → EachJoint (JointAgrees cmp) (with_gateway node s)
+  pub gateway_made : (node : Node K) → EachJoint (JointAgrees cmp) (with_gateway node s)
   gateway_made node =
       same_joints (with_gateway node s) (λ a b joined. joined)
       (λ a b z joined found.
@@ -93,14 +93,14 @@ module _ {K : Type 0} (cmp : K → K → Ordering) (matching : K → K → Bool)
   -- ---- a face is opened
 
   module _ (n : ℕ) (node : Node K) (at_n : nth n s.gateways ≡ Some node) (c : PlainCall K) (opens : opens_face c ≡ true) (ms : List (Sent K)) (prints : PrintsSends (with_place n s).faces n (said cmp matching c node.rows) ms) where
-    abbrev then_ : Fabric K
+    abbrev pub then_ : Fabric K
     then_ = record (with_rows n (rows_after_call cmp matching c) (with_place n s)) { waiting = map (λ row. (row.0, row.1 ++ printed_for row.0 ms)) s.waiting }
 
-    abbrev changes : Node K → Node K
+    abbrev pub changes : Node K → Node K
     changes x = record x { rows = rows_after_call cmp matching c x.rows }
 
     -- the faces that were there still are, and are sent nothing
-    still_found : (p : ℕ) (f : Face K) → find_face p node.rows ≡ Some f → (find_face p (altered cmp matching c node.rows) ≡ Some f) × (messages_for p (said cmp matching c node.rows) ≡ [])
+    pub still_found : (p : ℕ) (f : Face K) → find_face p node.rows ≡ Some f → (find_face p (altered cmp matching c node.rows) ≡ Some f) × (messages_for p (said cmp matching c node.rows) ≡ [])
     unfolding parts_of said_by altered_by messages_for
     still_found p f found = by_call c opens
       where
@@ -143,8 +143,9 @@ module _ {K : Type 0} (cmp : K → K → Ordering) (matching : K → K → Bool)
         let node_same : at_.node ≡ node = the_same (sym at_.node_is ∙ ap (λ g. nth g s.gateways) here ∙ at_n) in
         ap (λ (x : Node K). find_face z.face.number x.rows) (sym node_same) ∙ ap (find_face z.face.number) at_.rows_are ∙ at_.face_is
 
-    view : (a b : ℕ) (z : FaceAt K) → are_joined s a b ≡ true → face_numbered s a ≡ Some z → (u : FaceAt K) × ((face_numbered then_ a ≡ Some u) × (u.face ≡ z.face))
-    view a b z joined found =
+    -- a face that was there, at its gateway
+    pub seen : (a : ℕ) (z : FaceAt K) → face_numbered s a ≡ Some z → (u : FaceAt K) × ((face_numbered then_ a ≡ Some u) × (u.face ≡ z.face) × (u.gateway ≡ z.gateway))
+    seen a z found =
         let at_ = is_there s a z found in
         let place_is : nth a then_.faces ≡ Some at_.place = nth_front a s.faces _ at_.place at_.place_is in
         by_test (z.gateway == n)
@@ -156,7 +157,7 @@ module _ {K : Type 0} (cmp : K → K → Ordering) (matching : K → K → Bool)
         let still = still_found p z.face (found_here a z found at_z) in
         let now_ : find_face p (rows_heard cmp ss g) ≡ Some z.face = find_heard_at cmp ss g p z.face still.0 ∙ ap (λ xs. Some (heard_all cmp g.moment xs z.face)) still.1 ∙ ap Some (heard_nothing g.moment z.face) in (
           record { gateway = at_.place.gateway; rows = (changes node).rows; face = z.face },
-          (numbered then_ a at_.place (changes node) z.face place_is (ap (λ i. nth i then_.gateways) (at_.gateway_is ∙ at_z) ∙ nth-at_nth n changes s.gateways node at_n) (ap (λ k. find_face k (changes node).rows) at_.number_is ∙ now_), refl),
+          (numbered then_ a at_.place (changes node) z.face place_is (ap (λ i. nth i then_.gateways) (at_.gateway_is ∙ at_z) ∙ nth-at_nth n changes s.gateways node at_n) (ap (λ k. find_face k (changes node).rows) at_.number_is ∙ now_), refl, at_.gateway_is),
         ))
         (λ apart. (
           record { gateway = at_.place.gateway; rows = at_.node.rows; face = z.face },
@@ -164,10 +165,14 @@ module _ {K : Type 0} (cmp : K → K → Ordering) (matching : K → K → Bool)
             numbered then_ a at_.place at_.node z.face place_is (ap (λ g. nth g then_.gateways) at_.gateway_is ∙ nth_other z.gateway n changes s.gateways at_.node (nth_real n s.gateways node at_n) (λ is. never (eq-eqb z.gateway n is) apart) at_.node_is)
                 (ap (λ k. find_face k at_.node.rows) at_.number_is ∙ ap (find_face z.face.number) at_.rows_are ∙ at_.face_is),
             refl,
+            at_.gateway_is,
           ),
         ))
 
-    nothing_printed : (a : ℕ) (z : FaceAt K) → face_numbered s a ≡ Some z → printed_for a ms ≡ []
+    view : (a b : ℕ) (z : FaceAt K) → are_joined s a b ≡ true → face_numbered s a ≡ Some z → (u : FaceAt K) × ((face_numbered then_ a ≡ Some u) × (u.face ≡ z.face))
+    view a b z joined found = let u = seen a z found in (u.0, (u.1.0, u.1.1))
+
+    pub nothing_printed : (a : ℕ) (z : FaceAt K) → face_numbered s a ≡ Some z → printed_for a ms ≡ []
     nothing_printed a z found =
         let at_ = is_there s a z found in
         let gateway = gateway_in_order cmp matching s z.gateway at_.node at_.node_is fine in
@@ -182,13 +187,13 @@ module _ {K : Type 0} (cmp : K → K → Ordering) (matching : K → K → Bool)
         ap (λ k. printed_for k ms) (number_ ∙ ap (λ g. number_from 1 g p (s.faces ++ new_ ∷ [])) at_z) ∙ prints.own p (ap (λ g. is_placed g p (s.faces ++ new_ ∷ [])) (sym at_z) ∙ placed_now) ∙ (still_found p z.face (found_here a z found at_z)).1)
         (λ apart. ap (λ k. printed_for k ms) number_ ∙ prints.other z.gateway p (λ is. never (eq-eqb z.gateway n is) apart) placed_now)
 
-    face_opened : EachJoint (JointAgrees cmp) then_
+    pub face_opened : EachJoint (JointAgrees cmp) then_
     face_opened =
         same_joints then_ (λ a b joined. joined) view
         (λ a b z joined found. queue_added s.waiting ms a (agree.links.wait a b joined) ∙ ap (λ xs. queue s.waiting a ++ xs) (nothing_printed a z found) ∙ append-nil (queue s.waiting a))
 
     -- the fabric after the line
-    opened_is : with_waiting ms (after_hearing cmp ms (with_rows n (altered cmp matching c) (with_place n s))) ≡ then_
+    pub opened_is : with_waiting ms (after_hearing cmp ms (with_rows n (altered cmp matching c) (with_place n s))) ≡ then_
     opened_is =
         let gateway = gateway_in_order cmp matching s n node at_n fine in
         let p : Place = record { gateway = n; face = next_face (nth n s.gateways) } in

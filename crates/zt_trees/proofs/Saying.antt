@@ -201,6 +201,11 @@ module _ {K : Type 0} (cmp : K → K → Ordering) where
   tree_face_heard own now (DeclareSubscriber id e interest) f face = face
   tree_face_heard own now (DeclareQueryable id e info interest) f face = face
 
+  pub tree_face_heard_all : (own : WhatAmI) (now : ℕ) (ms : List (Message K)) (f : Face K) → IsTreeFace own f → IsTreeFace own (heard_all cmp now ms f)
+  unfolding heard_all
+  tree_face_heard_all own now [] f face = face
+  tree_face_heard_all own now (m ∷ ms) f face = tree_face_heard_all own now ms (heard cmp now m f) (tree_face_heard own now m f face)
+
   both_heard : (own : WhatAmI) (now : ℕ) (ms : List (Message K)) (f : Face K) → IsTreeFace own f → IsReal f → IsTreeFace own (heard_all cmp now ms f) × IsReal (heard_all cmp now ms f)
   unfolding heard_all
   both_heard own now [] f face real = (face, real)

@@ -1,5 +1,5 @@
--- Calls and steps that close no face leave links and ranks as they are.
-use Rattle.std.proofs.Common.{◌≡◌, ◌≢◌, ℕ, ◌-◌, ◌≤◌, ◌<◌, Bool, true, false, if◌then◌else◌, ◌||◌, ◌==◌, not, List, [], ◌∷◌, ◌++◌, map, Option, Some, None, option_map, refl, sym, ap, ◌∙◌, subst, eq-eqb, eqb-true}
+-- Calls and steps leave links and ranks as they are.
+use Rattle.std.proofs.Common.{◌≡◌, ◌≢◌, ℕ, ◌-◌, ◌≤◌, ◌<◌, Bool, true, false, if◌then◌else◌, ◌||◌, ◌==◌, not, List, [], ◌∷◌, ◌++◌, length, map, Option, Some, None, option_map, refl, sym, ap, ◌∙◌, subst, eq-eqb, eqb-true}
 use Rattle.std.specs.Cmp.{IsTotalOrder}
 use Rattle.std.specs.declared.cmp.Ordering.{Ordering}
 use Rattle.zt_region.specs.Region.{is_north}
@@ -14,7 +14,7 @@ use Rattle.zt_model.specs.Refusals.{call_causes, first_cause, is_unknown_token}
 use Rattle.zt_model.specs.Rows.{ById, Face, Rows}
 use Rattle.zt_model.specs.Says.{altered, said}
 use Rattle.zt_model.specs.Telling.{registered, registers, undeclared, unregistered}
-use Rattle.zt_model.specs.Transcript.{FaceAt, face_numbered}
+use Rattle.zt_model.specs.Transcript.{Each, FaceAt, face_numbered}
 use Rattle.zt_laws.specs.Order.{FabricIsInOrder}
 use Rattle.zt_laws.specs.Sound.{CallHasFirstIds, opens_face, rows_after_call}
 use Rattle.zt_laws.proofs.Calls.{no_cause, not_on_face}
@@ -22,15 +22,16 @@ use Rattle.zt_laws.proofs.CallsOrder.{altered_faces}
 use Rattle.zt_laws.proofs.Entries.{nth-at_nth}
 use Rattle.zt_laws.proofs.Gateways.{PrintsSends}
 use Rattle.zt_laws.proofs.Hearing.{find_each, find_passes, heard_all-number, heard_all-region}
-use Rattle.zt_laws.proofs.Lists.{by_test, each_weaker, never, of_cond}
+use Rattle.zt_laws.proofs.Lists.{by_test, each_map, each_weaker, never, of_cond}
 use Rattle.zt_laws.proofs.LinesOrder.{gateway_in_order}
 use Rattle.zt_laws.proofs.Numbered.{length-at_nth, nth_real}
 use Rattle.zt_laws.proofs.ToldFrom.{found_by_number}
 use Rattle.zt_trees.specs.Facts.{TreesAgree}
-use Rattle.zt_trees.specs.Joints.{IsForest, LinksStand}
+use Rattle.zt_trees.specs.Joints.{IsForest, LinksStand, are_joined}
 use Rattle.zt_trees.proofs.Effects.{Acts, Hears, own_declare, own_final, own_finish, own_interest, own_undeclare, any_entities}
 use Rattle.zt_trees.proofs.Lines.{hears_call, interest_from, tree_rows}
 use Rattle.zt_trees.proofs.Members.{is_there, numbered}
+use Rattle.zt_trees.proofs.Quiet.{joined_back}
 use Rattle.zt_trees.proofs.Saying.{TreeRows, find_heard_at, find_map}
 use Rattle.zt_trees.proofs.Steps.{found_at, not_true}
 use Rattle.zt_trees.proofs.Turning.{nth_other, turned}
@@ -38,6 +39,10 @@ use Rattle.zt_trees.proofs.Turning.{nth_other, turned}
 abbrev pub closes_face : {K : Type 0} → PlainCall K → Bool
 closes_face (CloseFace n) = true
 closes_face _ = false
+
+-- the call closes another face, or none
+abbrev pub LeavesOpen : {K : Type 0} → PlainCall K → ℕ → Type 0
+LeavesOpen c p = closes_face c ≡ true → (n : ℕ) → call_face c ≡ Some n → n ≢ p
 
 the_same : {A : Type 0} {u v : A} → Some u ≡ Some v → u ≡ v
 the_same h = cc
@@ -51,7 +56,7 @@ nth_none {A} i n change (x ∷ xs) none_ =
     let rest : nth (i - 1) xs ≡ None = rw own at none_ in
     of_cond (λ (ys : List A). nth i ys ≡ None) (n == 1) (change x ∷ xs) (x ∷ at_nth (n - 1) change xs) (λ _. rw own rest) (λ _. rw own (nth_none (i - 1) (n - 1) change xs rest)))
 
-nth_before : {A : Type 0} (i n : ℕ) (change : A → A) (xs : List A) (y : A) → 1 ≤ n → i ≢ n → nth i (at_nth n change xs) ≡ Some y → nth i xs ≡ Some y
+pub nth_before : {A : Type 0} (i n : ℕ) (change : A → A) (xs : List A) (y : A) → 1 ≤ n → i ≢ n → nth i (at_nth n change xs) ≡ Some y → nth i xs ≡ Some y
 nth_before {A} i n change xs y real apart at_ = by_before (nth i xs) refl
   where
     by_before : (o : Option A) → nth i xs ≡ o → nth i xs ≡ Some y
@@ -78,11 +83,11 @@ module _ {K : Type 0} (cmp : K → K → Ordering) (matching : K → K → Bool)
       (λ here. let is = eqb-true n p here in own is (ap (λ k. find_face k g) is ∙ found))
       (λ apart. heard_there c g p f (hears_call cmp matching spent c g p f rows accepted still (λ k k_is is. let both : Some k ≡ Some n = sym k_is ∙ names in never (eq-eqb n p (sym (the_same both) ∙ is)) apart) found))
 
-  stays : (spent : Bool) (c : PlainCall K) (g : Rows K) (p : ℕ) (f : Face K) → TreeRows cmp g → first_cause (call_causes cmp matching spent c g) ≡ None → opens_face c ≡ false → closes_face c ≡ false → find_face p g ≡ Some f → Stays c g p f
+  stays : (spent : Bool) (c : PlainCall K) (g : Rows K) (p : ℕ) (f : Face K) → TreeRows cmp g → first_cause (call_causes cmp matching spent c g) ≡ None → opens_face c ≡ false → LeavesOpen c p → find_face p g ≡ Some f → Stays c g p f
   unfolding call_causes
   stays spent (NewSession first) g p f rows accepted still open_ found = never refl still
   stays spent (NewTransport zid whatami region bound first) g p f rows accepted still open_ found = never refl still
-  stays spent (CloseFace n) g p f rows accepted still open_ found = never refl open_
+  stays spent (CloseFace n) g p f rows accepted still open_ found = heard_there (CloseFace n) g p f (hears_call cmp matching spent (CloseFace n) g p f rows accepted refl (open_ refl) found)
   stays spent (DeclareToken n id e node interest) g p f rows accepted still open_ found =
       by_name spent (DeclareToken n id e node interest) g n p f rows accepted refl refl found
       (λ is own. acted (DeclareToken n id e node interest) g n p f (if registers f interest then registered id e f else f) is (own_declare cmp matching n id node e interest g f rows own)
@@ -120,7 +125,7 @@ module _ {K : Type 0} (cmp : K → K → Ordering) (matching : K → K → Bool)
   stays spent (SetTrees region t) g p f rows accepted still open_ found = heard_there (SetTrees region t) g p f (hears_call cmp matching spent (SetTrees region t) g p f rows accepted refl (λ k k_is is. let bad : None ≡ Some k = k_is in cc) found)
   stays spent (SetEntities n subscribers queryables) g p f rows accepted still open_ found = heard_there (SetEntities n subscribers queryables) g p f (any_entities cmp matching n subscribers queryables g p f rows found)
 
-  module _ (s : Fabric K) (fine : FabricIsInOrder cmp matching s) (agree : TreesAgree cmp matching s) (j : ℕ) (node : Node K) (at_j : nth j s.gateways ≡ Some node) (c : PlainCall K) (real : CallHasFirstIds c) (still : opens_face c ≡ false) (open_ : closes_face c ≡ false) (spent : Bool) (accepted : first_cause (call_causes cmp matching spent c node.rows) ≡ None)
+  module _ (s : Fabric K) (fine : FabricIsInOrder cmp matching s) (agree : TreesAgree cmp matching s) (j : ℕ) (node : Node K) (at_j : nth j s.gateways ≡ Some node) (c : PlainCall K) (real : CallHasFirstIds c) (still : opens_face c ≡ false) (open_ : (k b : ℕ) (z : FaceAt K) → face_numbered s k ≡ Some z → are_joined s k b ≡ true → z.gateway ≡ j → LeavesOpen c z.face.number) (spent : Bool) (accepted : first_cause (call_causes cmp matching spent c node.rows) ≡ None)
       (ms : List (Sent K)) (w : ById (List (Message K))) (prints : PrintsSends s.faces j (said cmp matching c node.rows) ms) where
     abbrev then_ : Fabric K
     then_ = turned cmp matching total s fine j node at_j c real ms w prints
@@ -128,15 +133,15 @@ module _ {K : Type 0} (cmp : K → K → Ordering) (matching : K → K → Bool)
     abbrev changes : Node K → Node K
     changes x = record x { rows = rows_after_call cmp matching c x.rows }
 
-    -- an open face is one after the call, at its gateway and in its region
-    record After (k : ℕ) (z : FaceAt K) : Type 0 where
-      face : FaceAt K
-      is : face_numbered then_ k ≡ Some face
-      gateway : face.gateway ≡ z.gateway
-      region : face.face.region ≡ z.face.region
+    -- an end of a joint is open after the call, at its gateway and in its region
+    pub record After (k : ℕ) (z : FaceAt K) : Type 0 where
+      pub face : FaceAt K
+      pub is : face_numbered then_ k ≡ Some face
+      pub gateway : face.gateway ≡ z.gateway
+      pub region : face.face.region ≡ z.face.region
 
-    still_there : (k : ℕ) (z : FaceAt K) → face_numbered s k ≡ Some z → After k z
-    still_there k z found =
+    pub still_there : (k b : ℕ) (z : FaceAt K) → face_numbered s k ≡ Some z → are_joined s k b ≡ true → After k z
+    still_there k b z found joined =
         let at_ = is_there s k z found in
         by_test (z.gateway == j)
         (λ here.
@@ -144,7 +149,7 @@ module _ {K : Type 0} (cmp : K → K → Ordering) (matching : K → K → Bool)
         let place_here : at_.place.gateway ≡ j = at_.gateway_is ∙ at_z in
         let node_same : at_.node ≡ node = the_same (sym at_.node_is ∙ ap (λ g. nth g s.gateways) at_z ∙ at_j) in
         let there : find_face z.face.number node.rows ≡ Some z.face = ap (λ (x : Node K). find_face z.face.number x.rows) (sym node_same) ∙ ap (find_face z.face.number) at_.rows_are ∙ at_.face_is in
-        let st = stays spent c node.rows z.face.number z.face (tree_rows cmp matching s j node fine agree at_j) accepted still open_ there in
+        let st = stays spent c node.rows z.face.number z.face (tree_rows cmp matching s j node fine agree at_j) accepted still (open_ k b z found joined at_z) there in
         let ss = said cmp matching c node.rows in
         let g = altered cmp matching c node.rows in
         let h = heard_all cmp g.moment (messages_for z.face.number ss) st.after in
@@ -194,7 +199,7 @@ module _ {K : Type 0} (cmp : K → K → Ordering) (matching : K → K → Bool)
             let bad : None ≡ Some y = sym gone ∙ there in
             cc
 
-    was_there : (k : ℕ) (x : FaceAt K) → face_numbered then_ k ≡ Some x → (z : FaceAt K) × (face_numbered s k ≡ Some z)
+    pub was_there : (k : ℕ) (x : FaceAt K) → face_numbered then_ k ≡ Some x → (z : FaceAt K) × (face_numbered s k ≡ Some z)
     was_there k x found =
         let at_ = is_there then_ k x found in
         by_test (x.gateway == j)
@@ -218,12 +223,12 @@ module _ {K : Type 0} (cmp : K → K → Ordering) (matching : K → K → Bool)
     has_added k [] = refl
     has_added k (row ∷ rows) = ap (λ b. (k == row.0) || b) (has_added k rows)
 
-    pub links_stand : ((k : ℕ) → has_id k s.waiting ≡ true → has_id k w ≡ true) → LinksStand then_
-    links_stand waits = record {
+    pub links_stand : ((k : ℕ) → has_id k s.waiting ≡ true → has_id k w ≡ true) → Each (λ row. row.0 ≤ length s.faces) w → LinksStand then_
+    links_stand waits rows = record {
       meet = λ a b joined.
           let ends = agree.links.meet a b joined in
-          let one = still_there a ends.one ends.one_is in
-          let two = still_there b ends.two ends.two_is in
+          let one = still_there a b ends.one ends.one_is joined in
+          let two = still_there b a ends.two ends.two_is (joined_back s a b joined) in
           record { one = one.face; two = two.face; one_is = one.is; two_is = two.is; one_leads_up = ap is_north two.region ∙ ends.one_leads_up ∙ ap not (ap is_north (sym one.region)) };
       once = agree.links.once;
       stay = λ a x found some.
@@ -232,6 +237,8 @@ module _ {K : Type 0} (cmp : K → K → Ordering) (matching : K → K → Bool)
           record { other = j0.other; joined = j0.joined };
       wait = λ a b joined. has_added a w ∙ waits a (agree.links.wait a b joined);
       made = agree.links.made;
+      rise = agree.links.rise;
+      rows = each_map (λ (row : ℕ × List (Message K)). row.0 ≤ length s.faces) (λ row. (row.0, row.1 ++ printed_for row.0 ms)) w rows;
     }
 
     pub ranks_stand : IsForest then_
@@ -241,8 +248,8 @@ module _ {K : Type 0} (cmp : K → K → Ordering) (matching : K → K → Bool)
       falls = λ a b x y joined x_is y_is up.
           let zx = was_there a x x_is in
           let zy = was_there b y y_is in
-          let ax = still_there a zx.0 zx.1 in
-          let ay = still_there b zy.0 zy.1 in
+          let ax = still_there a b zx.0 zx.1 joined in
+          let ay = still_there b a zy.0 zy.1 (joined_back s a b joined) in
           let x_same : x ≡ ax.face = the_same (sym x_is ∙ ax.is) in
           let y_same : y ≡ ay.face = the_same (sym y_is ∙ ay.is) in
           let up_before : is_north zx.0.face.region ≡ true = ap is_north (sym ax.region) ∙ ap (λ (v : FaceAt K). is_north v.face.region) (sym x_same) ∙ up in

@@ -90,7 +90,7 @@ module _ {K : Type 0} (cmp : K → K → Ordering) (matching : K → K → Bool)
       cases there None = other
       cases there (Some h) = subst P (sym (messages_for_other p n (rule h) there)) other
 
-  messages_unsaid : (p n : ℕ) (ss : Sends K) → (n == p) ≡ false → messages_for p (filter (λ s. not (n == s.0)) ss) ≡ messages_for p ss
+  pub messages_unsaid : (p n : ℕ) (ss : Sends K) → (n == p) ≡ false → messages_for p (filter (λ s. not (n == s.0)) ss) ≡ messages_for p ss
   unfolding messages_for
   messages_unsaid p n [] apart = refl
   messages_unsaid p n (s ∷ ss) apart =

@@ -111,6 +111,10 @@ pub record LeadsDown {K : Type 0} (f : Face K) : Type 0 where
   pub mode : f.mode ≡ Client
   pub held : Each (λ row. kept_options Client row.1.options ≡ row.1.options) f.held
 
+-- interests were sent up under ids that were drawn
+abbrev pub LocalsAreDrawn : {K : Type 0} → Face K → Type 0
+LocalsAreDrawn f = Each (λ row. row.0 < f.next) f.locals
+
 pub record IsTreeFace {K : Type 0} (mode : WhatAmI) (f : Face K) : Type 0 where
   pub up : is_north f.region ≡ true → LeadsUp mode f
   pub down : is_north f.region ≡ false → LeadsDown f
@@ -171,6 +175,7 @@ module _ {K : Type 0} (cmp : K → K → Ordering) (matching : K → K → Bool)
     pub one_north : length (filter (λ f. is_north f.region) g.faces) ≤ 1
     pub own_rows : Each (λ row. zid_eq row.source g.zid ≡ true) g.routed
     pub dictionary : length g.dictionary ≤ GREATEST_DICTIONARY
+    pub drawn : Each LocalsAreDrawn g.faces
     pub asks_above :
         Each (λ f. is_north f.region ≡ false → Each (λ row. (is_current row.1.mode && has_tokens row.1.options) ≡ true → AsksAbove g row.1) f.held) g.faces
 

@@ -1,10 +1,10 @@
 -- An open link of a fabric of trees is a joint: a face below, which leads up to another gateway, and the face above that
 -- it leads to. What is printed for a face waits to be spoken by the face at the other end, so what waits for the lower
 -- face rises and what waits for the upper one falls.
-use Rattle.std.specs.Prelude.{◌≡◌, ℕ, ◌≤◌, ◌<◌, Bool, true, false, ◌==◌, ◌&&◌, ◌||◌, not, List, length, Some}
+use Rattle.std.specs.Prelude.{◌≡◌, ℕ, ◌≤◌, ◌<◌, Bool, true, false, ◌==◌, ◌&&◌, ◌||◌, not, List, [], ◌∷◌, length, Some}
 use Rattle.std.specs.List.{list_any}
 use Rattle.zt_region.specs.Region.{is_north}
-use Rattle.zt_protocol.specs.Plain.{CloseFace, PlainLine, Link as LinkLine, Unlink, Step, Speak, Moment, SetTreesAt}
+use Rattle.zt_protocol.specs.Plain.{PlainLine, Link as LinkLine, Unlink, Step, Speak, Moment, SetTreesAt}
 use Rattle.zt_protocol.specs.declared.messages.Message.{Message}
 use Rattle.zt_model.specs.Fabric.{Fabric, Link}
 use Rattle.zt_model.specs.Linking.{is_end_of, waiting_of}
@@ -38,6 +38,11 @@ pub record IsJoined {K : Type 0} (s : Fabric K) (a : ℕ) : Type 0 where
   pub other : ℕ
   pub joined : are_joined s a other ≡ true
 
+-- the ends of links rise: each link was made with two new faces
+abbrev pub EndsRise : ℕ → List Link → Type 0
+EndsRise low [] = Unit {0}
+EndsRise low (link ∷ links) = (low < link.one) × (link.one < link.two) × EndsRise link.two links
+
 -- Links are as they were made: each open one has its two faces, and no face ends two of them. An open face that ends a
 -- link is joined by it, since closing a link closes its faces. For an end of an open link messages can wait.
 pub record LinksStand {K : Type 0} (s : Fabric K) : Type 0 where
@@ -46,6 +51,8 @@ pub record LinksStand {K : Type 0} (s : Fabric K) : Type 0 where
   pub stay : (a : ℕ) (x : FaceAt K) → face_numbered s a ≡ Some x → list_any (is_end_of a) s.links ≡ true → IsJoined s a
   pub wait : (a b : ℕ) → are_joined s a b ≡ true → has_id a s.waiting ≡ true
   pub made : Each (λ link. (link.one ≤ length s.faces) × (link.two ≤ length s.faces)) s.links
+  pub rise : EndsRise 0 s.links
+  pub rows : Each (λ row. row.0 ≤ length s.faces) s.waiting
 
 -- No gateway lies above itself: there is a rank that falls from each gateway to the one above it. Ranks are at most the
 -- number of gateways.
@@ -62,11 +69,6 @@ is_call_or_step (Speak call) = true
 is_call_or_step (Moment gateway now) = true
 is_call_or_step (SetTreesAt gateway region table) = true
 is_call_or_step _ = false
-
-abbrev pub closes_no_face : {K : Type 0} → PlainLine K → Bool
-closes_no_face (Speak (CloseFace n)) = false
-closes_no_face (Unlink link) = false
-closes_no_face _ = true
 
 -- the line opens and closes no link
 abbrev pub changes_no_link : {K : Type 0} → PlainLine K → Bool

@@ -21,7 +21,7 @@ ghost use Rattle.zt_model.specs.TreePromises.{IsTreeFabric, KnowsItsTree, are_li
 ghost use Rattle.zt_laws.specs.Order.{FabricIsInOrder, RowsAreInOrder};
 ghost use Rattle.zt_laws.specs.Sound.{rows_after_call};
 ghost use Rattle.zt_trees.specs.Facts.{IsTreeGateway, JointAgrees, TreesAgree};
-ghost use Rattle.zt_trees.specs.Joints.{EachJoint, changes_no_link, closes_no_face, is_call_or_step};
+ghost use Rattle.zt_trees.specs.Joints.{EachJoint, changes_no_link, is_call_or_step};
 
 use zt_keys::Key;
 
@@ -47,10 +47,10 @@ pub fn lines_between_links_keep_joints<K: Key>()
         → EachJoint (JointAgrees K.cmp) (fabric_after K.cmp K.matching line (entry_of K.cmp K.matching is_built line s) s) }
 {}
 
-/// A call or a step that closes no face keeps all of `TreesAgree`, where it leaves gateways of trees: links stay as they were
-/// made, and no gateway comes to lie above itself.
+/// A call or a step keeps all of `TreesAgree`, where it leaves gateways of trees: links stay as they were made, and no
+/// gateway comes to lie above itself. It may close a plain face.
 pub fn calls_and_steps_keep_trees<K: Key>()
-    ensures { (is_built : PlainLine K → Bool) (line : PlainLine K) (s : Fabric K) → is_call_or_step line ≡ true → closes_no_face line ≡ true
+    ensures { (is_built : PlainLine K → Bool) (line : PlainLine K) (s : Fabric K) → is_call_or_step line ≡ true
         → FabricIsInOrder K.cmp K.matching s → TreesAgree K.cmp K.matching s → entry_of K.cmp K.matching is_built line s ≢ Err IdsSpent
         → (let after = fabric_after K.cmp K.matching line (entry_of K.cmp K.matching is_built line s) s in
         Each (λ (node : Node K). IsTreeGateway K.cmp K.matching node.rows) after.gateways → TreesAgree K.cmp K.matching after) }

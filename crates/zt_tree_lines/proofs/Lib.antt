@@ -1,0 +1,16 @@
+pub mod Calls
+pub mod Views
+pub mod Opened
+pub mod Plain
+pub mod Queues
+pub mod Removed
+pub mod Unlinked
+pub mod Ranks
+pub mod Joined
+pub mod Regions
+pub mod Fresh
+pub mod Both
+pub mod Linked
+pub mod Linking
+pub mod Lines
+pub mod Turns
