@@ -1,0 +1,255 @@
+// A gateway with its faces.
+ghost use Rattle.std.specs.Prelude.{◌≡◌, [], IfOk};
+ghost use Rattle.zt_model.specs.Fabric.{new_rows};
+ghost use Rattle.zt_protocol.specs.Plain.{trees_of};
+
+use crate::face::FaceState;
+use std::alloc::Global;
+use std::marker::Model;
+use zt_keys::{Key, Memory};
+use zt_protocol::TreeTable;
+use zt_region::{Admission, Region, WhatAmI, Zid};
+
+/// A token of a router region, under the router that it comes from; the gateway's own rows stand under
+/// its own number.
+#[derive(Drop)]
+pub struct RoutedToken<K: Key> {
+    region: Region,
+    source: Zid,
+    expr: K,
+}
+
+impl<K: Key> Model for RoutedToken<K> {
+    ghost use Rattle.zt_model.specs.Rows.{RoutedRow};
+
+    ghost Value = { RoutedRow K };
+
+    ghost view = { λ r. record { region = r.region; source = r.source; expr = r.expr } };
+}
+
+impl<K: Key> RoutedToken<K> {
+    /// A token of a region and a source.
+    pub fn new(region: Region, source: Zid, expr: K) -> Self
+        ensures { result ≡ record { region = region; source = source; expr = expr } }
+    {
+        RoutedToken {
+            region,
+            source,
+            expr,
+        }
+    }
+
+    /// The router region.
+    pub fn region(&self) -> Region
+        ensures { result ≡ self.now.region }
+    {
+        self.region
+    }
+
+    /// The router that declares the token.
+    pub fn source(&self) -> Zid
+        ensures { result ≡ self.now.source }
+    {
+        self.source
+    }
+
+    /// The token's expression.
+    pub fn expr(&self) -> &K
+        ensures { result.now ≡ self.now.expr }
+    {
+        &self.expr
+    }
+
+    /// An equal row. The only error is want of memory.
+    pub fn copy(&self, alloc: Global) -> Result<Self, Memory>
+        ensures { IfOk result (λ copy. copy ≡ self.now) }
+    {
+        Ok(RoutedToken {
+            region: self.region,
+            source: self.source,
+            expr: self.expr.copy(alloc)?,
+        })
+    }
+}
+
+/// The trees of a router region as they were handed in.
+#[derive(Drop)]
+pub struct KeptTable {
+    table: TreeTable,
+}
+
+impl Model for KeptTable {
+    ghost use Rattle.zt_protocol.specs.Plain.{Trees, trees_of};
+
+    ghost Value = { Trees };
+
+    ghost view = { λ t. trees_of t.table };
+}
+
+impl KeptTable {
+    /// A table that is kept.
+    pub fn new(table: TreeTable) -> Self
+        ensures { result ≡ trees_of table }
+    {
+        KeptTable { table }
+    }
+
+    /// The table.
+    pub fn table(&self) -> &TreeTable
+        ensures { trees_of result.now ≡ self.now }
+    {
+        &self.table
+    }
+
+    /// An equal table. The only error is want of memory.
+    pub fn copy(&self, alloc: Global) -> Result<Self, Memory>
+        ensures { IfOk result (λ copy. copy ≡ self.now) }
+    {
+        Ok(KeptTable {
+            table: self.table.copy(alloc)?,
+        })
+    }
+}
+
+/// A gateway: its settings, its open faces in order of number, the tokens of its router regions, the
+/// tables of these, and the numbers of expressions. A change that lacked memory may be half made: such
+/// changes are for a copy that is dropped then.
+#[derive(Drop)]
+pub struct GatewayState<K: Key> {
+    pub(crate) mode: WhatAmI,
+    pub(crate) zid: Zid,
+    pub(crate) regions: Vec<Region>,
+    pub(crate) admission: Admission,
+    pub(crate) timeout: u64,
+    pub(crate) moment: u64,
+    pub(crate) made: u32,
+    pub(crate) trees: Vec<(Region, KeptTable)>,
+    pub(crate) routed: Vec<RoutedToken<K>>,
+    pub(crate) dictionary: Vec<K>,
+    pub(crate) faces: Vec<FaceState<K>>,
+}
+
+impl<K: Key> Model for GatewayState<K> {
+    ghost use Rattle.zt_model.specs.Rows.{Rows};
+
+    ghost Value = { Rows K };
+
+    ghost view = { λ g. record {
+      mode = g.mode;
+      zid = g.zid;
+      regions = g.regions.items;
+      refused = g.admission.refused.items;
+      timeout = g.timeout;
+      moment = g.moment;
+      made = g.made;
+      trees = g.trees.items;
+      routed = g.routed.items;
+      dictionary = g.dictionary.items;
+      faces = g.faces.items;
+    } };
+}
+
+impl<K: Key> GatewayState<K> {
+    /// A gateway without faces.
+    pub fn new(
+        alloc: Global,
+        mode: WhatAmI,
+        zid: Zid,
+        regions: Vec<Region>,
+        timeout: u64,
+        admission: Admission,
+    ) -> Self
+        ensures { result ≡ new_rows mode zid regions.items timeout admission.refused.items }
+    {
+        GatewayState {
+            mode,
+            zid,
+            regions,
+            admission,
+            timeout,
+            moment: 0,
+            made: 0,
+            trees: Vec::new(alloc),
+            routed: Vec::new(alloc),
+            dictionary: Vec::new(alloc),
+            faces: Vec::new(alloc),
+        }
+    }
+
+    /// The gateway's mode.
+    pub fn mode(&self) -> WhatAmI
+        ensures { result ≡ self.now.mode }
+    {
+        self.mode
+    }
+
+    /// The gateway's number.
+    pub fn zid(&self) -> Zid
+        ensures { result ≡ self.now.zid }
+    {
+        self.zid
+    }
+
+    /// The south regions that are listed.
+    pub fn regions(&self) -> &[Region]
+        ensures { result.now ≡ self.now.regions }
+    {
+        &self.regions
+    }
+
+    /// The pairs of regions that are refused.
+    pub fn admission(&self) -> &Admission
+        ensures { result.now.refused.items ≡ self.now.refused }
+    {
+        &self.admission
+    }
+
+    /// How long an interest that was sent upstream may wait for its final.
+    pub fn timeout(&self) -> u64
+        ensures { result ≡ self.now.timeout }
+    {
+        self.timeout
+    }
+
+    /// The gateway's moment.
+    pub fn moment(&self) -> u64
+        ensures { result ≡ self.now.moment }
+    {
+        self.moment
+    }
+
+    /// How many faces were made.
+    pub fn made(&self) -> u32
+        ensures { result ≡ self.now.made }
+    {
+        self.made
+    }
+
+    /// The tables that were handed in, by region.
+    pub fn trees(&self) -> &[(Region, KeptTable)]
+        ensures { result.now ≡ self.now.trees }
+    {
+        &self.trees
+    }
+
+    /// The tokens of the router regions.
+    pub fn routed(&self) -> &[RoutedToken<K>]
+        ensures { result.now ≡ self.now.routed }
+    {
+        &self.routed
+    }
+
+    /// The expressions that have a number, from 1 in this order.
+    pub fn dictionary(&self) -> &[K]
+        ensures { result.now ≡ self.now.dictionary }
+    {
+        &self.dictionary
+    }
+
+    /// The open faces, in order of number.
+    pub fn faces(&self) -> &[FaceState<K>]
+        ensures { result.now ≡ self.now.faces }
+    {
+        &self.faces
+    }
+}

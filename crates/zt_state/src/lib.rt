@@ -1,0 +1,20 @@
+//! What a gateway keeps, in memory: its settings, its faces with their rows, and the rows of its
+//! router regions, in plain lists. Contracts see them as the values of the definitions.
+#![tactic(auto)]
+
+mod asking;
+mod copying;
+mod face;
+mod faces;
+mod gateway;
+mod hearing;
+mod interest;
+mod numbers;
+mod opening;
+mod routed;
+mod rows;
+mod walk;
+
+pub use face::{AskState, FaceState, PendingInterest};
+pub use gateway::{GatewayState, KeptTable, RoutedToken};
+pub use interest::RemoteInterest;

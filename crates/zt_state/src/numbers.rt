@@ -1,0 +1,134 @@
+// The numbers of expressions, and the entities of faces, whose expressions have one.
+ghost use Rattle.std.specs.Prelude.{◌≡◌, ◌++◌, ◌∷◌, [], if◌then◌else◌, map, OnOk};
+ghost use Rattle.zt_model.specs.Entities.{entity_expressions, numbered_with, with_entities, with_numbers};
+ghost use Rattle.zt_model.specs.Lists.{is_among};
+ghost use Rattle.zt_model.specs.Parts.{with_face};
+
+use crate::copying::{copy_keys, copy_queryables};
+use crate::face::FaceState;
+use crate::gateway::GatewayState;
+use crate::hearing::is_among;
+use crate::walk::{FaceAddition, add_to_face};
+use std::alloc::Global;
+use zt_keys::{Key, Memory};
+use zt_protocol::QueryableInfo;
+
+// An expression gets a number where it has none yet. The only error is want of memory.
+fn number<K: Key>(alloc: Global, known: &mut Vec<K>, expr: &K) -> Result<(), Memory>
+    ensures { OnOk result (known.new.items
+        ≡ (if is_among K.cmp expr.now known.old.items
+        then known.old.items
+        else known.old.items ++ expr.now ∷ [])) }
+{
+    if !is_among(expr, known.as_slice()) {
+        known.push(expr.copy(alloc)?)?;
+    }
+    Ok(())
+}
+
+// Expressions get numbers, in this order. The only error is want of memory.
+#[tactic(auto, unfolding(zt_model::specs::Entities::numbered_with))]
+fn number_keys<K: Key>(alloc: Global, known: &mut Vec<K>, exprs: &[K]) -> Result<(), Memory>
+    ensures { OnOk result (known.new.items ≡ numbered_with K.cmp exprs.now known.old.items) }
+{
+    for expr in exprs {
+        number(alloc, known, expr)?;
+    }
+    Ok(())
+}
+
+// The expressions of queryables get numbers, in this order. The only error is want of memory.
+#[tactic(auto, unfolding(zt_model::specs::Entities::numbered_with))]
+fn number_queryables<K: Key>(
+    alloc: Global,
+    known: &mut Vec<K>,
+    queryables: &[(K, QueryableInfo)],
+) -> Result<(), Memory>
+    ensures { OnOk result (known.new.items
+        ≡ numbered_with K.cmp (map (λ q. q.0) queryables.now) known.old.items) }
+{
+    for queryable in queryables {
+        number(alloc, known, &queryable.0)?;
+    }
+    Ok(())
+}
+
+// The expressions of a face's entities get numbers. The only error is want of memory.
+#[tactic(auto, using(crate::proofs::Numbered::numbered_with_both))]
+fn number_entities<K: Key>(
+    alloc: Global,
+    known: &mut Vec<K>,
+    subscribers: &[K],
+    queryables: &[(K, QueryableInfo)],
+) -> Result<(), Memory>
+    ensures { OnOk result (known.new.items
+        ≡ numbered_with K.cmp (entity_expressions K.cmp subscribers.now queryables.now)
+        known.old.items) }
+{
+    number_keys(alloc, known, subscribers)?;
+    number_queryables(alloc, known, queryables)
+}
+
+impl<K: Key> FaceState<K> {
+    // The face's entities are replaced. The only error is want of memory.
+    fn set_entities(
+        &mut self,
+        alloc: Global,
+        subscribers: &[K],
+        queryables: &[(K, QueryableInfo)],
+    ) -> Result<(), Memory>
+        ensures { OnOk result (self.new
+            ≡ record self.old { subscribers = subscribers.now; queryables = queryables.now }) }
+    {
+        self.subscribers = copy_keys(alloc, subscribers)?;
+        self.queryables = copy_queryables(alloc, queryables)?;
+        Ok(())
+    }
+}
+
+// The entities that a face is to have.
+#[derive(Drop)]
+struct SetsEntities<'a, K: Key> {
+    subscribers: &'a [K],
+    queryables: &'a [(K, QueryableInfo)],
+}
+
+impl<'a, K: Key> FaceAddition<K> for SetsEntities<'a, K> {
+    ghost added = { λ c f.
+        record f { subscribers = c.subscribers.now; queryables = c.queryables.now } };
+
+    fn add(&self, alloc: Global, f: &mut FaceState<K>) -> Result<(), Memory> {
+        f.set_entities(alloc, self.subscribers, self.queryables)
+    }
+}
+
+impl<K: Key> GatewayState<K> {
+    /// Expressions get numbers, in this order, that have none yet. The only error is want of
+    /// memory.
+    pub fn give_numbers(&mut self, alloc: Global, exprs: &[K]) -> Result<(), Memory>
+        ensures { OnOk result (self.new ≡ with_numbers K.cmp exprs.now self.old) }
+    {
+        number_keys(alloc, &mut self.dictionary, exprs)
+    }
+
+    /// The face's subscribers and queryables are replaced, and their expressions get numbers. The
+    /// only error is want of memory.
+    #[tactic(auto, unfolding(zt_model::specs::Parts::with_face))]
+    pub fn set_entities(
+        &mut self,
+        alloc: Global,
+        face: u32,
+        subscribers: &[K],
+        queryables: &[(K, QueryableInfo)],
+    ) -> Result<(), Memory>
+        ensures { OnOk result (self.new
+            ≡ with_entities K.cmp face subscribers.now queryables.now self.old) }
+    {
+        number_entities(alloc, &mut self.dictionary, subscribers, queryables)?;
+        let sets = SetsEntities {
+            subscribers,
+            queryables,
+        };
+        add_to_face(alloc, &mut self.faces, face, &sets)
+    }
+}
