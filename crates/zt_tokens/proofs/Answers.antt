@@ -1,0 +1,110 @@
+-- One answer more, of an expression or of an ask.
+use Rattle.std.proofs.Common.{◌≡◌, ℕ, ◌+◌, ◌<◌, ◌≤◌, Bool, ◌&&◌, true, false, is_none, if◌then◌else◌, List, [], ◌∷◌, ◌++◌, Some, None, unwrap_or, filter, map, flat_map, length, get_or, drop, refl, ap, sym, ◌∙◌, append_assoc}
+use Rattle.std.proofs.lemmas.List.{append-nil, drop_all, map-append}
+use Rattle.std.specs.declared.cmp.Ordering.{Ordering}
+use Rattle.zt_protocol.specs.Interest.{has_tokens, is_current, is_future}
+use Rattle.zt_protocol.specs.declared.interests.InterestMode.{InterestMode}
+use Rattle.zt_protocol.specs.declared.messages.Message.{Message}
+use Rattle.zt_protocol.specs.declared.messages.Message.TheVariants as message
+use Rattle.zt_model.specs.Parts.{told_id}
+use Rattle.zt_model.specs.Rows.{ById, Face, InterestRow, Rows}
+use Rattle.zt_model.specs.Telling.{answered_expressions, answers_from}
+use Rattle.zt_model.specs.Visible.{visible_expressions}
+use Rattle.zt_model.specs.Wants.{asks_token, is_about}
+use Rattle.zt_state.proofs.Walks.{drop_item}
+use Rattle.zt_tokens.specs.Answered.{id_after}
+
+asked_now : {K : Type 0} (current tokens : Bool) (about : K → Bool) (es : List K) → (current && tokens) ≡ true → filter (λ e. tokens && about e) es ≡ (if current && tokens then filter about es else [])
+asked_now true true about es is = refl
+asked_now true false about es is = cc
+asked_now false tokens about es is = cc
+
+module _ {K : Type 0} (cmp : K → K → Ordering) (matching : K → K → Bool) where
+  -- of the visible expressions those are answered that the interest asks for
+  pub answered_is : (g : Rows K) (interest : InterestRow K) (f : Face K) → (is_current interest.mode && has_tokens interest.options) ≡ true
+      → filter (asks_token matching interest) (visible_expressions cmp g f.region) ≡ answered_expressions cmp matching g interest f
+  unfolding answered_expressions
+  answered_is g interest f asks = asked_now (is_current interest.mode) (has_tokens interest.options) (is_about matching interest.expr) (visible_expressions cmp g f.region) asks
+
+  -- the answer of one expression
+  pub answer_is : (n next : ℕ) (told : ById K) (mode : InterestMode) (id : ℕ) (e : K) → n ≡ (if is_future mode then unwrap_or (told_id cmp e told) next else 0)
+      → answers_from cmp matching next told mode id (e ∷ []) ≡ message.DeclareToken n e (Some id) 0 ∷ []
+  unfolding answers_from
+  answer_is n next told mode id e is =
+      (elim (is_future mode) as (λ b.
+      (if b then elim (told_id cmp e told) [ None ↦ message.DeclareToken next e (Some id) 0 ∷ [] | Some old ↦ message.DeclareToken old e (Some id) 0 ∷ [] ] else message.DeclareToken 0 e (Some id) 0 ∷ [])
+      ≡ message.DeclareToken (if b then unwrap_or (told_id cmp e told) next else 0) e (Some id) 0 ∷ []) [
+        | true ↦ elim (told_id cmp e told) as (λ o.
+            elim o [ None ↦ message.DeclareToken next e (Some id) 0 ∷ [] | Some old ↦ message.DeclareToken old e (Some id) 0 ∷ [] ]
+            ≡ message.DeclareToken (unwrap_or o next) e (Some id) 0 ∷ []) [
+              | None ↦ refl
+              | Some old ↦ refl
+            ]
+        | false ↦ refl
+      ])
+      ∙ ap (λ (k : ℕ). message.DeclareToken k e (Some id) 0 ∷ []) (sym is)
+
+  -- the first expression's answer, and those of the others from the next id on
+  answers_split : (next : ℕ) (told : ById K) (mode : InterestMode) (id : ℕ) (e : K) (es : List K)
+      → answers_from cmp matching next told mode id (e ∷ es) ≡ answers_from cmp matching next told mode id (e ∷ []) ++ answers_from cmp matching (id_after cmp next told mode e) told mode id es
+  unfolding answers_from
+  answers_split next told mode id e es =
+      elim (is_future mode) as (λ b.
+      (if b then elim (told_id cmp e told) [ None ↦ message.DeclareToken next e (Some id) 0 ∷ answers_from cmp matching (next + 1) told mode id es | Some old ↦ message.DeclareToken old e (Some id) 0 ∷ answers_from cmp matching next told mode id es ] else message.DeclareToken 0 e (Some id) 0 ∷ answers_from cmp matching next told mode id es)
+      ≡ (if b then elim (told_id cmp e told) [ None ↦ message.DeclareToken next e (Some id) 0 ∷ [] | Some old ↦ message.DeclareToken old e (Some id) 0 ∷ [] ] else message.DeclareToken 0 e (Some id) 0 ∷ [])
+      ++ answers_from cmp matching (if b && is_none (told_id cmp e told) then next + 1 else next) told mode id es) [
+        | true ↦ elim (told_id cmp e told) as (λ o.
+            elim o [ None ↦ message.DeclareToken next e (Some id) 0 ∷ answers_from cmp matching (next + 1) told mode id es | Some old ↦ message.DeclareToken old e (Some id) 0 ∷ answers_from cmp matching next told mode id es ]
+            ≡ elim o [ None ↦ message.DeclareToken next e (Some id) 0 ∷ [] | Some old ↦ message.DeclareToken old e (Some id) 0 ∷ [] ]
+            ++ answers_from cmp matching (if is_none o then next + 1 else next) told mode id es) [
+              | None ↦ refl
+              | Some old ↦ refl
+            ]
+        | false ↦ refl
+      ]
+
+  -- what is answered so far and for the expressions left is all, one expression later too
+  pub answers_more : (face next : ℕ) (told : ById K) (mode : InterestMode) (id : ℕ) (es : List K) (i : ℕ) (e : K) (before after all : List (ℕ × Message K))
+      → i < length es → e ≡ get_or es i e
+      → before ++ map (λ m. (face, m)) (answers_from cmp matching next told mode id (drop i es)) ≡ all
+      → after ≡ before ++ map (λ m. (face, m)) (answers_from cmp matching next told mode id (e ∷ []))
+      → after ++ map (λ m. (face, m)) (answers_from cmp matching (id_after cmp next told mode e) told mode id (drop (i + 1) es)) ≡ all
+  answers_more face next told mode id es i e before after all within is left more =
+      let print : Message K → ℕ × Message K = λ m. (face, m) in
+      let one = answers_from cmp matching next told mode id (e ∷ []) in
+      let rest = answers_from cmp matching (id_after cmp next told mode e) told mode id (drop (i + 1) es) in
+      ap (λ sends. sends ++ map print rest) more
+      ∙ append_assoc before (map print one) (map print rest)
+      ∙ ap (λ sends. before ++ sends) (sym (map-append print one rest))
+      ∙ ap (λ ms. before ++ map print ms) (sym (answers_split next told mode id e (drop (i + 1) es)))
+      ∙ ap (λ ks. before ++ map print (answers_from cmp matching next told mode id ks)) (sym (drop_item es i e within is))
+      ∙ left
+
+  -- behind the last expression all is answered
+  pub answers_done : (face next : ℕ) (told : ById K) (mode : InterestMode) (id : ℕ) (es : List K) (i : ℕ) (before all : List (ℕ × Message K))
+      → length es ≤ i → before ++ map (λ m. (face, m)) (answers_from cmp matching next told mode id (drop i es)) ≡ all → before ≡ all
+  unfolding answers_from
+  answers_done face next told mode id es i before all past left =
+      sym (append-nil before)
+      ∙ ap (λ ks. before ++ map (λ (m : Message K). (face, m)) (answers_from cmp matching next told mode id ks)) (sym (drop_all i es past))
+      ∙ left
+
+-- what is sent so far and for the rows left is all, one row later too
+pub rows_more : {X M S : Type 0} (print : M → S) (rule : X → List M) (xs : List X) (i : ℕ) (x : X) (before after all : List S)
+    → i < length xs → x ≡ get_or xs i x
+    → before ++ map print (flat_map rule (drop i xs)) ≡ all
+    → after ≡ before ++ map print (rule x)
+    → after ++ map print (flat_map rule (drop (i + 1) xs)) ≡ all
+rows_more print rule xs i x before after all within is left more =
+    let rest = flat_map rule (drop (i + 1) xs) in
+    ap (λ sends. sends ++ map print rest) more
+    ∙ append_assoc before (map print (rule x)) (map print rest)
+    ∙ ap (λ sends. before ++ sends) (sym (map-append print (rule x) rest))
+    ∙ ap (λ ys. before ++ map print (flat_map rule ys)) (sym (drop_item xs i x within is))
+    ∙ left
+
+-- behind the last row all is sent
+pub rows_done : {X M S : Type 0} (print : M → S) (rule : X → List M) (xs : List X) (i : ℕ) (before all : List S)
+    → length xs ≤ i → before ++ map print (flat_map rule (drop i xs)) ≡ all → before ≡ all
+rows_done print rule xs i before all past left =
+    sym (append-nil before) ∙ ap (λ ys. before ++ map print (flat_map rule ys)) (sym (drop_all i xs past)) ∙ left

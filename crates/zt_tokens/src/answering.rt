@@ -1,0 +1,234 @@
+// What interests and asks are answered.
+ghost use Rattle.std.specs.Prelude.{◌≡◌, ◌&&◌, ◌++◌, ◌∷◌, [], if◌then◌else◌, IfOk, OnOk};
+ghost use Rattle.std.specs.Prelude.{filter, map, unwrap_or};
+ghost use Rattle.zt_model.specs.Lists.{is_among};
+ghost use Rattle.zt_model.specs.Parts.{to_face, told_id};
+ghost use Rattle.zt_model.specs.Telling.{answer, answer_to, answers_from, answers_of};
+ghost use Rattle.zt_model.specs.Telling.{answered_expressions, is_answered_by, was_sent_as};
+ghost use Rattle.zt_model.specs.Wants.{asks_token};
+ghost use Rattle.zt_protocol.specs.Interest.{has_tokens, is_current, is_future};
+ghost use Rattle.zt_tokens.specs.Answered.{answer_of, id_after};
+
+use crate::questions::{find_face, told_id};
+use crate::visibility::visible_expressions;
+use bitflags::Flags;
+use std::alloc::Global;
+use zt_keys::{Key, Memory};
+use zt_protocol::{InterestId, InterestMode, InterestOptions, Message, TokenId};
+use zt_state::{AskState, FaceState, GatewayState, RemoteInterest};
+
+// Whether the interest asks for tokens that are there now.
+fn asks_now<K: Key>(interest: &RemoteInterest<K>) -> bool
+    ensures { result ≡ (is_current interest.now.mode && has_tokens interest.now.options) }
+{
+    interest.mode().is_current() && interest.options().contains(InterestOptions::TOKENS)
+}
+
+// Keeps the expressions that the interest asks for.
+fn keep_asked<K: Key>(interest: &RemoteInterest<K>, exprs: &mut Vec<K>)
+    ensures { exprs.new.items ≡ filter (asks_token K.matching interest.now) exprs.old.items }
+{
+    exprs.retain(|expr| interest.asks_token(expr));
+}
+
+/// The expressions that a face is answered at once when it asks so: those that match and are
+/// visible to it, in key order, where it asks for tokens that are there now. The only error is want
+/// of memory.
+#[tactic(auto, unfolding(zt_model::specs::Telling::answered_expressions))]
+pub fn answered_expressions<K: Key>(
+    alloc: Global,
+    g: &GatewayState<K>,
+    interest: &RemoteInterest<K>,
+    f: &FaceState<K>,
+) -> Result<Vec<K>, Memory>
+    ensures { IfOk result (λ exprs. exprs.items
+        ≡ answered_expressions K.cmp K.matching g.now interest.now f.now) }
+{
+    if !asks_now(interest) {
+        return Ok(Vec::new(alloc));
+    }
+    let mut exprs = visible_expressions(alloc, g, f.region())?;
+    keep_asked(interest, &mut exprs);
+    Ok(exprs)
+}
+
+// The id of an answer: 0 where what comes later isn't asked for, else the one under which the face
+// keeps the expression, or a new one.
+fn answer_id<K: Key>(next: u32, told: &[(u32, K)], mode: InterestMode, expr: &K) -> TokenId
+    ensures { result ≡ (if is_future mode
+        then unwrap_or (told_id K.cmp expr.now told.now) next else 0) }
+{
+    if mode.is_future() {
+        told_id(told, expr).unwrap_or(next)
+    } else {
+        0
+    }
+}
+
+// The id that is drawn after the answer of an expression. Ids that run out count as want of memory.
+fn id_after<K: Key>(
+    next: u32,
+    told: &[(u32, K)],
+    mode: InterestMode,
+    expr: &K,
+) -> Result<u32, Memory>
+    ensures { IfOk result (λ after. after ≡ id_after K.cmp next told.now mode expr.now) }
+{
+    if mode.is_future() && told_id(told, expr).is_none() {
+        return next.checked_add(1).ok_or(Memory);
+    }
+    Ok(next)
+}
+
+// Adds the answer of one expression.
+fn answer_one<K: Key>(
+    alloc: Global,
+    face: u32,
+    next: u32,
+    told: &[(u32, K)],
+    mode: InterestMode,
+    id: InterestId,
+    expr: &K,
+    sends: &mut Vec<(u32, Message<K>)>,
+) -> Result<(), Memory>
+    ensures { OnOk result (sends.new.items ≡ sends.old.items ++ map (λ m. (face, m))
+        (answers_from K.cmp K.matching next told.now mode id (expr.now ∷ []))) }
+{
+    let message = Message::DeclareToken {
+        id: answer_id(next, told, mode, expr),
+        expr: expr.copy(alloc)?,
+        interest_id: Some(id),
+        node_id: 0,
+    };
+    sends.push((face, message))?;
+    Ok(())
+}
+
+// The answers of these expressions to a face.
+fn answer_all<K: Key>(
+    alloc: Global,
+    face: u32,
+    f: &FaceState<K>,
+    mode: InterestMode,
+    id: InterestId,
+    exprs: &[K],
+) -> Result<Vec<(u32, Message<K>)>, Memory>
+    ensures { IfOk result (λ sends. sends.items ≡ map (λ m. (face, m))
+        (answers_from K.cmp K.matching f.now.next f.now.told mode id exprs.now)) }
+{
+    let mut sends = Vec::new(alloc);
+    let mut next = f.next();
+    for expr in exprs {
+        answer_one(alloc, face, next, f.told(), mode, id, expr, &mut sends)?;
+        next = id_after(next, f.told(), mode, expr)?;
+    }
+    Ok(sends)
+}
+
+/// What the face's own interest is answered at once. The only error is want of memory; ids that run
+/// out count as it.
+#[tactic(auto, unfolding(zt_model::specs::Parts::to_face))]
+pub fn answer_interest<K: Key>(
+    alloc: Global,
+    g: &GatewayState<K>,
+    face: u32,
+    id: InterestId,
+    interest: &RemoteInterest<K>,
+) -> Result<Vec<(u32, Message<K>)>, Memory>
+    ensures { IfOk result (λ sends. sends.items
+        ≡ to_face face (answers_of K.cmp K.matching g.now id interest.now) g.now) }
+{
+    let Some(f) = find_face(g, face) else {
+        return Ok(Vec::new(alloc));
+    };
+    let exprs = answered_expressions(alloc, g, interest, f)?;
+    answer_all(alloc, face, f, interest.mode(), id, &exprs)
+}
+
+// Whether the ask was sent upstream to this face, under this id.
+fn was_sent_as<K: Key>(face: u32, id: InterestId, ask: &AskState<K>) -> bool
+    ensures { result ≡ was_sent_as face id ask.now }
+{
+    ask.pendings().iter().any(|p| face == p.0 && id == p.1)
+}
+
+/// Whether the expression is among these.
+pub fn is_among<K: Key>(expr: &K, exprs: &[K]) -> bool
+    ensures { result ≡ is_among K.cmp expr.now exprs.now }
+{
+    exprs.iter().any(|other| expr == other)
+}
+
+/// Whether a token that the face declares for the interest which was sent to it as `id` answers the
+/// ask.
+pub fn is_answered_by<K: Key>(face: u32, id: InterestId, expr: &K, ask: &AskState<K>) -> bool
+    ensures { result ≡ is_answered_by K.cmp K.matching face id expr.now ask.now }
+{
+    was_sent_as(face, id, ask) && ask.interest().asks_token(expr) && !is_among(expr, ask.answered())
+}
+
+// Adds the answer of one ask, where the token answers it.
+fn answer_ask<K: Key>(
+    alloc: Global,
+    f: &FaceState<K>,
+    face: u32,
+    id: InterestId,
+    expr: &K,
+    row: &(u32, AskState<K>),
+    sends: &mut Vec<(u32, Message<K>)>,
+) -> Result<(), Memory>
+    ensures { OnOk result (sends.new.items ≡ sends.old.items ++ map (λ m. (f.now.number, m))
+        (answer_of K.cmp K.matching face id expr.now f.now row.now)) }
+{
+    if is_answered_by(face, id, expr, &row.1) {
+        let mode = row.1.interest().mode();
+        answer_one(
+            alloc,
+            f.number(),
+            f.next(),
+            f.told(),
+            mode,
+            row.0,
+            expr,
+            sends,
+        )?;
+    }
+    Ok(())
+}
+
+// Adds the answers of the asks of one face.
+fn answer_to<K: Key>(
+    alloc: Global,
+    face: u32,
+    id: InterestId,
+    expr: &K,
+    f: &FaceState<K>,
+    sends: &mut Vec<(u32, Message<K>)>,
+) -> Result<(), Memory>
+    ensures { OnOk result (sends.new.items ≡ sends.old.items
+        ++ map (λ m. (f.now.number, m)) (answer_to K.cmp K.matching face id expr.now f.now)) }
+{
+    for row in f.asks() {
+        answer_ask(alloc, f, face, id, expr, row, sends)?;
+    }
+    Ok(())
+}
+
+/// A token that the face declares for the interest which was sent to it as `id` answers the asks
+/// that were sent so. The only error is want of memory.
+pub fn answer<K: Key>(
+    alloc: Global,
+    g: &GatewayState<K>,
+    face: u32,
+    id: InterestId,
+    expr: &K,
+) -> Result<Vec<(u32, Message<K>)>, Memory>
+    ensures { IfOk result (λ sends. sends.items
+        ≡ answer K.cmp K.matching face id expr.now g.now) }
+{
+    let mut sends = Vec::new(alloc);
+    for f in g.faces() {
+        answer_to(alloc, face, id, expr, f, &mut sends)?;
+    }
+    Ok(sends)
+}

@@ -1,0 +1,91 @@
+// Faces hear that tokens are gone.
+ghost use Rattle.std.specs.Prelude.{◌≡◌, ◌++◌, IfOk, OnOk, None, false, map, true};
+ghost use Rattle.zt_model.specs.Parts.{told_id};
+ghost use Rattle.zt_model.specs.Wants.{wants};
+ghost use Rattle.zt_model.specs.Telling.{forget, forget_to, forget_untold};
+
+use crate::questions::{is_client_region, is_routed, is_visible, shows, told_id, wants};
+use std::alloc::Global;
+use zt_keys::{Key, Memory};
+use zt_protocol::Message;
+use zt_region::Region;
+use zt_state::{FaceState, GatewayState};
+
+// Adds what a face that wasn't told the expression hears, by expression.
+#[tactic(auto, unfolding(zt_model::specs::Telling::forget_untold))]
+fn forget_untold_to<K: Key>(
+    alloc: Global,
+    g: &GatewayState<K>,
+    source: Region,
+    expr: &K,
+    f: &FaceState<K>,
+    sends: &mut Vec<(u32, Message<K>)>,
+) -> Result<(), Memory>
+    ensures { OnOk result (sends.new.items ≡ sends.old.items ++ map (λ m. (f.now.number, m))
+        (forget_untold K.cmp K.matching g.now source expr.now f.now)) }
+{
+    if wants(f, expr) && !is_client_region(g.mode(), f.region()) && shows(f.region(), source) {
+        let message = Message::UndeclareToken {
+            id: 0,
+            expr: Some(expr.copy(alloc)?),
+            node_id: 0,
+        };
+        sends.push((f.number(), message))?;
+    }
+    Ok(())
+}
+
+// Whether a face was neither told the expression nor wants it, so that it hears nothing of it in any case:
+// cheaper to ask than what is visible.
+fn is_unheard<K: Key>(f: &FaceState<K>, expr: &K) -> bool
+    ensures untold { result ≡ true → told_id K.cmp expr.now f.now.told ≡ None }
+    ensures unwanted { result ≡ true → wants K.matching f.now expr.now ≡ false }
+{
+    told_id(f.told(), expr).is_none() && !wants(f, expr)
+}
+
+// Adds what a face hears of an expression that is gone.
+#[tactic(auto, unfolding(zt_model::specs::Telling::forget_to))]
+fn forget_to<K: Key>(
+    alloc: Global,
+    g: &GatewayState<K>,
+    source: Region,
+    expr: &K,
+    f: &FaceState<K>,
+    sends: &mut Vec<(u32, Message<K>)>,
+) -> Result<(), Memory>
+    ensures { OnOk result (sends.new.items ≡ sends.old.items ++ map (λ m. (f.now.number, m))
+        (forget_to K.cmp K.matching g.now source expr.now f.now)) }
+{
+    if is_routed(g, f) || is_unheard(f, expr) || is_visible(g, f.region(), expr) {
+        return Ok(());
+    }
+    let Some(id) = told_id(f.told(), expr) else {
+        return forget_untold_to(alloc, g, source, expr, f, sends);
+    };
+    let message = Message::UndeclareToken {
+        id,
+        expr: None,
+        node_id: 0,
+    };
+    sends.push((f.number(), message))?;
+    Ok(())
+}
+
+/// The faces that can't see an expression any more hear that it is gone from a region: Zenoh's
+/// `unpropagate_token`. The only error is want of memory.
+pub fn forget<K: Key>(
+    alloc: Global,
+    g: &GatewayState<K>,
+    source: Region,
+    expr: &K,
+) -> Result<Vec<(u32, Message<K>)>, Memory>
+    ensures { IfOk result (λ sends. sends.items
+        ≡ forget K.cmp K.matching source expr.now g.now) }
+{
+    let mut sends = Vec::new(alloc);
+    for f in g.faces() {
+        forget_to(alloc, g, source, expr, f, &mut sends)?;
+    }
+    Ok(sends)
+}

@@ -1,0 +1,20 @@
+//! What faces are told of tokens: who hears of a token that comes or goes, and what interests and
+//! asks are answered.
+#![tactic(auto)]
+
+mod answering;
+mod forgetting;
+mod ordering;
+mod questions;
+mod telling;
+mod visibility;
+
+pub use answering::{answer, answer_interest, answered_expressions, is_among, is_answered_by};
+pub use forgetting::forget;
+pub use ordering::insert_in_order;
+pub use questions::{
+    find_face, is_client_region, is_routed, is_router_region, is_told, is_visible, keeps, seeks,
+    shows, told_id, wants,
+};
+pub use telling::tell;
+pub use visibility::{insert_live, visible_expressions};

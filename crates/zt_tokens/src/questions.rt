@@ -1,0 +1,166 @@
+// Which tokens a face may see, which it asked for, and which it was told.
+ghost use Rattle.std.specs.Prelude.{◌≡◌, ◌&&◌, not};
+ghost use Rattle.std.specs.List.{list_any};
+ghost use Rattle.std.specs.Option.{option_copied};
+ghost use Rattle.zt_model.specs.Lists.{same};
+ghost use Rattle.zt_model.specs.Parts.{find_face, is_routed, told_id};
+ghost use Rattle.zt_model.specs.Strategy.{strategy_of, is_client_hat, is_router_hat};
+ghost use Rattle.zt_model.specs.Telling.{is_told};
+ghost use Rattle.zt_model.specs.Visible.{is_visible, keeps, shows};
+ghost use Rattle.zt_model.specs.Wants.{asks_token, seeks, wants};
+ghost use Rattle.zt_region.specs.Region.{zid_eq};
+
+use zt_keys::Key;
+use zt_region::{Region, WhatAmI, Zid};
+use zt_state::{FaceState, GatewayState, RemoteInterest, RoutedToken};
+
+/// The open face with this number.
+pub fn find_face<K: Key>(g: &GatewayState<K>, number: u32) -> Option<&FaceState<K>>
+    ensures { option_copied result ≡ find_face number g.now }
+{
+    for f in g.faces() {
+        if number == f.number() {
+            return Some(f);
+        }
+    }
+    None
+}
+
+/// Whether the face was told the expression and not told that it is gone.
+pub fn keeps<K: Key>(f: &FaceState<K>, expr: &K) -> bool
+    ensures { result ≡ keeps K.cmp f.now expr.now }
+{
+    f.told().iter().any(|row| expr == &row.1)
+}
+
+// Whether a held interest asks for tokens of the expression.
+fn asks<K: Key>(row: &(u32, RemoteInterest<K>), expr: &K) -> bool
+    ensures { result ≡ asks_token K.matching row.now.1 expr.now }
+{
+    row.1.asks_token(expr)
+}
+
+/// Whether the face holds an interest in the expression's tokens.
+#[tactic(auto, unfolding(zt_model::specs::Wants::wants))]
+pub fn wants<K: Key>(f: &FaceState<K>, expr: &K) -> bool
+    ensures { result ≡ wants K.matching f.now expr.now }
+{
+    f.held().iter().any(|row| asks(row, expr))
+}
+
+/// Whether the face may be told of the expression.
+#[tactic(auto, unfolding(zt_model::specs::Wants::seeks))]
+pub fn seeks<K: Key>(f: &FaceState<K>, expr: &K) -> bool
+    ensures { result ≡ seeks K.matching f.now expr.now }
+{
+    f.region() == Region::North || wants(f, expr)
+}
+
+/// Whether faces of the region `own` are shown tokens of the region `source`.
+pub fn shows(own: Region, source: Region) -> bool
+    ensures { result ≡ shows own source }
+{
+    match own {
+        Region::Local
+        | Region::South {
+            mode: WhatAmI::Client,
+            ..
+        } => true,
+        Region::North | Region::South { .. } => own != source,
+    }
+}
+
+/// Whether the region is one of routers.
+pub fn is_router_region(mode: WhatAmI, region: Region) -> bool
+    ensures { result ≡ is_router_hat (strategy_of mode region) }
+{
+    match region {
+        Region::North => mode == WhatAmI::Router,
+        Region::Local => false,
+        Region::South { mode, .. } => mode == WhatAmI::Router,
+    }
+}
+
+/// Whether the region runs the client strategy: north of a client gateway.
+pub fn is_client_region(mode: WhatAmI, region: Region) -> bool
+    ensures { result ≡ is_client_hat (strategy_of mode region) }
+{
+    region == Region::North && mode == WhatAmI::Client
+}
+
+/// Whether the face belongs to a router region.
+pub fn is_routed<K: Key>(g: &GatewayState<K>, f: &FaceState<K>) -> bool
+    ensures { result ≡ is_routed g.now f.now }
+{
+    is_router_region(g.mode(), f.region())
+}
+
+/// Whether the face is told of a token of the expression that was declared in the region `source`.
+pub fn is_told<K: Key>(g: &GatewayState<K>, source: Region, expr: &K, f: &FaceState<K>) -> bool
+    ensures { result ≡ is_told K.cmp K.matching g.now source expr.now f.now }
+{
+    !is_routed(g, f)
+        && g.admission().admits(source, f.region())
+        && shows(f.region(), source)
+        && !keeps(f, expr)
+        && seeks(f, expr)
+}
+
+/// The id under which a face was told an expression: the first in this list of told rows.
+#[tactic(auto, unfolding(zt_model::specs::Parts::told_id))]
+pub fn told_id<K: Key>(told: &[(u32, K)], expr: &K) -> Option<u32>
+    ensures { result ≡ told_id K.cmp expr.now told.now }
+{
+    for row in told {
+        if expr == &row.1 {
+            return Some(row.0);
+        }
+    }
+    None
+}
+
+// Whether some row is of the expression.
+fn has_expression<K: Key>(rows: &[(u32, K)], expr: &K) -> bool
+    ensures { result ≡ list_any (λ row. same K.cmp expr.now row.1) rows.now }
+{
+    rows.iter().any(|row| expr == &row.1)
+}
+
+// Whether the face declares the expression and stands in a region that `own` is shown.
+fn is_shown_by<K: Key>(f: &FaceState<K>, own: Region, expr: &K) -> bool
+    ensures { result ≡ (shows own f.now.region
+        && list_any (λ row. same K.cmp expr.now row.1) f.now.live) }
+{
+    shows(own, f.region()) && has_expression(f.live(), expr)
+}
+
+// Whether such a face is among these.
+fn is_shown_by_faces<K: Key>(faces: &[FaceState<K>], own: Region, expr: &K) -> bool
+    ensures { result ≡ list_any (λ f. shows own f.region
+        && list_any (λ row. same K.cmp expr.now row.1) f.live) faces.now }
+{
+    faces.iter().any(|f| is_shown_by(f, own, expr))
+}
+
+// Whether another router's row is of the expression and of a region that `own` is shown.
+fn is_shown_row<K: Key>(zid: Zid, row: &RoutedToken<K>, own: Region, expr: &K) -> bool
+    ensures { result ≡ (not (zid_eq row.now.source zid)
+        && (same K.cmp expr.now row.now.expr && shows own row.now.region)) }
+{
+    row.source() != zid && expr == row.expr() && shows(own, row.region())
+}
+
+// Whether such a row is among these.
+fn is_shown_by_rows<K: Key>(zid: Zid, rows: &[RoutedToken<K>], own: Region, expr: &K) -> bool
+    ensures { result ≡ list_any (λ row. not (zid_eq row.source zid)
+        && (same K.cmp expr.now row.expr && shows own row.region)) rows.now }
+{
+    rows.iter().any(|row| is_shown_row(zid, row, own, expr))
+}
+
+/// Whether some live token of the expression is shown to faces of the region `own`.
+pub fn is_visible<K: Key>(g: &GatewayState<K>, own: Region, expr: &K) -> bool
+    ensures { result ≡ is_visible K.cmp g.now own expr.now }
+{
+    is_shown_by_faces(g.faces(), own, expr) || is_shown_by_rows(g.zid(), g.routed(), own, expr)
+}
