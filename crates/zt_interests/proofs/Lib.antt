@@ -1,0 +1,4 @@
+mod ChosenRows
+mod Finals
+mod Gone
+mod Numbered

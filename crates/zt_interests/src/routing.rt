@@ -1,0 +1,151 @@
+// Where an interest goes.
+ghost use Rattle.std.specs.Prelude.{◌≡◌, ◌++◌, IfOk, OnOk, map};
+ghost use Rattle.zt_region.specs.Region.{is_north};
+ghost use Rattle.zt_interests.specs.Chosen.{chosen};
+ghost use Rattle.zt_model.specs.Routing.{awaits_initial, is_lowest_up, is_target, is_target_of};
+ghost use Rattle.zt_model.specs.Routing.{leads_up, route, route_to, sent_as};
+
+use std::alloc::Global;
+use zt_keys::{Key, Memory};
+use zt_protocol::{InterestMode, Message, copy_expression};
+use zt_region::{Bound, Region, WhatAmI};
+use zt_state::{FaceState, GatewayState, RemoteInterest};
+
+// Whether the face is north-bound.
+pub(crate) fn is_north<K: Key>(f: &FaceState<K>) -> bool
+    ensures { result ≡ is_north f.now.region }
+{
+    f.region() == Region::North
+}
+
+// A face to a gateway above, which is not itself north-bound at the other end.
+fn leads_up<K: Key>(f: &FaceState<K>) -> bool
+    ensures { result ≡ leads_up f.now }
+{
+    is_north(f) && f.bound() == Bound::South
+}
+
+// Whether the face is the lowest that leads to a gateway above.
+fn is_lowest_up<K: Key>(g: &GatewayState<K>, f: &FaceState<K>) -> bool
+    ensures { result ≡ is_lowest_up g.now f.now }
+{
+    for other in g.faces() {
+        if leads_up(other) {
+            return other.number() == f.number();
+        }
+    }
+    false
+}
+
+// Whether the face is a mutual peer whose initial interest isn't finalised.
+fn awaits_initial<K: Key>(f: &FaceState<K>) -> bool
+    ensures { result ≡ awaits_initial f.now }
+{
+    match f.initial() {
+        Some(finalised) => !finalised,
+        None => false,
+    }
+}
+
+// Whether the face, to the north, is one that the gateway asks in its mode.
+fn is_target_of<K: Key>(g: &GatewayState<K>, mode: InterestMode, f: &FaceState<K>) -> bool
+    ensures { result ≡ is_target_of g.now.mode g.now mode f.now }
+{
+    match g.mode() {
+        WhatAmI::Client => true,
+        WhatAmI::Peer if mode.is_future() => leads_up(f),
+        WhatAmI::Peer => awaits_initial(f) || is_lowest_up(g, f),
+        WhatAmI::Router => false,
+    }
+}
+
+/// Whether an interest of this mode of a face of the region `asker` goes to the face.
+#[tactic(auto, unfolding(zt_model::specs::Routing::is_target))]
+pub fn is_target<K: Key>(
+    g: &GatewayState<K>,
+    asker: Region,
+    mode: InterestMode,
+    f: &FaceState<K>,
+) -> bool
+    ensures { result ≡ is_target g.now asker mode f.now }
+{
+    asker != Region::North && is_north(f) && is_target_of(g, mode, f)
+}
+
+// Adds the interest, where it goes to the face.
+#[tactic(auto, unfolding(zt_model::specs::Routing::route_to))]
+fn route_to<K: Key>(
+    alloc: Global,
+    g: &GatewayState<K>,
+    asker: Region,
+    interest: &RemoteInterest<K>,
+    f: &FaceState<K>,
+    sends: &mut Vec<(u32, Message<K>)>,
+) -> Result<(), Memory>
+    ensures { OnOk result (sends.new.items
+        ≡ sends.old.items
+        ++ map (λ m. (f.now.number, m)) (route_to g.now asker interest.now f.now)) }
+{
+    if is_target(g, asker, interest.mode(), f) {
+        let message = Message::Interest {
+            id: f.next(),
+            mode: interest.mode(),
+            options: interest.options(),
+            expr: copy_expression(interest.expr(), alloc)?,
+        };
+        sends.push((f.number(), message))?;
+    }
+    Ok(())
+}
+
+/// An interest of a face of the region `asker` is sent on to the north: Zenoh's `route_interest`.
+/// The only error is want of memory.
+pub fn route<K: Key>(
+    alloc: Global,
+    g: &GatewayState<K>,
+    asker: Region,
+    interest: &RemoteInterest<K>,
+) -> Result<Vec<(u32, Message<K>)>, Memory>
+    ensures { IfOk result (λ sends. sends.items ≡ route asker interest.now g.now) }
+{
+    let mut sends = Vec::new(alloc);
+    for f in g.faces() {
+        route_to(alloc, g, asker, interest, f, &mut sends)?;
+    }
+    Ok(sends)
+}
+
+// Adds the face with the id that it draws next, where such an interest goes to it.
+fn add_target<K: Key>(
+    g: &GatewayState<K>,
+    asker: Region,
+    mode: InterestMode,
+    f: &FaceState<K>,
+    targets: &mut Vec<(u32, u32)>,
+) -> Result<(), Memory>
+    ensures { OnOk result (targets.new.items
+        ≡ targets.old.items
+        ++ chosen (is_target g.now asker mode) (λ x. (x.number, x.next)) f.now) }
+{
+    if is_target(g, asker, mode, f) {
+        targets.push((f.number(), f.next()))?;
+    }
+    Ok(())
+}
+
+/// The faces that an interest of such a mode goes to, with the ids that it gets there. The only
+/// error is want of memory.
+pub fn sent_as<K: Key>(
+    alloc: Global,
+    g: &GatewayState<K>,
+    asker: Region,
+    mode: InterestMode,
+) -> Result<Vec<(u32, u32)>, Memory>
+    ensures { IfOk result (λ targets. targets.items ≡ sent_as g.now asker mode) }
+{
+    let mut targets = Vec::new(alloc);
+    for f in g.faces() {
+        add_target(g, asker, mode, f, &mut targets)?;
+    }
+    Ok(targets)
+}

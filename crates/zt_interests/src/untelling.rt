@@ -1,0 +1,103 @@
+// A face is told that what it doesn't want any more is gone.
+ghost use Rattle.std.specs.Prelude.{◌≡◌, ◌++◌, IfOk, OnOk, map};
+ghost use Rattle.std.specs.List.{flat_map};
+ghost use Rattle.zt_interests.specs.Untold.{untold_of};
+ghost use Rattle.zt_model.specs.Lists.{in_key_order};
+ghost use Rattle.zt_model.specs.Parts.{to_face};
+ghost use Rattle.zt_model.specs.Routing.{untell_to};
+
+use crate::routing::is_north;
+use std::alloc::Global;
+use zt_keys::{Key, Memory};
+use zt_protocol::Message;
+use zt_state::{FaceState, GatewayState};
+use zt_tokens::{find_face, insert_live, told_id, wants};
+
+// The expressions that the face was told, in key order, each once.
+#[tactic(auto, using(zt_tokens::proofs::Gathering::in_key_order_is))]
+fn told_in_order<K: Key>(alloc: Global, f: &FaceState<K>) -> Result<Vec<K>, Memory>
+    ensures { IfOk result (λ exprs. exprs.items
+        ≡ in_key_order K.cmp (map (λ row. row.1) f.now.told)) }
+{
+    let mut exprs = Vec::new(alloc);
+    insert_live(alloc, f.told(), &mut exprs)?;
+    Ok(exprs)
+}
+
+// Adds that the expression is gone, where the face was told it and doesn't want it.
+fn untell_one<K: Key>(
+    face: u32,
+    f: &FaceState<K>,
+    expr: &K,
+    sends: &mut Vec<(u32, Message<K>)>,
+) -> Result<(), Memory>
+    ensures { OnOk result (sends.new.items ≡ sends.old.items
+        ++ map (λ m. (face, m)) (untold_of K.cmp K.matching f.now expr.now)) }
+{
+    if wants(f, expr) {
+        return Ok(());
+    }
+    match told_id(f.told(), expr) {
+        None => Ok(()),
+        Some(id) => {
+            let message = Message::UndeclareToken {
+                id,
+                expr: None,
+                node_id: 0,
+            };
+            sends.push((face, message))?;
+            Ok(())
+        }
+    }
+}
+
+// That these expressions are gone, each where the face was told it and doesn't want it.
+fn untell_all<K: Key>(
+    alloc: Global,
+    face: u32,
+    f: &FaceState<K>,
+    exprs: &[K],
+) -> Result<Vec<(u32, Message<K>)>, Memory>
+    ensures { IfOk result (λ sends. sends.items
+        ≡ map (λ m. (face, m)) (flat_map (untold_of K.cmp K.matching f.now) exprs.now)) }
+{
+    let mut sends = Vec::new(alloc);
+    for expr in exprs {
+        untell_one(face, f, expr, &mut sends)?;
+    }
+    Ok(sends)
+}
+
+// What the face is told is gone.
+#[tactic(auto, using(crate::proofs::Gone::untold_all), unfolding(zt_model::specs::Routing::untell_to))]
+fn untell_to<K: Key>(
+    alloc: Global,
+    face: u32,
+    f: &FaceState<K>,
+) -> Result<Vec<(u32, Message<K>)>, Memory>
+    ensures { IfOk result (λ sends. sends.items
+        ≡ map (λ m. (face, m)) (untell_to K.cmp K.matching f.now)) }
+{
+    if is_north(f) {
+        return Ok(Vec::new(alloc));
+    }
+    let exprs = told_in_order(alloc, f)?;
+    Ok(untell_all(alloc, face, f, exprs.as_slice())?)
+}
+
+/// A face is told that what it doesn't want any more is gone, by id, in key order. The only error
+/// is want of memory.
+#[tactic(auto, unfolding(zt_model::specs::Parts::to_face))]
+pub fn untell<K: Key>(
+    alloc: Global,
+    g: &GatewayState<K>,
+    face: u32,
+) -> Result<Vec<(u32, Message<K>)>, Memory>
+    ensures { IfOk result (λ sends. sends.items
+        ≡ to_face face (untell_to K.cmp K.matching) g.now) }
+{
+    match find_face(g, face) {
+        None => Ok(Vec::new(alloc)),
+        Some(f) => untell_to(alloc, face, f),
+    }
+}

@@ -1,0 +1,226 @@
+// An interest ends upstream, and the end of what was sent upstream ends asks.
+ghost use Rattle.std.specs.Prelude.{◌≡◌, ◌==◌, ◌&&◌, ◌++◌, IfOk, OnOk, map, not};
+ghost use Rattle.std.specs.List.{list_any};
+ghost use Rattle.zt_interests.specs.Chosen.{all_chosen, chosen};
+ghost use Rattle.zt_model.specs.Lists.{has_id};
+ghost use Rattle.zt_model.specs.Routing.{asks_same, end_upstream, end_upstream_to, finish, finish_to};
+ghost use Rattle.zt_model.specs.Routing.{is_finished_by, is_held_south, stands};
+ghost use Rattle.zt_model.specs.Telling.{was_sent_as};
+ghost use Rattle.zt_region.specs.Region.{is_north};
+ghost use Rattle.zt_protocol.specs.declared.messages.Message.TheVariants as message;
+
+use crate::routing::is_north;
+use std::alloc::Global;
+use zt_keys::{Key, Memory};
+use zt_protocol::{InterestId, Message};
+use zt_state::{AskState, FaceState, GatewayState, PendingInterest, RemoteInterest};
+use zt_tokens::find_face;
+
+// Whether the row asks for the same as the interest.
+fn is_same<K: Key>(row: &(u32, RemoteInterest<K>), interest: &RemoteInterest<K>) -> bool
+    ensures { result ≡ asks_same K.cmp K.matching interest.now row.now.1 }
+{
+    interest.asks_same(&row.1)
+}
+
+// Whether the face holds such an interest.
+fn holds<K: Key>(f: &FaceState<K>, interest: &RemoteInterest<K>) -> bool
+    ensures { result ≡ list_any (λ row. asks_same K.cmp K.matching interest.now row.1) f.now.held }
+{
+    f.held().iter().any(|row| is_same(row, interest))
+}
+
+// Whether the face, to the south, holds such an interest.
+fn holds_south<K: Key>(f: &FaceState<K>, interest: &RemoteInterest<K>) -> bool
+    ensures { result ≡ (not (is_north f.now.region)
+        && list_any (λ row. asks_same K.cmp K.matching interest.now row.1) f.now.held) }
+{
+    !is_north(f) && holds(f, interest)
+}
+
+// Whether some south-bound face holds such an interest, in any mode.
+#[tactic(auto, unfolding(zt_model::specs::Routing::is_held_south))]
+fn is_held_south<K: Key>(g: &GatewayState<K>, interest: &RemoteInterest<K>) -> bool
+    ensures { result ≡ is_held_south K.cmp K.matching g.now interest.now }
+{
+    g.faces().iter().any(|f| holds_south(f, interest))
+}
+
+// Adds that the interest under the row's id ends at the face, where it asks for the same.
+fn end_row<K: Key>(
+    interest: &RemoteInterest<K>,
+    f: &FaceState<K>,
+    row: &(u32, RemoteInterest<K>),
+    sends: &mut Vec<(u32, Message<K>)>,
+) -> Result<(), Memory>
+    ensures { OnOk result (sends.new.items ≡ sends.old.items
+        ++ chosen (λ r. asks_same K.cmp K.matching interest.now r.1)
+        (λ r. (f.now.number, message.InterestFinal r.0)) row.now) }
+{
+    if is_same(row, interest) {
+        sends.push((f.number(), Message::InterestFinal { id: row.0 }))?;
+    }
+    Ok(())
+}
+
+// Adds that the interests that ask for the same end at the face.
+fn end_rows<K: Key>(
+    interest: &RemoteInterest<K>,
+    f: &FaceState<K>,
+    sends: &mut Vec<(u32, Message<K>)>,
+) -> Result<(), Memory>
+    ensures { OnOk result (sends.new.items ≡ sends.old.items
+        ++ all_chosen (λ r. asks_same K.cmp K.matching interest.now r.1)
+        (λ r. (f.now.number, message.InterestFinal r.0)) f.now.locals) }
+{
+    for row in f.locals() {
+        end_row(interest, f, row, sends)?;
+    }
+    Ok(())
+}
+
+// Whether the face is to the north, and no south-bound face holds such an interest.
+fn ends_at<K: Key>(g: &GatewayState<K>, interest: &RemoteInterest<K>, f: &FaceState<K>) -> bool
+    ensures { result
+        ≡ (is_north f.now.region && not (is_held_south K.cmp K.matching g.now interest.now)) }
+{
+    is_north(f) && !is_held_south(g, interest)
+}
+
+// Adds what the face is told where no south-bound face holds the interest any more.
+#[tactic(auto, unfolding(zt_model::specs::Routing::end_upstream_to))]
+fn end_upstream_to<K: Key>(
+    g: &GatewayState<K>,
+    interest: &RemoteInterest<K>,
+    f: &FaceState<K>,
+    sends: &mut Vec<(u32, Message<K>)>,
+) -> Result<(), Memory>
+    ensures { OnOk result (sends.new.items ≡ sends.old.items
+        ++ map (λ m. (f.now.number, m))
+        (end_upstream_to K.cmp K.matching g.now interest.now f.now)) }
+{
+    if ends_at(g, interest, f) {
+        end_rows(interest, f, sends)?;
+    }
+    Ok(())
+}
+
+/// An interest ends upstream when no south-bound face holds it any more: Zenoh's
+/// `route_interest_final`. The only error is want of memory.
+pub fn end_upstream<K: Key>(
+    alloc: Global,
+    g: &GatewayState<K>,
+    interest: &RemoteInterest<K>,
+) -> Result<Vec<(u32, Message<K>)>, Memory>
+    ensures { IfOk result (λ sends. sends.items
+        ≡ end_upstream K.cmp K.matching interest.now g.now) }
+{
+    let mut sends = Vec::new(alloc);
+    for f in g.faces() {
+        end_upstream_to(g, interest, f, &mut sends)?;
+    }
+    Ok(sends)
+}
+
+// Whether the row stands under the id.
+fn is_under(row: &(u32, PendingInterest), id: u32) -> bool
+    ensures { result ≡ (id == row.now.0) }
+{
+    id == row.0
+}
+
+// Whether the face has such a pending.
+fn has_pending<K: Key>(f: &FaceState<K>, id: u32) -> bool
+    ensures { result ≡ has_id id f.now.pendings }
+{
+    f.pendings().iter().any(|row| is_under(row, id))
+}
+
+// Whether the pending stands: its face is open, and it is neither finalised nor expired.
+fn stands<K: Key>(g: &GatewayState<K>, pending: (u32, u32)) -> bool
+    ensures { result ≡ stands g.now pending }
+{
+    match find_face(g, pending.0) {
+        None => false,
+        Some(f) => has_pending(f, pending.1),
+    }
+}
+
+// Whether the ask was sent upstream, to this face under this id.
+fn was_sent_as<K: Key>(ask: &AskState<K>, face: u32, id: InterestId) -> bool
+    ensures { result ≡ was_sent_as face id ask.now }
+{
+    ask.pendings().iter().any(|p| face == p.0 && id == p.1)
+}
+
+// Whether a pending of the ask stands.
+fn waits<K: Key>(g: &GatewayState<K>, ask: &AskState<K>) -> bool
+    ensures { result ≡ list_any (stands g.now) ask.now.pendings }
+{
+    ask.pendings().iter().any(|p| stands(g, *p))
+}
+
+// Whether the row's ask had this pending, and has none any more.
+fn is_finished_by<K: Key>(
+    g: &GatewayState<K>,
+    face: u32,
+    id: InterestId,
+    row: &(u32, AskState<K>),
+) -> bool
+    ensures { result ≡ is_finished_by g.now face id row.now.1 }
+{
+    was_sent_as(&row.1, face, id) && !waits(g, &row.1)
+}
+
+// Adds the final of the row's ask, where that is finished.
+fn finish_row<K: Key>(
+    g: &GatewayState<K>,
+    face: u32,
+    id: InterestId,
+    f: &FaceState<K>,
+    row: &(u32, AskState<K>),
+    sends: &mut Vec<(u32, Message<K>)>,
+) -> Result<(), Memory>
+    ensures { OnOk result (sends.new.items ≡ sends.old.items
+        ++ chosen (λ r. is_finished_by g.now face id r.1)
+        (λ r. (f.now.number, message.DeclareFinal r.0)) row.now) }
+{
+    if is_finished_by(g, face, id, row) {
+        sends.push((f.number(), Message::DeclareFinal { interest_id: row.0 }))?;
+    }
+    Ok(())
+}
+
+// Adds the finals of the face's asks that are finished.
+fn finish_to<K: Key>(
+    g: &GatewayState<K>,
+    face: u32,
+    id: InterestId,
+    f: &FaceState<K>,
+    sends: &mut Vec<(u32, Message<K>)>,
+) -> Result<(), Memory>
+    ensures { OnOk result (sends.new.items ≡ sends.old.items
+        ++ map (λ m. (f.now.number, m)) (finish_to g.now face id f.now)) }
+{
+    for row in f.asks() {
+        finish_row(g, face, id, f, row, sends)?;
+    }
+    Ok(())
+}
+
+/// The asks whose last pending was that of the face under this id get their finals. The only error
+/// is want of memory.
+pub fn finish<K: Key>(
+    alloc: Global,
+    g: &GatewayState<K>,
+    face: u32,
+    id: InterestId,
+) -> Result<Vec<(u32, Message<K>)>, Memory>
+    ensures { IfOk result (λ sends. sends.items ≡ finish face id g.now) }
+{
+    let mut sends = Vec::new(alloc);
+    for f in g.faces() {
+        finish_to(g, face, id, f, &mut sends)?;
+    }
+    Ok(sends)
+}
