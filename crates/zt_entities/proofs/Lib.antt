@@ -1,0 +1,2 @@
+mod ByFace
+mod Together

@@ -1,0 +1,4 @@
+mod Greetings
+mod Loops
+mod Ordered
+mod Rows

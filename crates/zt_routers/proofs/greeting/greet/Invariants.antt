@@ -1,0 +1,11 @@
+use Rattle.std.proofs.Common.{◌≡◌, ◌++◌, drop}
+use Rattle.zt_protocol.specs.Plain.{trees_of}
+use Rattle.zt_model.specs.Parts.{to_each}
+use Rattle.zt_model.specs.Trees.{greet_to}
+use Rattle.zt_routers.proofs.greeting.greet.Given as goal
+
+-- what is sent so far, and to the faces left, is all
+abbrev pub invariant-loop-f : goal.invariant-loop-f
+invariant-loop-f g l =
+    let rule = greet_to g.K.Ord.cmp l.g l.region (trees_of l.before) in
+    l.sends.items ++ to_each rule (drop l.f-index l.f-items) ≡ to_each rule l.f-items

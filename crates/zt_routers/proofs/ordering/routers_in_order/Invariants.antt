@@ -1,0 +1,8 @@
+use Rattle.std.proofs.Common.{◌≡◌, drop}
+use Rattle.std.specs.Ordering.{nat_cmp}
+use Rattle.zt_model.specs.Lists.{in_key_order}
+use Rattle.zt_routers.proofs.ordering.routers_in_order.Given as goal
+
+-- the routers from the place on are in order
+abbrev pub invariant-loop-place : goal.invariant-loop-place
+invariant-loop-place l = l.routers.items ≡ in_key_order (λ a b. nat_cmp a.0 b.0) (drop l.place l.listed)

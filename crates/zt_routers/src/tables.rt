@@ -1,0 +1,167 @@
+// The tables of router regions.
+ghost use Rattle.std.specs.Prelude.{◌≡◌, ◌==◌, ◌&&◌, ◌++◌, ◌∷◌, [], IfOk, OnOk, if◌then◌else◌, option_map};
+ghost use Rattle.std.specs.List.{list_any};
+ghost use Rattle.std.specs.Option.{option_copied};
+ghost use Rattle.zt_model.specs.Lists.{first_where};
+ghost use Rattle.zt_model.specs.Trees.{counted_beside, counted_table, is_same_link, is_same_router, source_of, table_of};
+ghost use Rattle.zt_protocol.specs.Plain.{trees_of};
+ghost use Rattle.zt_region.specs.Region.{region_eq};
+
+use std::alloc::Global;
+use zt_keys::{Key, Memory};
+use zt_protocol::TreeTable;
+use zt_region::{NodeId, Region, Zid};
+use zt_state::{FaceState, GatewayState, KeptTable};
+
+// Whether two entries give one node id or one router.
+fn is_same_router(a: &(NodeId, Zid), b: &(NodeId, Zid)) -> bool
+    ensures { result ≡ is_same_router a.now b.now }
+{
+    a.0 == b.0 || a.1 == b.1
+}
+
+// Whether two entries give, for one face, one node id or one router.
+fn is_same_link(a: &(u32, NodeId, Zid), b: &(u32, NodeId, Zid)) -> bool
+    ensures { result ≡ is_same_link a.now b.now }
+{
+    a.0 == b.0 && (a.1 == b.1 || a.2 == b.2)
+}
+
+// Whether a router clashes with one that counts.
+fn clashes_with_router(router: &(NodeId, Zid), counted: &[(NodeId, Zid)]) -> bool
+    ensures { result ≡ list_any (is_same_router router.now) counted.now }
+{
+    counted.iter().any(|known| is_same_router(router, known))
+}
+
+// Counts a router, unless it clashes with one that counts.
+fn count_router(router: &(NodeId, Zid), counted: &mut Vec<(NodeId, Zid)>) -> Result<(), Memory>
+    ensures { OnOk result (counted.new.items
+        ≡ (if list_any (is_same_router router.now) counted.old.items then counted.old.items else counted.old.items ++ router.now ∷ [])) }
+{
+    if !clashes_with_router(router, counted) {
+        counted.push(*router)?;
+    }
+    Ok(())
+}
+
+// The entries that clash with none that counts before them.
+fn counted_routers(alloc: Global, routers: &[(NodeId, Zid)]) -> Result<Vec<(NodeId, Zid)>, Memory>
+    ensures { IfOk result (λ counted. counted.items
+        ≡ counted_beside is_same_router [] routers.now) }
+{
+    let mut counted = Vec::new(alloc);
+    for router in routers {
+        count_router(router, &mut counted)?;
+    }
+    Ok(counted)
+}
+
+// Whether a link clashes with one that counts.
+fn clashes_with_link(link: &(u32, NodeId, Zid), counted: &[(u32, NodeId, Zid)]) -> bool
+    ensures { result ≡ list_any (is_same_link link.now) counted.now }
+{
+    counted.iter().any(|known| is_same_link(link, known))
+}
+
+// Counts a link, unless it clashes with one that counts.
+fn count_link(
+    link: &(u32, NodeId, Zid),
+    counted: &mut Vec<(u32, NodeId, Zid)>,
+) -> Result<(), Memory>
+    ensures { OnOk result (counted.new.items
+        ≡ (if list_any (is_same_link link.now) counted.old.items then counted.old.items else counted.old.items ++ link.now ∷ [])) }
+{
+    if !clashes_with_link(link, counted) {
+        counted.push(*link)?;
+    }
+    Ok(())
+}
+
+// The entries that clash with none that counts before them.
+fn counted_links(
+    alloc: Global,
+    links: &[(u32, NodeId, Zid)],
+) -> Result<Vec<(u32, NodeId, Zid)>, Memory>
+    ensures { IfOk result (λ counted. counted.items
+        ≡ counted_beside is_same_link [] links.now) }
+{
+    let mut counted = Vec::new(alloc);
+    for link in links {
+        count_link(link, &mut counted)?;
+    }
+    Ok(counted)
+}
+
+/// The entries of a table that count: none of those before it clashes with one. The only error is want
+/// of memory.
+#[tactic(auto, unfolding(zt_model::specs::Trees::counted_table))]
+pub fn counted_table(alloc: Global, table: &TreeTable) -> Result<TreeTable, Memory>
+    ensures { IfOk result (λ counted. trees_of counted ≡ counted_table (trees_of table.now)) }
+{
+    Ok(TreeTable {
+        routers: counted_routers(alloc, &table.routers)?,
+        links: counted_links(alloc, &table.links)?,
+        children: table.children.to_vec(alloc)?,
+    })
+}
+
+// The table that a region was handed, with the region.
+fn kept_table(trees: &[(Region, KeptTable)], region: Region) -> Option<&(Region, KeptTable)>
+    ensures { option_copied result ≡ first_where (λ t. region_eq region t.0) trees.now }
+{
+    for row in trees {
+        if region == row.0 {
+            return Some(row);
+        }
+    }
+    None
+}
+
+/// The table of a region, as it counts; at first nothing is listed. The only error is want of memory.
+#[tactic(auto, unfolding(zt_model::specs::Trees::table_of))]
+pub fn table_of<K: Key>(
+    alloc: Global,
+    g: &GatewayState<K>,
+    region: Region,
+) -> Result<TreeTable, Memory>
+    ensures { IfOk result (λ table. trees_of table ≡ table_of g.now region) }
+{
+    let Some(row) = kept_table(g.trees(), region) else {
+        return Ok(TreeTable {
+            routers: Vec::new(alloc),
+            links: Vec::new(alloc),
+            children: Vec::new(alloc),
+        });
+    };
+    let table = counted_table(alloc, row.1.table())?;
+    Ok(table)
+}
+
+// The router that a link of the face means by a node id.
+fn linked(links: &[(u32, NodeId, Zid)], face: u32, node_id: NodeId) -> Option<Zid>
+    ensures { result ≡ option_map (λ l. l.2)
+        (first_where (λ l. (l.0 == face) && (l.1 == node_id)) links.now) }
+{
+    for link in links {
+        if link.0 == face && link.1 == node_id {
+            return Some(link.2);
+        }
+    }
+    None
+}
+
+/// The router that a face means by a node id, where that isn't the gateway itself. The only error is
+/// want of memory.
+#[tactic(auto, unfolding(zt_model::specs::Trees::source_of))]
+pub fn source_of<K: Key>(
+    alloc: Global,
+    g: &GatewayState<K>,
+    f: &FaceState<K>,
+    node_id: NodeId,
+) -> Result<Option<Zid>, Memory>
+    ensures { IfOk result (λ source. source ≡ source_of g.now f.now node_id) }
+{
+    let table = table_of(alloc, g, f.region())?;
+    Ok(linked(&table.links, f.number(), node_id).filter(|zid| *zid != g.zid()))
+}
