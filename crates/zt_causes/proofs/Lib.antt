@@ -1,0 +1,2 @@
+pub mod LeftIds
+pub mod Numbering

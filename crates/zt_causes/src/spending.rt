@@ -1,0 +1,201 @@
+// Whether faces have ids left for what a call would send them.
+ghost use Rattle.std.specs.Prelude.{◌≡◌, ℕ, ◌&&◌, not, IfOk, Some, filter, length};
+ghost use Rattle.std.specs.List.{list_any};
+ghost use Rattle.std.specs.Option.{option_copied};
+ghost use Rattle.zt_causes.specs.Lacking.{lacks_for_interest, lacks_for_token};
+ghost use Rattle.zt_protocol.specs.Interest.{is_future};
+ghost use Rattle.zt_model.specs.Parts.{find_face};
+ghost use Rattle.zt_model.specs.Refusals.{ids_for_target, is_answered_anew, left_ids};
+ghost use Rattle.zt_model.specs.Says.{row_of};
+ghost use Rattle.zt_model.specs.Telling.{answered_expressions, is_answered_by};
+ghost use Rattle.zt_model.specs.Visible.{keeps};
+
+use crate::asking::row_of;
+use crate::dictionary::are_above;
+use crate::finding::has_id;
+use crate::questions::registers;
+use std::alloc::Global;
+use zt_interests::is_target;
+use zt_keys::{Key, Memory};
+use zt_protocol::{InterestId, InterestMode, InterestOptions};
+use zt_state::{AskState, FaceState, GatewayState};
+use zt_tokens::{answered_expressions, find_face, is_answered_by, is_routed, is_told, keeps};
+
+/// How many ids can be drawn for a face.
+pub(crate) fn left_ids<K: Key>(f: &FaceState<K>) -> u32
+    ensures { result ≡ left_ids f.now }
+{
+    u32::MAX - f.next()
+}
+
+// ---- tokens
+
+// Whether a token that the face declares for the interest answers an ask for what comes later too.
+fn is_answered_for_later<K: Key>(
+    row: &(u32, AskState<K>),
+    face: u32,
+    id: InterestId,
+    expr: &K,
+) -> bool
+    ensures { result
+        ≡ (is_future row.now.1.interest.mode
+        && is_answered_by K.cmp K.matching face id expr.now row.now.1) }
+{
+    row.1.interest().mode().is_future() && is_answered_by(face, id, expr, &row.1)
+}
+
+// Whether such a token answers an ask of this face for what comes later too.
+fn answers_for_later<K: Key>(f: &FaceState<K>, face: u32, id: InterestId, expr: &K) -> bool
+    ensures { result
+        ≡ list_any
+        (λ row. is_future row.1.interest.mode
+        && is_answered_by K.cmp K.matching face id expr.now row.1) f.now.asks }
+{
+    f.asks()
+        .iter()
+        .any(|row| is_answered_for_later(row, face, id, expr))
+}
+
+// Whether the token answers an ask of the face anew, for which it needs an id.
+fn is_answered_anew<K: Key>(
+    face: u32,
+    interest: Option<InterestId>,
+    expr: &K,
+    from: &FaceState<K>,
+    f: &FaceState<K>,
+) -> bool
+    ensures { result ≡ is_answered_anew K.cmp K.matching face interest expr.now from.now f.now }
+{
+    match interest {
+        None => false,
+        Some(id) => {
+            has_id(from.pendings(), id) && !keeps(f, expr) && answers_for_later(f, face, id, expr)
+        }
+    }
+}
+
+// Whether the face needs an id for the token and has none left.
+fn lacks_token_id<K: Key>(
+    g: &GatewayState<K>,
+    face: u32,
+    interest: Option<InterestId>,
+    expr: &K,
+    from: &FaceState<K>,
+    f: &FaceState<K>,
+) -> bool
+    requires { find_face face g.now ≡ Some from.now }
+    ensures { result
+        ≡ lacks_for_token K.cmp K.matching face interest expr.now g.now f.now }
+{
+    !is_routed(g, f)
+        && left_ids(f) == 0
+        && registers(from, interest)
+        && (is_told(g, from.region(), expr, f) || is_answered_anew(face, interest, expr, from, f))
+}
+
+/// Whether a token that a face declares needs an id of some face that has none left.
+pub(crate) fn do_tokens_spend<K: Key>(
+    g: &GatewayState<K>,
+    face: u32,
+    interest: Option<InterestId>,
+    expr: &K,
+) -> bool
+    ensures { result
+        ≡ list_any (lacks_for_token K.cmp K.matching face interest expr.now g.now) g.now.faces }
+{
+    match find_face(g, face) {
+        None => false,
+        Some(from) => g
+            .faces()
+            .iter()
+            .any(|f| lacks_token_id(g, face, interest, expr, from, f)),
+    }
+}
+
+// ---- interests
+
+// How many ids the face needs to be sent an interest: one or none.
+fn ids_for_target<K: Key>(
+    g: &GatewayState<K>,
+    from: Option<&FaceState<K>>,
+    mode: InterestMode,
+    f: &FaceState<K>,
+) -> usize
+    ensures { (n : ℕ) → option_copied from.entry ≡ find_face n g.now
+        → result ≡ ids_for_target K.cmp K.matching n mode g.now f.now }
+{
+    match from {
+        None => 0,
+        Some(from) if is_target(g, from.region(), mode, f) => 1,
+        Some(_) => 0,
+    }
+}
+
+// How many ids a face needs for the answers to an interest of its own.
+fn ids_for_answers<K: Key>(
+    alloc: Global,
+    g: &GatewayState<K>,
+    mode: InterestMode,
+    options: InterestOptions,
+    expr: &Option<K>,
+    f: &FaceState<K>,
+) -> Result<usize, Memory>
+    ensures { IfOk result (λ count. count
+        ≡ length (filter (λ k. not (keeps K.cmp f.now k))
+        (answered_expressions K.cmp K.matching g.now
+        (row_of K.cmp K.matching f.now mode options expr.now) f.now))) }
+{
+    let interest = row_of(alloc, f, mode, options, expr)?;
+    let exprs = answered_expressions(alloc, g, &interest, f)?;
+    Ok(exprs.iter().filter(|k| !keeps(f, k)).count())
+}
+
+// Whether a face needs more ids for an interest than are left, of which these two kinds.
+fn lacks_interest_ids<K: Key>(
+    alloc: Global,
+    g: &GatewayState<K>,
+    face: u32,
+    mode: InterestMode,
+    options: InterestOptions,
+    expr: &Option<K>,
+    from: Option<&FaceState<K>>,
+    f: &FaceState<K>,
+) -> Result<bool, Memory>
+    requires { option_copied from ≡ find_face face g.now }
+    ensures { IfOk result (λ lacks. lacks
+        ≡ lacks_for_interest K.cmp K.matching face mode options expr.now g.now f.now) }
+{
+    if is_routed(g, f) {
+        return Ok(false);
+    }
+    let answers = if face == f.number() && mode.is_future() {
+        ids_for_answers(alloc, g, mode, options, expr, f)?
+    } else {
+        0
+    };
+    let left = left_ids(f) as usize;
+    Ok(are_above(left, answers, ids_for_target(g, from, mode, f)))
+}
+
+/// Whether an interest of a face needs more ids of some face than are left. The only error is want of
+/// memory.
+pub(crate) fn do_interests_spend<K: Key>(
+    alloc: Global,
+    g: &GatewayState<K>,
+    face: u32,
+    mode: InterestMode,
+    options: InterestOptions,
+    expr: &Option<K>,
+) -> Result<bool, Memory>
+    ensures { IfOk result (λ spends. spends
+        ≡ list_any
+        (lacks_for_interest K.cmp K.matching face mode options expr.now g.now) g.now.faces) }
+{
+    let from = find_face(g, face);
+    for f in g.faces() {
+        if lacks_interest_ids(alloc, g, face, mode, options, expr, from, f)? {
+            return Ok(true);
+        }
+    }
+    Ok(false)
+}
