@@ -1,0 +1,4 @@
+mod Doing
+mod Expiry
+mod OwnRowsGo
+mod PartsOf

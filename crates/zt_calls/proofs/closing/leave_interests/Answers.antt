@@ -1,0 +1,19 @@
+use Rattle.std.proofs.Common.{◌≤◌, ◌<◌, length, arith}
+use Rattle.zt_calls.specs.Leaving.{leaving_interest}
+use Rattle.zt_calls.proofs.Doing.{leads-all, leads-done, leads-more}
+use Rattle.zt_calls.proofs.closing.leave_interests.Goals as goal
+
+pub loop-row-init : goal.loop-row-init
+loop-row-init g c = leads-all g.K.Ord.cmp g.K.Key.matching (leaving_interest g.K.Ord.cmp g.K.Key.matching c.args.face) c.args.held.now c.args.g.now c.args.speech.now
+
+pub loop-row-preserved : goal.loop-row-preserved
+loop-row-preserved g c =
+    let rows = c.args.held.now in
+    let within : c.loop-row.row-index < length rows = omega arith in
+    leads-more g.K.Ord.cmp g.K.Key.matching (leaving_interest g.K.Ord.cmp g.K.Key.matching c.args.face) rows c.loop-row.row-index c.row-item.result c.args.g.now c.loop-row.g c.finalise.new.g c.args.speech.now c.loop-row.speech c.finalise.new.speech within c.row-item.is c.loop-row.invariant c.in_ok-finalise.ensures
+
+pub returns : goal.returns
+returns g c =
+    let rows = c.args.held.now in
+    let past : length rows ≤ c.loop-row.row-index = omega arith in
+    leads-done g.K.Ord.cmp g.K.Key.matching (leaving_interest g.K.Ord.cmp g.K.Key.matching c.args.face) rows c.loop-row.row-index c.args.g.now c.loop-row.g c.args.speech.now c.loop-row.speech past c.loop-row.invariant

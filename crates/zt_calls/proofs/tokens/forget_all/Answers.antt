@@ -1,0 +1,15 @@
+use Rattle.std.proofs.Common.{◌∷◌, []}
+use Rattle.zt_calls.proofs.Doing.{does-then}
+use Rattle.zt_model.specs.Parts.{Say}
+use Rattle.zt_model.specs.Telling.{forget}
+use Rattle.zt_model.specs.Trees.{hiding}
+use Rattle.zt_calls.proofs.tokens.forget_all.Goals as goal
+
+pub returns : goal.returns
+returns g c =
+    let cmp = g.K.Ord.cmp in
+    let matching = g.K.Key.matching in
+    let e = c.args.expr.now in
+    does-then cmp matching c.hide_token.result (Say (forget cmp matching c.args.source e) ∷ []) (hiding cmp c.args.source e) c.args.g.now c.forget_at_faces.new.g c.hide_token.new.g c.args.speech.now c.forget_at_faces.new.speech c.hide_token.new.speech
+    c.in_ok-forget_at_faces.ensures
+    c.hide_token.ensures

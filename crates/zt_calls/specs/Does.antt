@@ -1,0 +1,24 @@
+-- What a piece of work on a gateway comes to, by the parts of a call that it carries out.
+use Rattle.std.specs.Prelude.{◌≡◌, ℕ, Bool, ◌==◌, not, List, ◌++◌, Option, Some, None, filter}
+use Rattle.std.specs.declared.cmp.Ordering.{Ordering}
+use Rattle.zt_kept.specs.Ran.{ran}
+use Rattle.zt_model.specs.Parts.{Part, Sends, said_by, unsaid_to}
+use Rattle.zt_model.specs.Rows.{Rows}
+use Rattle.zt_calls.specs.declared.speech.Speech.{Speech}
+
+-- the messages but those to a face that isn't spoken to
+abbrev pub heard_of : {K : Type 0} → Option ℕ → Sends K → Sends K
+heard_of None ss = ss
+heard_of (Some n) ss = filter (λ s. not (n == s.0)) ss
+
+-- the parts but what they say to a face that isn't spoken to
+abbrev pub spoken : {K : Type 0} → Option ℕ → List (Part K) → List (Part K)
+spoken None parts = parts
+spoken (Some n) parts = unsaid_to n parts
+
+module _ {K : Type 0} (cmp : K → K → Ordering) (matching : K → K → Bool) where
+  -- The rows after are what the parts run to, and what the parts say was said behind what was said before.
+  pub record Does (parts : List (Part K)) (g h : Rows K) (s t : Speech K) : Type 0 where
+    pub silent : t.silent ≡ s.silent
+    pub rows : h ≡ ran cmp (spoken s.silent parts) g
+    pub said : t.said.items ≡ s.said.items ++ said_by cmp matching (spoken s.silent parts) g

@@ -1,0 +1,4 @@
+pub mod Does
+pub mod Leaving
+pub mod Expired
+pub mod Speaking

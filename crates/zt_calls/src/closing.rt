@@ -1,0 +1,99 @@
+// A face closes: what it declared is undeclared, what it holds finalised, its asks go and its pendings
+// end.
+ghost use Rattle.std.specs.Prelude.{◌≡◌, OnOk};
+ghost use Rattle.std.specs.List.{flat_map};
+ghost use Rattle.zt_calls.specs.Does.{Does};
+ghost use Rattle.zt_calls.specs.Leaving.{leaving_interest, leaving_pending, leaving_token};
+ghost use Rattle.zt_model.specs.Closing.{leaving};
+
+use crate::ending::{end_pending, finalise};
+use crate::speech::Speech;
+use crate::tokens::{hide_token, undeclare_found};
+use std::alloc::Global;
+use zt_keys::{Key, Memory};
+use zt_state::{FaceState, GatewayState, PendingInterest, RemoteInterest};
+
+// One of the tokens of a face that closes goes. The only error is want of memory.
+fn leave_token<K: Key>(
+    alloc: Global,
+    g: &mut GatewayState<K>,
+    speech: &mut Speech<K>,
+    f: &FaceState<K>,
+    row: &(u32, K),
+) -> Result<(), Memory>
+    ensures { OnOk result (Does K.cmp K.matching (leaving_token K.cmp K.matching f.now row.now)
+        g.old g.new speech.old speech.new) }
+{
+    undeclare_found(alloc, g, speech, f, row.0, &None)?;
+    hide_token(alloc, g, speech, f.region(), &row.1)
+}
+
+// The tokens of a face that closes go. The only error is want of memory.
+fn leave_tokens<K: Key>(
+    alloc: Global,
+    g: &mut GatewayState<K>,
+    speech: &mut Speech<K>,
+    f: &FaceState<K>,
+) -> Result<(), Memory>
+    ensures { OnOk result (Does K.cmp K.matching
+        (flat_map (leaving_token K.cmp K.matching f.now) f.now.live)
+        g.old g.new speech.old speech.new) }
+{
+    for row in f.live() {
+        leave_token(alloc, g, speech, f, row)?;
+    }
+    Ok(())
+}
+
+// What a face that closes holds is finalised. The only error is want of memory.
+fn leave_interests<K: Key>(
+    alloc: Global,
+    g: &mut GatewayState<K>,
+    speech: &mut Speech<K>,
+    face: u32,
+    held: &[(u32, RemoteInterest<K>)],
+) -> Result<(), Memory>
+    ensures { OnOk result (Does K.cmp K.matching
+        (flat_map (leaving_interest K.cmp K.matching face) held.now)
+        g.old g.new speech.old speech.new) }
+{
+    for row in held {
+        finalise(alloc, g, speech, face, row.0, &row.1)?;
+    }
+    Ok(())
+}
+
+// The pendings of a face that closes end. The only error is want of memory.
+fn leave_pendings<K: Key>(
+    alloc: Global,
+    g: &mut GatewayState<K>,
+    speech: &mut Speech<K>,
+    face: u32,
+    pendings: &[(u32, PendingInterest)],
+) -> Result<(), Memory>
+    ensures { OnOk result (Does K.cmp K.matching
+        (flat_map (leaving_pending face) pendings.now)
+        g.old g.new speech.old speech.new) }
+{
+    for row in pendings {
+        end_pending(alloc, g, speech, face, row.0)?;
+    }
+    Ok(())
+}
+
+/// A face outside router regions leaves, as it was when it began to. The only error is want of memory.
+pub(crate) fn leave<K: Key>(
+    alloc: Global,
+    g: &mut GatewayState<K>,
+    speech: &mut Speech<K>,
+    f: &FaceState<K>,
+) -> Result<(), Memory>
+    ensures { OnOk result (Does K.cmp K.matching
+        (leaving K.cmp K.matching f.now.number f.now)
+        g.old g.new speech.old speech.new) }
+{
+    leave_tokens(alloc, g, speech, f)?;
+    leave_interests(alloc, g, speech, f.number(), f.held())?;
+    g.drop_asks(f.number());
+    leave_pendings(alloc, g, speech, f.number(), f.pendings())
+}
