@@ -1,0 +1,6 @@
+mod Accepted
+mod ByFace
+mod Listed
+mod Making
+mod Oldest
+mod Walks

@@ -1,0 +1,18 @@
+use Rattle.std.proofs.Common.{◌≡◌, ap, sym, ◌∙◌}
+use Rattle.zt_gateway.specs.Running.{Running}
+use Rattle.zt_gateway.proofs.gateway.plan.Goals as goal
+
+pub invariant_of-result : goal.invariant_of-result
+invariant_of-result g c =
+    let same : c.of-before.result.value.waiting ≡ c.gateway.inside.outbox.items =
+    ap (λ (running : Running g.row.K.Denot). running.waiting) (c.of-before.ensures ∙ sym c.gateway.view_is)
+    in
+    record {
+      sound = c.in_ok-state.ensures.sound;
+      placed = rw c.as_slice.ensures.value at c.in-Ok.ensures;
+      empty = c.in-Ok-room_for.ensures.empty;
+      fits = rw same c.in-Ok-room_for.ensures.fits;
+    }
+
+pub returns-clause-outcome : goal.returns-clause-outcome
+returns-clause-outcome g c = rw (← c.gateway.view_is) c.in_ok-state.ensures.outcome

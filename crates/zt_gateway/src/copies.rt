@@ -1,0 +1,55 @@
+// Copies of what a caller hands in.
+ghost use Rattle.std.specs.Prelude.{◌≡◌, IfOk, option_copied};
+
+use std::alloc::Global;
+use zt_keys::{Key, Memory};
+use zt_protocol::{Message, QueryableInfo};
+
+// Copies of messages. The only error is want of memory.
+pub(crate) fn copy_messages<K: Key>(
+    alloc: Global,
+    messages: &[(u32, Message<K>)],
+) -> Result<Vec<(u32, Message<K>)>, Memory>
+    ensures { IfOk result (λ copies. copies.items ≡ messages.now) }
+{
+    let mut copies = Vec::new(alloc);
+    for message in messages {
+        copies.push((message.0, message.1.copy(alloc)?))?;
+    }
+    Ok(copies)
+}
+
+// A copy of an expression, where there is one. The only error is want of memory.
+pub(crate) fn copy_option<K: Key>(alloc: Global, expr: Option<&K>) -> Result<Option<K>, Memory>
+    ensures { IfOk result (λ copy. copy ≡ option_copied expr.entry) }
+{
+    match expr {
+        None => Ok(None),
+        Some(key) => Ok(Some(key.copy(alloc)?)),
+    }
+}
+
+// Copies of keys. The only error is want of memory.
+pub(crate) fn copy_keys<K: Key>(alloc: Global, keys: &[K]) -> Result<Vec<K>, Memory>
+    ensures { IfOk result (λ copies. copies.items ≡ keys.now) }
+{
+    let mut copies = Vec::new(alloc);
+    for key in keys {
+        copies.push(key.copy(alloc)?)?;
+    }
+    Ok(copies)
+}
+
+// Copies of queryables. The only error is want of memory.
+pub(crate) fn copy_queryables<K: Key>(
+    alloc: Global,
+    queryables: &[(K, QueryableInfo)],
+) -> Result<Vec<(K, QueryableInfo)>, Memory>
+    ensures { IfOk result (λ copies. copies.items ≡ queryables.now) }
+{
+    let mut copies = Vec::new(alloc);
+    for queryable in queryables {
+        copies.push((queryable.0.copy(alloc)?, queryable.1))?;
+    }
+    Ok(copies)
+}

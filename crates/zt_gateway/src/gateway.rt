@@ -1,0 +1,159 @@
+// A gateway, and the calls on it.
+ghost use Rattle.std.specs.Prelude.{◌≡◌, Ok, map, IfErr, IfOk, None, OnErr, OnOk};
+ghost use Rattle.zt_gateway.specs.Running.{IsRefusedBy, by_face, called, next_waiting, oldest_for, planned, without_oldest, sent_alone};
+ghost use Rattle.zt_kept.specs.Sound.{IsSound};
+ghost use Rattle.zt_laws.specs.Sound.{CallHasFirstIds};
+ghost use Rattle.zt_model.specs.Journal.{cause_of, made_by, outcome_of};
+ghost use Rattle.zt_model.specs.Says.{said};
+ghost use Rattle.zt_model.specs.Transcript.{FacesKeepWhatTheyShould};
+ghost use Rattle.zt_protocol.specs.Plain.{plain_call};
+
+use crate::carrying::{carried, closed_by, room_for};
+use crate::copies::copy_messages;
+use crate::outbox::{moved, next_waiting, take_oldest};
+use crate::prepared::Prepared;
+use crate::sorting::places_by_face;
+use std::alloc::Global;
+use std::marker::Model;
+use std::mem;
+use std::snapshot::Snapshot;
+use zt_keys::{Key, Memory};
+use zt_protocol::{Call, CallError, Message};
+use zt_state::GatewayState;
+
+/// A gateway: what it keeps, and the messages that it has for its faces until they are taken. Its faces
+/// are numbered from 1 in order of making.
+#[derive(Drop)]
+pub struct Gateway<K: Key> {
+    pub(crate) alloc: Global,
+    pub(crate) state: GatewayState<K>,
+    // Each with the number of its face, the oldest first.
+    pub(crate) outbox: Vec<(u32, Message<K>)>,
+}
+
+impl<K: Key> Model for Gateway<K> {
+    ghost use Rattle.zt_gateway.specs.Running.{Running};
+    ghost use Rattle.zt_kept.specs.Sound.{IsSound};
+
+    ghost Value = { Running K };
+
+    ghost view = { λ g. record { rows = g.state; waiting = g.outbox.items } };
+
+    ghost invariant = { λ g. IsSound K.cmp K.matching g.state };
+}
+
+// What a call comes to at a gateway, where nothing refuses it.
+fn plan<K: Key>(gateway: &Gateway<K>, call: &Call<K>) -> Result<Prepared<K>, CallError>
+    requires { CallHasFirstIds (plain_call call.now) }
+    ensures refused { IfErr result (IsRefusedBy K.cmp K.matching (plain_call call.now) gateway.now.rows) }
+    ensures accepted { OnOk result (cause_of K.cmp K.matching (plain_call call.now) gateway.now.rows ≡ None) }
+    ensures planned { IfOk result (λ p. p ≡ planned K.cmp K.matching (plain_call call.now) gateway.now) }
+    ensures outcome { OnOk result (outcome_of K.cmp K.matching (plain_call call.now) gateway.now.rows
+        ≡ Ok (map sent_alone (by_face (said K.cmp K.matching (plain_call call.now) gateway.now.rows)))) }
+{
+    let before = Snapshot::of(gateway);
+    let alloc = gateway.alloc;
+    let (state, said, made) = carried(alloc, &gateway.state, call)?;
+    let Ok(order) = places_by_face(alloc, said.as_slice()) else {
+        return Err(CallError::Memory);
+    };
+    let Ok(room) = room_for(alloc, &gateway.outbox, &said) else {
+        return Err(CallError::Memory);
+    };
+    Ok(Prepared {
+        before,
+        state,
+        closed: closed_by(call),
+        made,
+        said,
+        order,
+        room,
+    })
+}
+
+impl<K: Key> Gateway<K> {
+    /// Accepts a call without carrying it out, and takes all memory that it needs; a first id is at
+    /// least 1. The refusals are those of `call`, and the gateway is as before. In order of face its
+    /// messages are the outcome of the call.
+    pub fn prepare(&mut self, call: &Call<K>) -> Result<Prepared<K>, CallError>
+        requires { CallHasFirstIds (plain_call call.now) }
+        ensures same { self.new ≡ self.old }
+        ensures refused { IfErr result (IsRefusedBy K.cmp K.matching (plain_call call.now) self.old.rows) }
+        ensures accepted { OnOk result (cause_of K.cmp K.matching (plain_call call.now) self.old.rows ≡ None) }
+        ensures planned { IfOk result (λ p. p ≡ planned K.cmp K.matching (plain_call call.now) self.old) }
+        ensures outcome { OnOk result (outcome_of K.cmp K.matching (plain_call call.now) self.old.rows
+            ≡ Ok (map sent_alone (by_face (said K.cmp K.matching (plain_call call.now) self.old.rows)))) }
+    {
+        plan(self, call)
+    }
+
+    /// Carries out a call that this gateway prepared and since which it didn't change. This takes no
+    /// memory. The answer is the number of the face that the call makes, if it makes one.
+    pub fn commit(&mut self, prepared: Prepared<K>) -> Option<u32>
+        requires { prepared.before ≡ self.old }
+        ensures done { self.new ≡ prepared.after }
+        ensures made { result ≡ prepared.made }
+        ensures sound { FacesKeepWhatTheyShould K.cmp K.matching self.new.rows }
+    {
+        let Prepared {
+            before: _,
+            state,
+            closed,
+            made,
+            said,
+            order: _,
+            room,
+        } = prepared;
+        let waiting = mem::replace(&mut self.outbox, Vec::new(self.alloc));
+        self.outbox = moved(room, waiting, said, closed);
+        self.state = state;
+        made
+    }
+
+    /// Carries out a call; a first id is at least 1. The answer is the number of the face that it makes,
+    /// if it makes one. It is refused by the first cause that holds of it; after a refusal or want of
+    /// memory nothing is changed. An accepted call leaves each face outside router regions with visible
+    /// tokens alone that it seeks, and with all admitted ones that it is to be told.
+    pub fn call(&mut self, call: &Call<K>) -> Result<Option<u32>, CallError>
+        requires { CallHasFirstIds (plain_call call.now) }
+        ensures refused { IfErr result (IsRefusedBy K.cmp K.matching (plain_call call.now) self.old.rows) }
+        ensures accepted { OnOk result (cause_of K.cmp K.matching (plain_call call.now) self.old.rows ≡ None) }
+        ensures done { OnOk result (self.new ≡ called K.cmp K.matching (plain_call call.now) self.old) }
+        ensures made { IfOk result (λ made. made ≡ made_by K.cmp K.matching (plain_call call.now) self.old.rows) }
+        ensures err { OnErr result (self.new ≡ self.old) }
+        ensures sound { OnOk result (FacesKeepWhatTheyShould K.cmp K.matching self.new.rows) }
+    {
+        match self.prepare(call) {
+            Ok(prepared) => Ok(self.commit(prepared)),
+            Err(error) => Err(error),
+        }
+    }
+
+    /// An equal gateway, with the messages that wait. The only error is want of memory.
+    pub fn copy(&self, alloc: Global) -> Result<Self, Memory>
+        ensures { IfOk result (λ copy. copy ≡ self.now) }
+    {
+        let state = self.state.copy(alloc)?;
+        let outbox = copy_messages(alloc, self.outbox.as_slice())?;
+        Ok(Gateway {
+            alloc,
+            state,
+            outbox,
+        })
+    }
+
+    /// Takes the oldest message that waits for the face. None exactly where there is none.
+    pub fn take_outbox(&mut self, face: u32) -> Option<Message<K>>
+        ensures message { result ≡ oldest_for face self.old.waiting }
+        ensures left { self.new ≡ record self.old { waiting = without_oldest face self.old.waiting } }
+    {
+        take_oldest(&mut self.outbox, face)
+    }
+
+    /// The least face above this one for which a message waits. None exactly where there is none.
+    pub fn next_outbox(&self, after: u32) -> Option<u32>
+        ensures { result ≡ next_waiting after self.now.waiting }
+    {
+        next_waiting(self.outbox.as_slice(), after)
+    }
+}

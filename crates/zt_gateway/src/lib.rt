@@ -1,0 +1,22 @@
+//! A gateway: the calls on it, the messages that it has for its faces, and calls that are prepared
+//! first and carried out later without memory.
+#![tactic(auto)]
+
+mod builder;
+mod calls;
+mod carrying;
+mod copies;
+mod gateway;
+mod listing;
+mod ordering;
+mod outbox;
+mod prepared;
+mod sorting;
+mod sourced;
+#[cfg(test)]
+mod tests;
+
+pub use builder::GatewayBuilder;
+pub use gateway::Gateway;
+pub use prepared::Prepared;
+pub use sourced::Sources;

@@ -1,0 +1,174 @@
+// Who declares tokens in a region: the rows of its faces, or of its routers.
+ghost use Rattle.std.specs.Prelude.{◌≡◌, ◌++◌, map, IfOk, OnOk};
+ghost use Rattle.zt_gateway.specs.Declarers.{face_rows, router_rows};
+ghost use Rattle.zt_model.specs.Sourced.{kind_of, rows_sourced};
+ghost use Rattle.zt_model.specs.Sourced.{rows_sourced_by_faces, rows_sourced_by_routers};
+ghost use Rattle.zt_model.specs.Strategy.{strategy_of};
+
+use std::alloc::Global;
+use std::marker::Model;
+use zt_keys::{Key, Memory};
+use zt_region::{Region, WhatAmI, Zid};
+use zt_state::{FaceState, GatewayState, RoutedToken};
+use zt_tokens::is_router_region;
+
+// A declarer's token: what the declarer is listed as, its number and the expression.
+#[derive(Drop)]
+pub(crate) struct SourcedToken<K: Key> {
+    kind: WhatAmI,
+    zid: Zid,
+    expr: K,
+}
+
+impl<K: Key> Model for SourcedToken<K> {
+    ghost use Rattle.zt_model.specs.Sourced.{SourcedRow};
+
+    ghost Value = { SourcedRow K };
+
+    ghost view = { λ r. record { kind = r.kind; zid = r.zid; expr = r.expr } };
+}
+
+impl<K: Key> SourcedToken<K> {
+    // As what the declarer is listed.
+    pub(crate) fn kind(&self) -> WhatAmI
+        ensures { result ≡ self.now.kind }
+    {
+        self.kind
+    }
+
+    // The declarer's number.
+    pub(crate) fn zid(&self) -> Zid
+        ensures { result ≡ self.now.zid }
+    {
+        self.zid
+    }
+
+    // The expression that it declares.
+    pub(crate) fn expr(&self) -> &K
+        ensures { result.now ≡ self.now.expr }
+    {
+        &self.expr
+    }
+}
+
+// As what a face of the region and mode is listed, at a gateway of the mode `own`.
+fn kind_of(own: WhatAmI, region: Region, mode: WhatAmI) -> WhatAmI
+    ensures { result ≡ kind_of (strategy_of own region) mode }
+{
+    match region {
+        Region::Local => WhatAmI::Client,
+        Region::South { mode, .. } => mode,
+        Region::North => match own {
+            WhatAmI::Client => mode,
+            other => other,
+        },
+    }
+}
+
+// Adds the tokens of a face. The only error is want of memory.
+fn add_live<K: Key>(
+    alloc: Global,
+    kind: WhatAmI,
+    zid: Zid,
+    live: &[(u32, K)],
+    rows: &mut Vec<SourcedToken<K>>,
+) -> Result<(), Memory>
+    ensures { OnOk result (rows.new.items
+        ≡ rows.old.items ++ map (λ row. record { kind = kind; zid = zid; expr = row.1 }) live.now) }
+{
+    for row in live {
+        rows.push(SourcedToken {
+            kind,
+            zid,
+            expr: row.1.copy(alloc)?,
+        })?;
+    }
+    Ok(())
+}
+
+// Adds the tokens of a face, where it is of the region. The only error is want of memory.
+fn add_face<K: Key>(
+    alloc: Global,
+    own: WhatAmI,
+    region: Region,
+    f: &FaceState<K>,
+    rows: &mut Vec<SourcedToken<K>>,
+) -> Result<(), Memory>
+    ensures { OnOk result (rows.new.items ≡ rows.old.items ++ face_rows own region f.now) }
+{
+    if f.region() == region {
+        let kind = kind_of(own, region, f.mode());
+        add_live(alloc, kind, f.zid(), f.live(), rows)?;
+    }
+    Ok(())
+}
+
+// The tokens of a region's faces. The only error is want of memory.
+fn rows_of_faces<K: Key>(
+    alloc: Global,
+    g: &GatewayState<K>,
+    region: Region,
+) -> Result<Vec<SourcedToken<K>>, Memory>
+    ensures { IfOk result (λ rows. rows.items
+        ≡ rows_sourced_by_faces K.cmp (strategy_of g.now.mode region) g.now region) }
+{
+    let mut rows = Vec::new(alloc);
+    let own = g.mode();
+    for f in g.faces() {
+        add_face(alloc, own, region, f, &mut rows)?;
+    }
+    Ok(rows)
+}
+
+// Adds a router's token, where it is of the region and not the gateway's own. The only error is want
+// of memory.
+fn add_routed<K: Key>(
+    alloc: Global,
+    own: Zid,
+    region: Region,
+    row: &RoutedToken<K>,
+    rows: &mut Vec<SourcedToken<K>>,
+) -> Result<(), Memory>
+    ensures { OnOk result (rows.new.items ≡ rows.old.items ++ router_rows own region row.now) }
+{
+    if row.region() == region && row.source() != own {
+        rows.push(SourcedToken {
+            kind: WhatAmI::Router,
+            zid: row.source(),
+            expr: row.expr().copy(alloc)?,
+        })?;
+    }
+    Ok(())
+}
+
+// The tokens of a router region but the gateway's own. The only error is want of memory.
+fn rows_of_routers<K: Key>(
+    alloc: Global,
+    g: &GatewayState<K>,
+    region: Region,
+) -> Result<Vec<SourcedToken<K>>, Memory>
+    ensures { IfOk result (λ rows. rows.items ≡ rows_sourced_by_routers K.cmp g.now region) }
+{
+    let mut rows = Vec::new(alloc);
+    let own = g.zid();
+    for row in g.routed() {
+        add_routed(alloc, own, region, row, &mut rows)?;
+    }
+    Ok(rows)
+}
+
+// The tokens that are declared in a region. The only error is want of memory.
+pub(crate) fn sourced_rows<K: Key>(
+    alloc: Global,
+    g: &GatewayState<K>,
+    region: Region,
+) -> Result<Vec<SourcedToken<K>>, Memory>
+    ensures { IfOk result (λ rows. rows.items
+        ≡ rows_sourced K.cmp (strategy_of g.now.mode region) g.now region) }
+{
+    if is_router_region(g.mode(), region) {
+        rows_of_routers(alloc, g, region)
+    } else {
+        rows_of_faces(alloc, g, region)
+    }
+}
