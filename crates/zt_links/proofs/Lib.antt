@@ -1,0 +1,11 @@
+pub mod Refusing
+pub mod Accepted
+pub mod Carried
+pub mod Climbing
+pub mod Closings
+pub mod LinkCauses
+pub mod Joined
+pub mod Linked
+pub mod Members
+pub mod Sorts
+pub mod Walks

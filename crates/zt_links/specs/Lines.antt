@@ -1,0 +1,128 @@
+-- The one call of a line, why a line is refused, and what waits after one.
+use Rattle.std.specs.Prelude.{ℕ, Bool, true, false, ◌==◌, ◌+◌, ◌&&◌, ◌||◌, not, nat_le, if◌then◌else◌, List, ◌++◌, length, Option, Some, None, Ok, Err, map}
+use Rattle.std.specs.declared.cmp.Ordering.{Ordering}
+use Rattle.zt_region.specs.declared.region.WhatAmI.{WhatAmI}
+use Rattle.zt_region.specs.declared.region.WhatAmI.TheVariants.{Client}
+use Rattle.zt_region.specs.Region.{is_north, whatami_eq}
+use Rattle.zt_region.specs.South.{PlainPeer, PlainSouth, transient_bound}
+use Rattle.zt_region.specs.Tables.{RegionAnswer, region_of}
+use Rattle.zt_protocol.specs.Plain.{PlainCall, PlainLine, NewTransport, Session, Face as FaceLine, Link as LinkLine}
+use Rattle.zt_protocol.specs.declared.entries.Sent.{Sent}
+use Rattle.zt_protocol.specs.declared.errors.Refusal.{Refusal}
+use Rattle.zt_protocol.specs.declared.errors.Refusal.TheVariants as refusal
+use Rattle.zt_protocol.specs.declared.messages.Message.{Message}
+use Rattle.zt_model.specs.Fabric.{CallAt, Fabric, Node, after_opening, built_causes, call_at, is_full, is_region_of, line_spends_ids, opened_at, printed_for, said_at, sorted_by_face, with_rows}
+use Rattle.zt_model.specs.Journal.{cause_of}
+use Rattle.zt_model.specs.Linking.{climbs_to, end_region, is_answer, with_taken}
+use Rattle.zt_model.specs.Lists.{rest_of}
+use Rattle.zt_model.specs.Refusals.{GREATEST_NUMBER, first_cause, is_north_taken}
+use Rattle.zt_model.specs.Strategy.{fits}
+use Rattle.zt_laws.specs.Sound.{rows_after_call}
+
+-- all lines of the grammar are built
+abbrev pub every_line : {K : Type 0} → PlainLine K → Bool
+every_line line = true
+
+-- a call by the number of its gateway, where there is one
+abbrev pub made_at : {K : Type 0} → Fabric K → Option (ℕ × PlainCall K) → Option (CallAt K)
+made_at s None = None
+made_at s (Some made) = call_at s made.0 made.1
+
+-- what waits at an end of a link, where the oldest message of a face's is taken
+abbrev pub taken_row : {K : Type 0} → Option ℕ → ℕ × List (Message K) → ℕ × List (Message K)
+taken_row None row = row
+taken_row (Some face) row = if face == row.0 then (row.0, rest_of row.1) else row
+
+-- and messages are added behind the others
+abbrev pub row_after : {K : Type 0} → Option ℕ → List (Sent K) → ℕ × List (Message K) → ℕ × List (Message K)
+row_after taken ms row = let left = taken_row taken row in (left.0, left.1 ++ printed_for left.0 ms)
+
+abbrev pub taken_by : {K : Type 0} → Option ℕ → Fabric K → Fabric K
+taken_by None s = s
+taken_by (Some face) s = with_taken face s
+
+module _ {K : Type 0} (cmp : K → K → Ordering) (matching : K → K → Bool) where
+  -- why a call is refused at its gateway
+  abbrev pub cause_at : Option (CallAt K) → Option Refusal
+  cause_at None = None
+  cause_at (Some at) = cause_of cmp matching at.call at.rows
+
+  -- why a line is refused
+  unfoldable pub cause_of_line : PlainLine K → Fabric K → Option Refusal
+  cause_of_line line s = first_cause (built_causes cmp matching (line_spends_ids cmp matching line s) line s)
+
+-- a cause, and where there is none another
+abbrev pub or_cause : Option Refusal → Option Refusal → Option Refusal
+or_cause None later = later
+or_cause (Some first) later = Some first
+
+-- a cause, where a test says so
+abbrev pub cause_if : Bool → Refusal → Option Refusal
+cause_if true cause = Some cause
+cause_if false cause = None
+
+-- lines that open one face
+abbrev pub is_opening : {K : Type 0} → PlainLine K → Bool
+is_opening (Session gateway first) = true
+is_opening (FaceLine gateway mode zid region bound first) = true
+is_opening _ = false
+
+module _ {K : Type 0} (cmp : K → K → Ordering) (matching : K → K → Bool) where
+  -- what a gateway's call says, as it is printed
+  abbrev pub said_sorted : ℕ → PlainCall K → Fabric K → List (Sent K)
+  said_sorted n c s = sorted_by_face (said_at cmp matching s (call_at s n c))
+
+  -- the fabric after a gateway's call, where what it says waits for the other ends
+  abbrev pub carried : Option ℕ → ℕ → PlainCall K → Fabric K → Fabric K
+  carried taken n c s =
+      let after = with_rows n (rows_after_call cmp matching c) s in
+      record after { waiting = map (row_after taken (said_sorted n c s)) s.waiting }
+
+-- what the two ends of a link come to for one of them: its peer as the other sees it, the other one, its mode and
+-- configuration, and those of the other
+abbrev pub agreed : PlainPeer → PlainPeer → WhatAmI → PlainSouth → WhatAmI → PlainSouth → RegionAnswer
+agreed peer beyond mode south other_mode other_south =
+    elim (transient_bound peer other_mode other_south) [ Ok bound ↦ region_of beyond mode south bound | Err e ↦ Err e ]
+
+module _ {K : Type 0} (cmp : K → K → Ordering) (matching : K → K → Bool) where
+  -- a face is opened at a gateway by a call, and hears what is said then
+  abbrev pub opened_by_call : ℕ → PlainCall K → Fabric K → Fabric K
+  opened_by_call n c s = after_opening cmp matching (call_at s n c) s
+
+  abbrev pub said_by_opening : ℕ → PlainCall K → Fabric K → List (Sent K)
+  said_by_opening n c s = said_at cmp matching (opened_at cmp matching (call_at s n c) s) (call_at s n c)
+
+-- the call that opens an end, by the gateway beyond it and what it comes to
+abbrev pub call_to_open : {K : Type 0} → Node K → RegionAnswer → ℕ → Option (PlainCall K)
+call_to_open other answer first =
+    elim answer [ Ok given ↦ Some (NewTransport other.rows.zid other.rows.mode given.0 given.1 first) | Err e ↦ None ]
+
+abbrev pub is_refused_answer : RegionAnswer → Bool
+is_refused_answer answer = elim answer [ Ok given ↦ false | Err e ↦ true ]
+
+-- why the faces of a link's two ends are refused, by what the ends come to
+abbrev pub regions_cause : {K : Type 0} → Node K → RegionAnswer → Node K → RegionAnswer → Option Refusal
+regions_cause a near b far =
+    or_cause (cause_if (is_answer near (λ region bound. not (is_region_of a.rows.regions region)) || is_answer far (λ region bound. not (is_region_of b.rows.regions region))) refusal.NoSuchRegion)
+    (or_cause (cause_if ((is_refused_answer near || is_refused_answer far) || (is_answer near (λ region bound. not (fits a.rows.mode region b.rows.mode bound)) || is_answer far (λ region bound. not (fits b.rows.mode region a.rows.mode bound)))) refusal.RegionConflict)
+    (cause_if (is_answer near (λ region bound. is_north_taken region a.rows) || is_answer far (λ region bound. is_north_taken region b.rows)) refusal.NorthTaken))
+
+-- an end closes a loop of client gateways
+abbrev pub closes_loop_at : {K : Type 0} → Fabric K → Node K → RegionAnswer → ℕ → ℕ → Bool
+closes_loop_at s node answer beyond gateway =
+    is_answer answer (λ region bound. whatami_eq node.rows.mode Client && (is_north region && climbs_to (length s.gateways) s beyond gateway))
+
+module _ {K : Type 0} (cmp : K → K → Ordering) (matching : K → K → Bool) where
+  -- why a link isn't made, where the regions of its ends refuse nothing
+  abbrev pub later_cause : ℕ → ℕ → ℕ → ℕ → Fabric K → Node K → RegionAnswer → Node K → RegionAnswer → Option Refusal
+  later_cause one two first back s a near b far =
+      or_cause (cause_if (closes_loop_at s a near two one || closes_loop_at s b far one two) refusal.WouldLoop)
+      (or_cause (cause_if (line_spends_ids cmp matching (LinkLine one two first back) s) refusal.IdsSpent)
+      (cause_if (nat_le GREATEST_NUMBER (length s.faces + 1) || is_full s.links) refusal.NumbersSpent))
+
+-- the call that opens the face of a gateway to another, where both exist and it has a region
+abbrev pub opening_call : {K : Type 0} → Option (Node K) → Option (Node K) → ℕ → Option (PlainCall K)
+opening_call None other first = None
+opening_call (Some own) None first = None
+opening_call (Some own) (Some other) first =
+    elim (end_region own other) [ Ok given ↦ Some (NewTransport other.rows.zid other.rows.mode given.0 given.1 first) | Err e ↦ None ]

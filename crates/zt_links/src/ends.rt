@@ -1,0 +1,102 @@
+// Tests of the two ends of a link that is to be.
+ghost use Rattle.std.specs.Prelude.{◌≡◌, ◌&&◌, Ok, Err, not, length, IfOk};
+ghost use Rattle.std.specs.List.{list_any};
+ghost use Rattle.zt_region.specs.Region.{is_north, whatami_eq};
+ghost use Rattle.zt_region.specs.declared.region.WhatAmI.TheVariants.{Client};
+ghost use Rattle.zt_model.specs.Fabric.{is_region_of};
+ghost use Rattle.zt_model.specs.Linking.{climbs_to, is_answer};
+ghost use Rattle.zt_model.specs.Refusals.{is_north_taken};
+ghost use Rattle.zt_model.specs.Strategy.{fits};
+
+use crate::causes::has_region;
+use crate::linking::climbs_to;
+use crate::state::{FabricState, NodeState};
+use zt_keys::{Key, Memory};
+use zt_region::{Bound, Region, RegionError, WhatAmI};
+use zt_state::FaceState;
+
+/// Whether a face fits: its region, the gateway's mode, the remote's mode and the remote's bound.
+fn fits(own: WhatAmI, region: Region, remote: WhatAmI, bound: Bound) -> bool
+    ensures { result ≡ fits own region remote bound }
+{
+    match (own, region) {
+        (_, Region::Local) => false,
+        (_, Region::South { mode, .. }) => remote == mode && bound == Bound::North,
+        (WhatAmI::Client, Region::North) => bound == Bound::South,
+        (WhatAmI::Peer, Region::North) => bound == Bound::South || remote == WhatAmI::Peer,
+        (WhatAmI::Router, Region::North) => remote == WhatAmI::Router,
+    }
+}
+
+/// Whether the region of an end isn't one of its gateway.
+pub(crate) fn names_no_region<K: Key>(
+    node: &NodeState<K>,
+    answer: &Result<(Region, Bound), RegionError>,
+) -> bool
+    ensures { result ≡ is_answer answer.now (λ region bound. not (is_region_of node.now.rows.regions region)) }
+{
+    match answer {
+        Ok((region, _)) => !has_region(node.rows().regions(), *region),
+        Err(_) => false,
+    }
+}
+
+/// Whether the face of an end doesn't fit its region.
+pub(crate) fn misfits<K: Key>(
+    node: &NodeState<K>,
+    answer: &Result<(Region, Bound), RegionError>,
+    other: &NodeState<K>,
+) -> bool
+    ensures { result ≡ is_answer answer.now (λ region bound. not (fits node.now.rows.mode region other.now.rows.mode bound)) }
+{
+    match answer {
+        Ok((region, bound)) => !fits(node.rows().mode(), *region, other.rows().mode(), *bound),
+        Err(_) => false,
+    }
+}
+
+fn has_north_face<K: Key>(faces: &[FaceState<K>]) -> bool
+    ensures { result ≡ list_any (λ f. is_north f.region) faces.now }
+{
+    faces.iter().any(|f| f.region() == Region::North)
+}
+
+/// Whether the gateway of an end is a client's that has a face to the north already.
+pub(crate) fn takes_north<K: Key>(
+    node: &NodeState<K>,
+    answer: &Result<(Region, Bound), RegionError>,
+) -> bool
+    ensures { result ≡ is_answer answer.now (λ region bound. is_north_taken region node.now.rows) }
+{
+    match answer {
+        Ok((region, _)) => {
+            node.rows().mode() == WhatAmI::Client
+                && *region == Region::North
+                && has_north_face(node.rows().faces())
+        }
+        Err(_) => false,
+    }
+}
+
+/// Whether an end would close a loop of client gateways.
+pub(crate) fn closes_loop<K: Key>(
+    s: &FabricState<K>,
+    node: &NodeState<K>,
+    answer: &Result<(Region, Bound), RegionError>,
+    beyond: u32,
+    gateway: u32,
+) -> Result<bool, Memory>
+    ensures { IfOk result (λ closes. closes ≡ is_answer answer.now (λ region bound.
+        whatami_eq node.now.rows.mode Client && (is_north region && climbs_to (length s.now.gateways) s.now beyond gateway))) }
+{
+    match answer {
+        Ok((region, _)) => {
+            if node.rows().mode() == WhatAmI::Client && *region == Region::North {
+                climbs_to(s, s.gateways().len(), beyond, gateway)
+            } else {
+                Ok(false)
+            }
+        }
+        Err(_) => Ok(false),
+    }
+}

@@ -1,0 +1,24 @@
+//! A fabric of gateways and the links between them, in memory, which carries out the lines of a script.
+#![tactic(auto)]
+
+mod accepting;
+mod calls;
+mod causes;
+mod copying;
+mod deciding;
+mod drafts;
+mod ends;
+mod fabric;
+mod joining;
+mod link_causes;
+mod linking;
+mod links;
+mod making;
+mod places;
+mod printing;
+mod queues;
+mod sorting;
+mod state;
+mod unlinking;
+
+pub use fabric::Fabric;

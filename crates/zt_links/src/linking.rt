@@ -1,0 +1,303 @@
+// The two ends of a link: the regions of their faces, and the calls that open them.
+ghost use Rattle.std.specs.Prelude.{◌≡◌, ◌<◌, ◌^◌, ◌&&◌, ◌||◌, ◌+◌, ◌++◌, true, map, Some, None, Ok, Err, IfOk, OnOk, option_map};
+ghost use Rattle.zt_model.specs.Fabric.{after_opening, call_at, opened_at, said_at, sorted_by_face};
+ghost use Rattle.zt_laws.specs.Order.{FabricIsInOrder};
+ghost use Rattle.zt_laws.specs.Sound.{opens_face};
+ghost use Rattle.std.specs.Option.{option_copied};
+ghost use Rattle.zt_region.specs.Region.{is_north};
+ghost use Rattle.zt_protocol.specs.Plain.{NewTransport, plain_call};
+ghost use Rattle.zt_region.specs.South.{plain_peer, plain_south, subregion_count};
+ghost use Rattle.zt_links.specs.Lines.{agreed, opened_by_call, row_after, said_by_opening};
+ghost use Rattle.zt_model.specs.Linking.{climbs_to, with_link, end_region, gateway_above, gateway_beyond, is_end_of, peer_of};
+ghost use Rattle.zt_model.specs.Lists.{first_where, is_some_and};
+ghost use Rattle.zt_model.specs.Refusals.{spends_ids};
+
+use crate::copying::copy_name;
+use crate::drafts::copy_fabric;
+use crate::links::is_end_of;
+use crate::making::{next_face, prepare};
+use crate::places::{member_at, number_of_place, place_of_number};
+use crate::queues::queues_after;
+use crate::sorting::sort_by_face;
+use crate::state::{FabricState, LinkState, NodeState};
+use std::alloc::Global;
+use zt_causes::spends_ids;
+use zt_keys::{Key, Memory};
+use zt_protocol::{Call, Sent};
+use zt_region::{
+    Bound, Region, RegionError, SouthConf, TransportPeer, WhatAmI, compute_region_of,
+    compute_transient_bound_of,
+};
+use zt_state::FaceState;
+
+/// A gateway as the other end of a link sees it. The only error is want of memory.
+fn peer_of<K: Key>(alloc: Global, node: &NodeState<K>) -> Result<TransportPeer, Memory>
+    ensures { IfOk result (λ peer. plain_peer peer ≡ peer_of node.now) }
+{
+    Ok(TransportPeer {
+        zid: node.rows.zid(),
+        whatami: node.rows.mode(),
+        links: Vec::new(alloc),
+        region_name: copy_name(alloc, &node.name)?,
+    })
+}
+
+/// Whether the positions of the subregions are ids of regions.
+fn has_few_subregions(south: &SouthConf) -> bool
+    ensures { result ≡ true → subregion_count south.now < 2 ^ 32 }
+{
+    match south {
+        SouthConf::Auto => true,
+        SouthConf::Custom(subregions) => subregions.len() < 4294967296,
+    }
+}
+
+/// What the two ends of a link come to, for one of them.
+fn agree(
+    peer: &TransportPeer,
+    beyond: &TransportPeer,
+    mode: WhatAmI,
+    south: &SouthConf,
+    other_mode: WhatAmI,
+    other_south: &SouthConf,
+) -> Result<(Region, Bound), RegionError>
+    requires own { subregion_count south.now < 2 ^ 32 }
+    requires other { subregion_count other_south.now < 2 ^ 32 }
+    ensures { result
+        ≡ agreed (plain_peer peer.now) (plain_peer beyond.now) mode (plain_south south.now) other_mode (plain_south other_south.now) }
+{
+    match compute_transient_bound_of(peer, other_mode, other_south) {
+        Ok(bound) => compute_region_of(beyond, mode, south, bound),
+        Err(error) => Err(error),
+    }
+}
+
+/// The region of a gateway's face to another, and that one's bound. That there are too many subregions
+/// counts as want of memory.
+pub(crate) fn end_region<K: Key>(
+    alloc: Global,
+    own: &NodeState<K>,
+    other: &NodeState<K>,
+) -> Result<Result<(Region, Bound), RegionError>, Memory>
+    ensures { IfOk result (λ answer. answer ≡ end_region own.now other.now) }
+{
+    let peer = peer_of(alloc, own)?;
+    let beyond = peer_of(alloc, other)?;
+    let south = own.south();
+    let other_south = other.south();
+    if !has_few_subregions(south) || !has_few_subregions(other_south) {
+        return Err(Memory);
+    }
+    let mode = own.rows().mode();
+    let other_mode = other.rows().mode();
+    let answer = agree(&peer, &beyond, mode, south, other_mode, other_south);
+    Ok(answer)
+}
+
+/// The call that opens the face at an end.
+pub(crate) fn end_call<K: Key>(
+    answer: &Result<(Region, Bound), RegionError>,
+    other: &NodeState<K>,
+    first: u32,
+) -> Option<Call<K>>
+    ensures { option_map plain_call result ≡ elim answer.now [
+      | Ok given ↦ Some (NewTransport other.now.rows.zid other.now.rows.mode given.0 given.1 first)
+      | Err e ↦ None
+    ] }
+{
+    match answer {
+        Ok((region, remote_bound)) => Some(Call::NewTransport {
+            zid: other.rows.zid(),
+            whatami: other.rows.mode(),
+            region: *region,
+            remote_bound: *remote_bound,
+            first,
+        }),
+        Err(_) => None,
+    }
+}
+
+/// The gateway at the other end of a face's open link.
+fn gateway_beyond<K: Key>(s: &FabricState<K>, face: u32) -> Option<u32>
+    ensures { result ≡ gateway_beyond s.now face }
+{
+    let link = open_link_of(s.links(), face)?;
+    let other = if face == link.one { link.two } else { link.one };
+    match member_at(s.places(), other) {
+        Some(place) => Some(place.gateway),
+        None => None,
+    }
+}
+
+/// The open link that a face ends.
+fn open_link_of(links: &[LinkState], face: u32) -> Option<&LinkState>
+    ensures { option_copied result ≡ first_where (λ link. link.is_open && is_end_of face link) links.now }
+{
+    for link in links {
+        if link.is_open && is_end_of(link, face) {
+            return Some(link);
+        }
+    }
+    None
+}
+
+/// The first face to the north.
+fn north_face<K: Key>(faces: &[FaceState<K>]) -> Option<&FaceState<K>>
+    ensures { option_copied result ≡ first_where (λ f. is_north f.region) faces.now }
+{
+    for f in faces {
+        if f.region() == Region::North {
+            return Some(f);
+        }
+    }
+    None
+}
+
+/// The gateway above a client gateway, by its north link.
+fn gateway_above<K: Key>(s: &FabricState<K>, gateway: u32) -> Result<Option<u32>, Memory>
+    ensures { IfOk result (λ above. above ≡ gateway_above s.now gateway) }
+{
+    let Some(node) = member_at(s.gateways(), gateway) else {
+        return Ok(None);
+    };
+    if node.rows().mode() != WhatAmI::Client {
+        return Ok(None);
+    }
+    match north_face(node.rows().faces()) {
+        None => Ok(None),
+        Some(f) => Ok(gateway_beyond(s, number_of_place(s.places(), gateway, f.number())?)),
+    }
+}
+
+/// Whether a gateway is another or lies above it, at most so many links away.
+pub(crate) fn climbs_to<K: Key>(
+    s: &FabricState<K>,
+    most: usize,
+    from: u32,
+    to: u32,
+) -> Result<bool, Memory>
+    ensures { IfOk result (λ climbs. climbs ≡ climbs_to most s.now from to) }
+{
+    let mut left = most;
+    let mut at = from;
+    while left > 0 {
+        if at == to {
+            return Ok(true);
+        }
+        match gateway_above(s, at)? {
+            None => return Ok(false),
+            Some(above) => at = above,
+        }
+        left -= 1;
+    }
+    Ok(at == to)
+}
+
+/// Opens the face at an end of a link; answers what is said then. After want of memory the fabric is to be
+/// dropped.
+fn open_end<K: Key>(
+    alloc: Global,
+    s: &mut FabricState<K>,
+    gateway: u32,
+    call: &Call<K>,
+) -> Result<Vec<Sent<K>>, Memory>
+    requires opens { opens_face (plain_call call.now) ≡ true }
+    requires order { FabricIsInOrder K.cmp K.matching s.old }
+    ensures says { IfOk result (λ sent. sent.items
+        ≡ said_at K.cmp K.matching (opened_at K.cmp K.matching (call_at s.old gateway (plain_call call.now)) s.old) (call_at s.old gateway (plain_call call.now))) }
+    ensures does { OnOk result (s.new
+        ≡ after_opening K.cmp K.matching (call_at s.old gateway (plain_call call.now)) s.old) }
+{
+    match place_of_number(s.gateways(), gateway) {
+        None => Ok(Vec::new(alloc)),
+        Some(at) => {
+            let face = next_face(s.gateways()[at].rows())?;
+            s.push_place(gateway, face)?;
+            let prepared = prepare(alloc, s, at, gateway, call)?;
+            let _ = s.put_rows(at, prepared.rows);
+            Ok(prepared.printed)
+        }
+    }
+}
+
+/// The number of the face that is placed next. That it has none counts as want of memory.
+fn next_number(count: usize) -> Result<u32, Memory>
+    ensures { IfOk result (λ number. number ≡ count + 1) }
+{
+    if count >= u32::MAX as usize {
+        return Err(Memory);
+    }
+    Ok(count as u32 + 1)
+}
+
+/// Opens the faces of a link between two gateways, one after the other, and makes the link. After want of
+/// memory the fabric is to be dropped.
+pub(crate) fn make_link<K: Key>(
+    alloc: Global,
+    s: &mut FabricState<K>,
+    one: u32,
+    forth: &Call<K>,
+    two: u32,
+    back: &Call<K>,
+) -> Result<Vec<Sent<K>>, Memory>
+    requires opens_forth { opens_face (plain_call forth.now) ≡ true }
+    requires opens_back { opens_face (plain_call back.now) ≡ true }
+    requires order { FabricIsInOrder K.cmp K.matching s.old }
+    requires order_between { FabricIsInOrder K.cmp K.matching (opened_by_call K.cmp K.matching one (plain_call forth.now) s.old) }
+    ensures says { IfOk result (λ sent. sent.items ≡ sorted_by_face
+        (said_by_opening K.cmp K.matching one (plain_call forth.now) s.old
+        ++ said_by_opening K.cmp K.matching two (plain_call back.now) (opened_by_call K.cmp K.matching one (plain_call forth.now) s.old))) }
+    ensures does { IfOk result (λ sent. s.new ≡ record
+        (opened_by_call K.cmp K.matching two (plain_call back.now) (opened_by_call K.cmp K.matching one (plain_call forth.now) s.old))
+        { links = (with_link s.old).links; waiting = map (row_after None sent.items) (with_link s.old).waiting }) }
+{
+    let face = next_number(s.places().len())?;
+    let other = next_number(face as usize)?;
+    let mut printed = open_end(alloc, s, one, forth)?;
+    let mut second = open_end(alloc, s, two, back)?;
+    printed.append(&mut second)?;
+    let sent = sort_by_face(alloc, printed)?;
+    s.push_link(alloc, face, other)?;
+    let waiting = queues_after(alloc, s.waiting(), None, sent.as_slice())?;
+    s.put_waiting(waiting);
+    Ok(sent)
+}
+
+/// Whether a call needs more ids than are left, where its gateway exists.
+fn spends_at<K: Key>(
+    alloc: Global,
+    s: &FabricState<K>,
+    gateway: u32,
+    call: &Call<K>,
+) -> Result<bool, Memory>
+    ensures { IfOk result (λ spends. spends ≡ is_some_and (call_at s.now gateway (plain_call call.now)) (λ at. spends_ids K.cmp K.matching at.call at.rows)) }
+{
+    match member_at(s.gateways(), gateway) {
+        None => Ok(false),
+        Some(node) => spends_ids(alloc, node.rows(), call),
+    }
+}
+
+/// Whether one of the calls that open the faces of a link needs more ids than are left; the second is made
+/// on the fabric that the first leaves.
+pub(crate) fn spends_for_link<K: Key>(
+    alloc: Global,
+    s: &FabricState<K>,
+    one: u32,
+    forth: &Call<K>,
+    two: u32,
+    back: &Call<K>,
+) -> Result<bool, Memory>
+    requires opens { opens_face (plain_call forth.now) ≡ true }
+    requires order { FabricIsInOrder K.cmp K.matching s.now }
+    ensures { IfOk result (λ spends. spends
+        ≡ (is_some_and (call_at s.now one (plain_call forth.now)) (λ at. spends_ids K.cmp K.matching at.call at.rows)
+        || is_some_and (call_at (opened_by_call K.cmp K.matching one (plain_call forth.now) s.now) two (plain_call back.now)) (λ at. spends_ids K.cmp K.matching at.call at.rows))) }
+{
+    if spends_at(alloc, s, one, forth)? {
+        return Ok(true);
+    }
+    let mut draft = copy_fabric(alloc, s)?;
+    let _ = open_end(alloc, &mut draft, one, forth)?;
+    spends_at(alloc, &draft, two, back)
+}

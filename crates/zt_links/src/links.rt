@@ -1,0 +1,83 @@
+// The directions of links, and what waits in them.
+ghost use Rattle.std.specs.Prelude.{◌≡◌, Some};
+ghost use Rattle.std.specs.Option.{option_copied};
+ghost use Rattle.zt_model.specs.Fabric.{is_linked_face, is_open_link};
+ghost use Rattle.zt_model.specs.Linking.{is_end_of, oldest, sending_end, speaking_end, waiting_of};
+
+use crate::places::member_at;
+use crate::state::{FabricState, LinkState, QueueState};
+use zt_keys::Key;
+use zt_protocol::Message;
+
+/// The face whose messages a direction of a link takes.
+pub(crate) fn sending_end(link: &LinkState, back: bool) -> u32
+    ensures { result ≡ sending_end link.now back }
+{
+    if back { link.two } else { link.one }
+}
+
+/// The face at the other end, which speaks them.
+pub(crate) fn speaking_end(link: &LinkState, back: bool) -> u32
+    ensures { result ≡ speaking_end link.now back }
+{
+    if back { link.one } else { link.two }
+}
+
+/// The messages of a queue.
+fn messages_of<K: Key>(queue: &QueueState<K>) -> &[Message<K>]
+    ensures { result.now ≡ queue.now.1 }
+{
+    queue.messages.as_slice()
+}
+
+/// The messages that wait for the other end of a face's link, oldest first.
+fn waiting_of<K: Key>(s: &FabricState<K>, face: u32) -> &[Message<K>]
+    ensures { result.now ≡ waiting_of s.now face }
+{
+    for queue in &s.waiting {
+        if face == queue.face {
+            return messages_of(queue);
+        }
+    }
+    &[]
+}
+
+/// The oldest message that waits in a direction of a link.
+pub(crate) fn oldest<'a, K: Key>(
+    s: &'a FabricState<K>,
+    link: &LinkState,
+    back: bool,
+) -> Option<&'a Message<K>>
+    ensures { option_copied result ≡ oldest s.now link.now back }
+{
+    match waiting_of(s, sending_end(link, back)) {
+        [first, ..] => Some(first),
+        [] => None,
+    }
+}
+
+/// Whether a link exists and is open.
+pub(crate) fn is_open_link<K: Key>(s: &FabricState<K>, link: u32) -> bool
+    ensures { result ≡ is_open_link s.now link }
+{
+    match member_at(s.links.as_slice(), link) {
+        Some(link) => link.is_open,
+        None => false,
+    }
+}
+
+/// Whether a face ends the link.
+pub(crate) fn is_end_of(link: &LinkState, face: u32) -> bool
+    ensures { result ≡ is_end_of face link.now }
+{
+    face == link.one || face == link.two
+}
+
+/// Whether a face ends an open link.
+pub(crate) fn is_linked_face<K: Key>(s: &FabricState<K>, face: u32) -> bool
+    ensures { result ≡ is_linked_face s.now (Some face) }
+{
+    s.links
+        .iter()
+        .any(|link| link.is_open && is_end_of(link, face))
+}

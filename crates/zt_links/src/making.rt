@@ -1,0 +1,217 @@
+// Calls that are carried out at their gateways.
+ghost use Rattle.std.specs.Prelude.{◌≡◌, ◌+◌, ◌<◌, true, false, [], ◌∷◌, Some, length, None, IfOk, IfSome, OnOk, OnErr};
+ghost use Rattle.zt_model.specs.Fabric.{after_hearing, altered_at, call_at, opened_at, said_at, sorted_by_face, with_place, with_waiting};
+ghost use Rattle.zt_model.specs.Lists.{nth};
+ghost use Rattle.zt_model.specs.Places.{Node};
+ghost use Rattle.zt_model.specs.Says.{said};
+ghost use Rattle.zt_protocol.specs.Plain.{plain_call};
+ghost use Rattle.zt_laws.specs.Order.{FabricIsInOrder};
+ghost use Rattle.zt_laws.specs.Sound.{opens_face, rows_after_call};
+ghost use Rattle.zt_links.specs.Lines.{carried, made_at, said_sorted, taken_by};
+
+use crate::calls::CallMade;
+use crate::places::place_of_number;
+use crate::printing::print_all;
+use crate::queues::queues_after;
+use crate::sorting::sort_by_face;
+use crate::state::FabricState;
+use std::alloc::Global;
+use zt_calls::carry_out;
+use zt_keys::{Key, Memory};
+use zt_protocol::{Call, Message, Sent};
+use zt_state::GatewayState;
+
+/// A gateway after a call, and what the call says.
+#[derive(Drop)]
+struct Called<K: Key> {
+    rows: GatewayState<K>,
+    sends: Vec<(u32, Message<K>)>,
+}
+
+/// A gateway after a call, and what the call says as it is printed.
+#[derive(Drop)]
+pub(crate) struct Prepared<K: Key> {
+    pub(crate) rows: GatewayState<K>,
+    pub(crate) printed: Vec<Sent<K>>,
+}
+
+fn opens_face<K: Key>(call: &Call<K>) -> bool
+    ensures { result ≡ opens_face (plain_call call.now) }
+{
+    matches!(call, Call::NewSession { .. } | Call::NewTransport { .. })
+}
+
+/// Carries out a call on a copy of its gateway.
+fn call_on_copy<K: Key>(
+    alloc: Global,
+    g: &GatewayState<K>,
+    call: &Call<K>,
+) -> Result<Called<K>, Memory>
+    ensures rows { IfOk result (λ called. called.rows
+        ≡ rows_after_call K.cmp K.matching (plain_call call.now) g.now) }
+    ensures sends { IfOk result (λ called. called.sends.items
+        ≡ said K.cmp K.matching (plain_call call.now) g.now) }
+{
+    // A face has a place, and there are fewer places than numbers: this is never so.
+    if opens_face(call) && g.made() == u32::MAX {
+        return Err(Memory);
+    }
+    let mut rows = g.copy(alloc)?;
+    let sends = carry_out(alloc, &mut rows, call)?;
+    Ok(Called { rows, sends })
+}
+
+/// The oldest message of a face's link is taken. After want of memory nothing is changed.
+pub(crate) fn take_message<K: Key>(
+    alloc: Global,
+    s: &mut FabricState<K>,
+    taken: Option<u32>,
+) -> Result<(), Memory>
+    ensures ok { OnOk result (s.new ≡ taken_by taken s.old) }
+    ensures err { OnErr result (s.new ≡ s.old) }
+{
+    if taken.is_some() {
+        let nothing = Vec::new(alloc);
+        let waiting = queues_after(alloc, s.waiting(), taken, nothing.as_slice())?;
+        s.put_waiting(waiting);
+    }
+    Ok(())
+}
+
+/// Carries out a call on a copy of the gateway of a number.
+pub(crate) fn prepare<K: Key>(
+    alloc: Global,
+    s: &FabricState<K>,
+    at: usize,
+    gateway: u32,
+    call: &Call<K>,
+) -> Result<Prepared<K>, Memory>
+    requires within { at < length s.now.gateways }
+    requires counted { gateway ≡ at + 1 }
+    ensures rows { IfOk result (λ prepared. (node : Node K) → nth gateway s.now.gateways ≡ Some node
+        → prepared.rows ≡ rows_after_call K.cmp K.matching (plain_call call.now) node.rows) }
+    ensures printed { IfOk result (λ prepared. prepared.printed.items
+        ≡ said_at K.cmp K.matching s.now (call_at s.now gateway (plain_call call.now))) }
+{
+    let called = call_on_copy(alloc, s.gateways()[at].rows(), call)?;
+    let printed = print_all(alloc, s.places(), gateway, called.sends)?;
+    Ok(Prepared {
+        rows: called.rows,
+        printed,
+    })
+}
+
+/// Carries out a call at its gateway, where the oldest message of a face's link may be taken. After want of
+/// memory nothing is changed.
+pub(crate) fn carry_at<K: Key>(
+    alloc: Global,
+    s: &mut FabricState<K>,
+    taken: Option<u32>,
+    at: usize,
+    gateway: u32,
+    call: &Call<K>,
+) -> Result<Vec<Sent<K>>, Memory>
+    requires within { at < length s.old.gateways }
+    requires counted { gateway ≡ at + 1 }
+    ensures says { IfOk result (λ sent. sent.items
+        ≡ said_sorted K.cmp K.matching gateway (plain_call call.now) s.old) }
+    ensures does { OnOk result (s.new ≡ carried K.cmp K.matching taken gateway (plain_call call.now) s.old) }
+    ensures err { OnErr result (s.new ≡ s.old) }
+{
+    let prepared = prepare(alloc, s, at, gateway, call)?;
+    let sent = sort_by_face(alloc, prepared.printed)?;
+    let waiting = queues_after(alloc, s.waiting(), taken, sent.as_slice())?;
+    let _ = s.put_rows(at, prepared.rows);
+    s.put_waiting(waiting);
+    Ok(sent)
+}
+
+/// Makes the one call of a line that opens no face, where its gateway or face exists. The oldest message
+/// of a face's link may be taken. After want of memory nothing is changed.
+pub(crate) fn make_call<K: Key>(
+    alloc: Global,
+    s: &mut FabricState<K>,
+    taken: Option<u32>,
+    made: &Option<CallMade<K>>,
+) -> Result<Vec<Sent<K>>, Memory>
+    requires still { IfSome made.now (λ made. opens_face made.1 ≡ false) }
+    requires order { FabricIsInOrder K.cmp K.matching s.old }
+    ensures says { IfOk result (λ sent. sent.items
+        ≡ sorted_by_face (said_at K.cmp K.matching s.old (made_at s.old made.now))) }
+    ensures does { IfOk result (λ sent. s.new
+        ≡ with_waiting sent.items (after_hearing K.cmp sent.items
+        (altered_at K.cmp K.matching (taken_by taken s.old) (made_at s.old made.now)))) }
+    ensures err { OnErr result (s.new ≡ s.old) }
+{
+    let Some(made) = made else {
+        take_message(alloc, s, taken)?;
+        return Ok(Vec::new(alloc));
+    };
+    match place_of_number(s.gateways(), made.gateway) {
+        None => {
+            take_message(alloc, s, taken)?;
+            Ok(Vec::new(alloc))
+        }
+        Some(at) => carry_at(alloc, s, taken, at, made.gateway, &made.call),
+    }
+}
+
+/// The number of the face that a gateway makes next. That it has none counts as want of memory; there are
+/// fewer places than numbers, so this is never so.
+pub(crate) fn next_face<K: Key>(g: &GatewayState<K>) -> Result<u32, Memory>
+    ensures { IfOk result (λ face. face ≡ g.now.made + 1) }
+{
+    g.made().checked_add(1).ok_or(Memory)
+}
+
+/// Opens a face at its gateway, where its place stands last. After want of memory nothing is changed.
+fn open_at<K: Key>(
+    alloc: Global,
+    s: &mut FabricState<K>,
+    at: usize,
+    gateway: u32,
+    call: &Call<K>,
+) -> Result<Vec<Sent<K>>, Memory>
+    requires within { at < length s.old.gateways }
+    requires counted { gateway ≡ at + 1 }
+    ensures says { IfOk result (λ sent. sent.items
+        ≡ said_sorted K.cmp K.matching gateway (plain_call call.now) (with_place gateway s.old)) }
+    ensures does { OnOk result (s.new
+        ≡ carried K.cmp K.matching None gateway (plain_call call.now) (with_place gateway s.old)) }
+    ensures err { OnErr result (s.new ≡ s.old) }
+{
+    let face = next_face(s.gateways()[at].rows())?;
+    s.push_place(gateway, face)?;
+    match carry_at(alloc, s, None, at, gateway, call) {
+        Ok(sent) => Ok(sent),
+        Err(error) => {
+            s.pop_place();
+            Err(error)
+        }
+    }
+}
+
+/// Makes the call of a line that opens a face, where its gateway exists. After want of memory nothing is
+/// changed.
+pub(crate) fn open_face<K: Key>(
+    alloc: Global,
+    s: &mut FabricState<K>,
+    made: &Option<CallMade<K>>,
+) -> Result<Vec<Sent<K>>, Memory>
+    requires opens { IfSome made.now (λ made. opens_face made.1 ≡ true) }
+    requires order { FabricIsInOrder K.cmp K.matching s.old }
+    ensures says { IfOk result (λ sent. sent.items
+        ≡ sorted_by_face (said_at K.cmp K.matching (opened_at K.cmp K.matching (made_at s.old made.now) s.old) (made_at s.old made.now))) }
+    ensures does { IfOk result (λ sent. s.new
+        ≡ with_waiting sent.items (after_hearing K.cmp sent.items
+        (opened_at K.cmp K.matching (made_at s.old made.now) s.old))) }
+    ensures err { OnErr result (s.new ≡ s.old) }
+{
+    let Some(made) = made else {
+        return Ok(Vec::new(alloc));
+    };
+    match place_of_number(s.gateways(), made.gateway) {
+        None => Ok(Vec::new(alloc)),
+        Some(at) => open_at(alloc, s, at, made.gateway, &made.call),
+    }
+}

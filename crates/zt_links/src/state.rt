@@ -1,0 +1,266 @@
+// What a fabric keeps: gateways, the places of their faces, links, and what waits on them.
+ghost use Rattle.std.specs.Prelude.{◌≡◌, ◌+◌, ◌<◌, ◌++◌, [], ◌∷◌, false, true, Some, length, vec_len, OnOk, OnErr};
+ghost use Rattle.zt_model.specs.Fabric.{at_nth, empty_fabric, with_gateway, with_rows};
+ghost use Rattle.zt_model.specs.Lists.{nth};
+ghost use Rattle.zt_region.specs.South.{plain_south as plain_south_of};
+ghost use Rattle.zt_model.specs.Places.{Fabric as FabricValue, Node, Place};
+
+use std::alloc::Global;
+use std::marker::Model;
+use std::mem;
+use zt_keys::{Key, Memory};
+use zt_protocol::Message;
+use zt_region::SouthConf;
+use zt_state::GatewayState;
+
+/// A gateway with what its links are made by: its configuration of the south, and its name.
+#[derive(Drop)]
+pub(crate) struct NodeState<K: Key> {
+    pub(crate) rows: GatewayState<K>,
+    pub(crate) south: SouthConf,
+    pub(crate) name: Option<String>,
+}
+
+impl<K: Key> Model for NodeState<K> {
+    ghost use Rattle.std.specs.Prelude.{option_map, string_bytes};
+    ghost use Rattle.zt_model.specs.Places.{Node};
+    ghost use Rattle.zt_region.specs.South.{plain_south};
+
+    ghost Value = { Node K };
+
+    ghost view = { λ n. record { rows = n.rows; south = plain_south n.south; name = option_map string_bytes n.name } };
+}
+
+impl<K: Key> NodeState<K> {
+    /// The gateway.
+    pub(crate) fn rows(&self) -> &GatewayState<K>
+        ensures { result.now ≡ self.now.rows }
+    {
+        &self.rows
+    }
+
+    /// The configuration of the south.
+    pub(crate) fn south(&self) -> &SouthConf
+        ensures { plain_south_of result.now ≡ self.now.south }
+    {
+        &self.south
+    }
+}
+
+/// Where a face is: its gateway, and its number there.
+#[derive(Drop)]
+pub(crate) struct PlaceState {
+    pub(crate) gateway: u32,
+    pub(crate) face: u32,
+}
+
+impl Model for PlaceState {
+    ghost use Rattle.zt_model.specs.Places.{Place};
+
+    ghost Value = { Place };
+
+    ghost view = { λ p. record { gateway = p.gateway; face = p.face } };
+}
+
+/// The two faces that a link joins, and whether it is open.
+#[derive(Drop)]
+pub(crate) struct LinkState {
+    pub(crate) one: u32,
+    pub(crate) two: u32,
+    pub(crate) is_open: bool,
+}
+
+impl Model for LinkState {
+    ghost use Rattle.zt_model.specs.Places.{Link};
+
+    ghost Value = { Link };
+
+    ghost view = { λ l. record { one = l.one; two = l.two; is_open = l.is_open } };
+}
+
+/// What waits, from a face that ends a link, for the other end, oldest first.
+#[derive(Drop)]
+pub(crate) struct QueueState<K: Key> {
+    pub(crate) face: u32,
+    pub(crate) messages: Vec<Message<K>>,
+}
+
+impl<K: Key> Model for QueueState<K> {
+    ghost use Rattle.std.specs.Prelude.{ℕ, List};
+    ghost use Rattle.zt_protocol.specs.declared.messages.Message.{Message as MessageValue};
+
+    ghost Value = { ℕ × List (MessageValue K) };
+
+    ghost view = { λ q. (q.face, q.messages.items) };
+}
+
+/// Gateways, the places of all faces, the links and what waits on them, each numbered from 1 in order
+/// of making.
+#[derive(Drop)]
+pub(crate) struct FabricState<K: Key> {
+    pub(crate) gateways: Vec<NodeState<K>>,
+    pub(crate) places: Vec<PlaceState>,
+    pub(crate) links: Vec<LinkState>,
+    pub(crate) waiting: Vec<QueueState<K>>,
+}
+
+impl<K: Key> Model for FabricState<K> {
+    ghost use Rattle.zt_model.specs.Places.{Fabric as FabricValue};
+
+    ghost Value = { FabricValue K };
+
+    ghost view = { λ s. record {
+      gateways = s.gateways.items;
+      faces = s.places.items;
+      links = s.links.items;
+      waiting = s.waiting.items;
+    } };
+}
+
+impl<K: Key> FabricState<K> {
+    /// No gateways.
+    pub(crate) fn new(alloc: Global) -> Self
+        ensures { result ≡ empty_fabric }
+    {
+        FabricState {
+            gateways: Vec::new(alloc),
+            places: Vec::new(alloc),
+            links: Vec::new(alloc),
+            waiting: Vec::new(alloc),
+        }
+    }
+
+    /// The gateways.
+    pub(crate) fn gateways(&self) -> &[NodeState<K>]
+        ensures { result.now ≡ self.now.gateways }
+    {
+        self.gateways.as_slice()
+    }
+
+    /// The places of the faces.
+    pub(crate) fn places(&self) -> &[PlaceState]
+        ensures { result.now ≡ self.now.faces }
+    {
+        self.places.as_slice()
+    }
+
+    /// The links.
+    pub(crate) fn links(&self) -> &[LinkState]
+        ensures { result.now ≡ self.now.links }
+    {
+        self.links.as_slice()
+    }
+
+    /// What waits.
+    pub(crate) fn waiting(&self) -> &[QueueState<K>]
+        ensures { result.now ≡ self.now.waiting }
+    {
+        self.waiting.as_slice()
+    }
+
+    /// A gateway's rows are replaced; answers the former ones.
+    pub(crate) fn put_rows(&mut self, at: usize, rows: GatewayState<K>) -> GatewayState<K>
+        requires { at < length self.old.gateways }
+        ensures put { self.new ≡ with_rows (at + 1) (λ _. rows) self.old }
+        ensures former { (node : Node K) → nth (at + 1) self.old.gateways ≡ Some node → result ≡ node.rows }
+    {
+        put_rows_at(&mut self.gateways, at, rows)
+    }
+
+    /// A gateway is put behind the others. After want of memory nothing is changed.
+    pub(crate) fn push_gateway(&mut self, node: NodeState<K>) -> Result<(), Memory>
+        ensures ok { OnOk result (self.new ≡ with_gateway node self.old) }
+        ensures err { OnErr result (self.new ≡ self.old) }
+    {
+        self.gateways.push(node)?;
+        Ok(())
+    }
+
+    /// A place is put behind the others. After want of memory nothing is changed.
+    pub(crate) fn push_place(&mut self, gateway: u32, face: u32) -> Result<(), Memory>
+        ensures ok { OnOk result (self.new
+            ≡ record self.old { faces = self.old.faces ++ record { gateway = gateway; face = face } ∷ [] }) }
+        ensures err { OnErr result (self.new ≡ self.old) }
+    {
+        self.places.push(PlaceState { gateway, face })?;
+        Ok(())
+    }
+
+    /// The last place is taken away again.
+    pub(crate) fn pop_place(&mut self)
+        ensures { (before : FabricValue K) (place : Place)
+            → self.old ≡ record before { faces = before.faces ++ place ∷ [] } → self.new ≡ before }
+    {
+        let _ = self.places.pop();
+    }
+
+    /// An open link between two faces is put behind the others, and nothing waits on it. After want of
+    /// memory the fabric is to be dropped.
+    pub(crate) fn push_link(&mut self, alloc: Global, one: u32, two: u32) -> Result<(), Memory>
+        ensures { OnOk result (self.new ≡ record self.old {
+          links = self.old.links ++ record { one = one; two = two; is_open = true } ∷ [];
+          waiting = self.old.waiting ++ (one, []) ∷ (two, []) ∷ [];
+        }) }
+    {
+        let link = LinkState {
+            one,
+            two,
+            is_open: true,
+        };
+        self.links.push(link)?;
+        push_queue(alloc, &mut self.waiting, one)?;
+        push_queue(alloc, &mut self.waiting, two)
+    }
+
+    /// A link is closed.
+    pub(crate) fn shut_link(&mut self, at: usize)
+        requires { at < length self.old.links }
+        ensures { self.new
+            ≡ record self.old { links = at_nth (at + 1) (λ l. record l { is_open = false }) self.old.links } }
+    {
+        shut_link_at(&mut self.links, at);
+    }
+
+    /// What waits is replaced.
+    pub(crate) fn put_waiting(&mut self, waiting: Vec<QueueState<K>>)
+        ensures { self.new ≡ record self.old { waiting = waiting.items } }
+    {
+        self.waiting = waiting;
+    }
+}
+
+fn put_rows_at<K: Key>(
+    gateways: &mut Vec<NodeState<K>>,
+    at: usize,
+    rows: GatewayState<K>,
+) -> GatewayState<K>
+    requires { at < vec_len gateways.old }
+    ensures put { gateways.new.items ≡ at_nth (at + 1) (λ node. record node { rows = rows }) gateways.old.items }
+    ensures former { (node : Node K) → nth (at + 1) gateways.old.items ≡ Some node → result ≡ node.rows }
+{
+    let node = &mut gateways[at];
+    mem::replace(&mut node.rows, rows)
+}
+
+fn shut_link_at(links: &mut Vec<LinkState>, at: usize)
+    requires { at < vec_len links.old }
+    ensures { links.new.items ≡ at_nth (at + 1) (λ l. record l { is_open = false }) links.old.items }
+{
+    let link = &mut links[at];
+    link.is_open = false;
+}
+
+fn push_queue<K: Key>(
+    alloc: Global,
+    waiting: &mut Vec<QueueState<K>>,
+    face: u32,
+) -> Result<(), Memory>
+    ensures { OnOk result (waiting.new.items ≡ waiting.old.items ++ (face, []) ∷ []) }
+{
+    let queue = QueueState {
+        face,
+        messages: Vec::new(alloc),
+    };
+    waiting.push(queue)?;
+    Ok(())
+}
