@@ -27,6 +27,12 @@ nothing_left : (left : Option (List ℕ)) (rest : List ℕ) → left ≡ Some re
 nothing_left None rest h e = absurd (cc)
 nothing_left (Some x) rest h e = let same : x ≡ rest = cc in sym same ∙ e
 
+-- what was read of a text up to its end
+pub read_whole : (a left : Option (List ℕ)) (text read : List ℕ) → a ≡ Some text → Consumes a left read → IsAtEnd left → read ≡ text
+read_whole a left text read h taken at_end =
+    let front = front_of a left text read h taken in
+    sym (front.is ∙ ap (λ t. read ++ t) (nothing_left left front.rest front.left_is at_end) ∙ append-nil read)
+
 module _ {K : Type 0} (reading : List ℕ → Result K KeyError) where
   -- no line is bad
   no_bad_line : (before others : List (List ℕ)) (bad : List ℕ) (lines : List (PlainLine K))

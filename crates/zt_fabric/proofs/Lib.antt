@@ -1,4 +1,7 @@
-pub mod FirstIds
+pub mod ReadLines
+pub mod Right
 pub mod CarryLemmas
 pub mod RunLemmas
 pub mod CompleteLemmas
+pub mod MakeLemmas
+pub mod MadeLemmas

@@ -1,2 +1,3 @@
 pub mod Transcripts
 pub mod Carrying
+pub mod Making

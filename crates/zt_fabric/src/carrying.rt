@@ -9,8 +9,8 @@ ghost use Rattle.zt_fabric.specs.Carrying.{Carries, IsInRange, LineStops, Stops,
 
 use std::alloc::Global;
 use zt_keys::Key;
+use zt_links::Fabric;
 use zt_protocol::{Entry, Line, LineError, Report, RunError};
-use zt_sessions::Fabric;
 use zt_streams::{Failed, Feeder, SCRIPT_BYTES, Sink, write_all};
 use zt_wire::{read_line, write_entry};
 

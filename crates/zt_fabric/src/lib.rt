@@ -5,6 +5,7 @@
 #![tactic(auto)]
 
 mod carrying;
+mod making;
 mod program;
 mod running;
 #[cfg(test)]
@@ -12,4 +13,4 @@ mod tests;
 
 pub use program::tool;
 pub use running::run;
-pub use zt_sessions::Fabric;
+pub use zt_links::Fabric;

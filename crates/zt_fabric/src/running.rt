@@ -7,8 +7,8 @@ ghost use Rattle.zt_fabric.specs.Transcripts.{Answers, CountsFaults, GivesComple
 use crate::carrying::{Progress, carry_end, carry_piece, flush};
 use std::alloc::Global;
 use zt_keys::Key;
+use zt_links::Fabric;
 use zt_protocol::{Report, RunError};
-use zt_sessions::Fabric;
 use zt_streams::{Feeder, SCRIPT_BYTES, Sink, Source};
 use zt_wire::write_report;
 

@@ -52,6 +52,16 @@ fn scripts_in_pieces(rt: HostRuntime) -> Result<(), Fail> {
             "1 ok\n2 ok\n3 ok\n> 1 1 final 1\n4 ok\n> 1 1 token 4294967294 0 a\n5 refused IdsSpent\n6 ok\n> 1 1 untoken 4294967294 0\n7 refused IdsSpent\ntotal 7 3 2\n",
         ),
         (
+            b"gateway client 1\nsession 1\ninterest 1 1 current-future t expr=k\nface 1 router 9 north south\ndeclare 1 1 k\ndeclare 2 7 k\nundeclare 2 7\nundeclare 1 1\n",
+            0,
+            "1 ok\n2 ok\n3 ok\n> 1 1 final 1\n4 ok\n> 1 2 interest 1 current-future t k\n5 ok\n> 1 1 token 1 0 k\n> 1 2 token 2 0 k\n6 ok\n7 ok\n8 ok\n> 1 1 untoken 1 0\n> 1 2 untoken 2 0\ntotal 8 6 0\n",
+        ),
+        (
+            b"gateway client 1 regions=south0-client south=zid:2\ngateway client 2 regions=south0-client south=zid:3\ngateway client 3 regions=south0-client south=zid:1\nlink 2 1\nlink 3 2\nlink 1 3\nface 2 router 9 north south\nstep 1 fwd\nstep 9 fwd\ndeclare 1 1 k\nlink 1 2\ngateway client 4\nlink 4 4\nface 4 client 5 south0-client north\n",
+            0,
+            "1 ok\n2 ok\n3 ok\n4 ok\n5 ok\n6 refused WouldLoop\n7 refused NorthTaken\n8 refused EmptyLink\n9 refused UnknownLink\n10 refused LinkedFace\n11 refused NorthTaken\n12 ok\n13 refused RegionConflict\n14 refused NoSuchRegion\ntotal 14 0 8\n",
+        ),
+        (
             b"gateway client 1\nsession 1",
             0,
             "1 ok\n2 ok\ntotal 2 0 0\n",
@@ -80,6 +90,19 @@ fn faults_and_words(rt: HostRuntime) -> Result<(), Fail> {
         (["run"].as_slice(), (NEVER, 1), (4, "1 ok\n")),
         (["frob"].as_slice(), (0, 0), (64, "")),
         (["run", "x"].as_slice(), (0, 0), (64, "")),
+        (["make", "1"].as_slice(), (0, NEVER), (0, "total 16 9 0\n")),
+        (
+            ["make", "30"].as_slice(),
+            (0, NEVER),
+            (0, "total 219 183 0\n"),
+        ),
+        (["make", "1"].as_slice(), (0, 0), (4, "")),
+        (["make", "0"].as_slice(), (0, 0), (64, "")),
+        (["make", "2001"].as_slice(), (0, 0), (64, "")),
+        (["make", "01"].as_slice(), (0, 0), (64, "")),
+        (["make", "x"].as_slice(), (0, 0), (64, "")),
+        (["make"].as_slice(), (0, 0), (64, "")),
+        (["make", "1", "1"].as_slice(), (0, 0), (64, "")),
     ] {
         let got = outcome(&rt, words, OWN_TOKEN_SHOWN.as_bytes(), 8, failing)?;
         assert_eq!(rt;

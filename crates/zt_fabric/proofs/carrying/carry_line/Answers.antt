@@ -1,7 +1,7 @@
 use Rattle.zt_protocol.specs.Plain.{plain_line, plain_entry}
 use Rattle.std.proofs.Common.{string_bytes, arith}
 use Rattle.std.proofs.lemmas.Grind.{common_steps}
-use Rattle.zt_fabric.proofs.FirstIds.{first_ids_read}
+use Rattle.zt_fabric.proofs.ReadLines.{first_ids_read}
 use Rattle.zt_fabric.proofs.CarryLemmas.{carries-one}
 use Rattle.zt_fabric.proofs.carrying.carry_line.Goals as goal
 

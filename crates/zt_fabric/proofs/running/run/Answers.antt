@@ -1,13 +1,12 @@
 use Rattle.std.proofs.Common.{Err, ℕ, ◌-◌, ◌≡◌, length, take, refl, ap, subst, ◌∙◌, arith}
 use Rattle.std.proofs.lemmas.List.{length-take}
 use Rattle.std.specs.Io.KnownBytes.{Consumes}
-use Rattle.zt_laws.proofs.Faithful.{right_from_start}
 use Rattle.zt_streams.specs.Lines.{whole_lines}
 use Rattle.zt_streams.proofs.LineLemmas.{whole_lines-rest_of}
-use Rattle.zt_model.specs.Fabric.{empty_fabric}
 use Rattle.zt_protocol.specs.declared.errors.RunError.TheVariants as errors
 use Rattle.zt_fabric.specs.Transcripts.{streams}
 use Rattle.zt_fabric.proofs.CompleteLemmas.{complete}
+use Rattle.zt_fabric.proofs.Right.{right_of_lines}
 use Rattle.zt_fabric.proofs.RunLemmas.{fed-front, so_far-next, so_far-end, so_far-start, stopped, finished, too_long, read_failed}
 use Rattle.zt_fabric.proofs.running.run.Goals as goal
 
@@ -27,7 +26,7 @@ loop-reads-init g c = record {
 pub returns-in_default-clause-answers : goal.returns-in_default-clause-answers
 returns-in_default-clause-answers g c =
     read_failed g.K.Ord.cmp g.K.Key.matching g.K.Key.reading g.K.Key.printed
-    (right_from_start g.K.Ord.cmp g.K.Key.matching g.met.K.Ord.total g.met.K.Key.laws.equal_is_same)
+    (right_of_lines g.K.Ord.cmp g.K.Key.matching g.met.K.Ord.total g.met.K.Key.laws.equal_is_same)
     (g.S.Source.left c.args.source.now) (g.T.Sink.written c.args.sink.now) (g.S.Source.left c.loop-reads.source) (g.T.Sink.written c.loop-reads.sink) (g.S.Source.left c.read.new.self)
     c.loop-reads.run.fabric c.loop-reads.run.report c.loop-reads.feeder c.loop-reads.total
     (g.S.Source.faults c.args.source.now) (g.S.Source.faults c.loop-reads.source) (g.S.Source.faults c.read.new.self) (g.T.Sink.faults c.args.sink.now) (g.T.Sink.faults c.loop-reads.sink)
@@ -40,7 +39,7 @@ finish-requires-clause-whole g c =
 pub returns-then-count-eq0-clause-answers : goal.returns-then-count-eq0-clause-answers
 returns-then-count-eq0-clause-answers g c =
     finished g.K.Ord.cmp g.K.Key.matching g.K.Key.reading g.K.Key.printed
-    (right_from_start g.K.Ord.cmp g.K.Key.matching g.met.K.Ord.total g.met.K.Key.laws.equal_is_same)
+    (right_of_lines g.K.Ord.cmp g.K.Key.matching g.met.K.Ord.total g.met.K.Key.laws.equal_is_same)
     (g.S.Source.left c.args.source.now) (g.T.Sink.written c.args.sink.now) (g.S.Source.left c.read.new.self) (g.T.Sink.written c.loop-reads.sink) (g.T.Sink.written c.finish.new.sink)
     c.loop-reads.run.fabric c.loop-reads.run.report c.loop-reads.feeder c.loop-reads.total
     (g.S.Source.faults c.args.source.now) (g.S.Source.faults c.read.new.self) (g.T.Sink.faults c.args.sink.now) (g.T.Sink.faults c.loop-reads.sink) (g.T.Sink.faults c.finish.new.sink) c.finish.result
@@ -55,7 +54,7 @@ returns-in-Err-clause-answers g c =
     let so_far = c.loop-reads.invariant.so_far in
     let n = c.min-in-loop-reads.result in
     stopped g.K.Ord.cmp g.K.Key.matching g.K.Key.reading g.K.Key.printed
-    (right_from_start g.K.Ord.cmp g.K.Key.matching g.met.K.Ord.total g.met.K.Key.laws.equal_is_same)
+    (right_of_lines g.K.Ord.cmp g.K.Key.matching g.met.K.Ord.total g.met.K.Key.laws.equal_is_same)
     (g.S.Source.left c.args.source.now) (g.T.Sink.written c.args.sink.now) (g.S.Source.left c.loop-reads.source) (g.T.Sink.written c.loop-reads.sink) (g.S.Source.left c.read.new.self) (g.T.Sink.written c.carry_piece.new.sink)
     c.loop-reads.run.fabric c.loop-reads.run.report c.loop-reads.feeder c.loop-reads.total
     (g.S.Source.faults c.args.source.now) (g.S.Source.faults c.read.new.self) (g.T.Sink.faults c.args.sink.now) (g.T.Sink.faults c.loop-reads.sink) (g.T.Sink.faults c.carry_piece.new.sink)
@@ -69,7 +68,7 @@ returns-then-count-room-clause-answers g c =
     let so_far = c.loop-reads.invariant.so_far in
     let n = c.min-in-loop-reads.result in
     too_long g.K.Ord.cmp g.K.Key.matching g.K.Key.reading g.K.Key.printed
-    (right_from_start g.K.Ord.cmp g.K.Key.matching g.met.K.Ord.total g.met.K.Key.laws.equal_is_same)
+    (right_of_lines g.K.Ord.cmp g.K.Key.matching g.met.K.Ord.total g.met.K.Key.laws.equal_is_same)
     (g.S.Source.left c.args.source.now) (g.T.Sink.written c.args.sink.now) (g.S.Source.left c.loop-reads.source) (g.T.Sink.written c.loop-reads.sink) (g.S.Source.left c.read.new.self) (g.T.Sink.written c.carry_piece.new.sink)
     c.loop-reads.run.fabric c.carry_piece.new.run.fabric c.loop-reads.run.report c.carry_piece.new.run.report c.loop-reads.feeder c.loop-reads.total
     (g.S.Source.faults c.args.source.now) (g.S.Source.faults c.read.new.self) (g.T.Sink.faults c.args.sink.now) (g.T.Sink.faults c.carry_piece.new.sink)
