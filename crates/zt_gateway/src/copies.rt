@@ -29,8 +29,8 @@ pub(crate) fn copy_option<K: Key>(alloc: Global, expr: Option<&K>) -> Result<Opt
     }
 }
 
-// Copies of keys. The only error is want of memory.
-pub(crate) fn copy_keys<K: Key>(alloc: Global, keys: &[K]) -> Result<Vec<K>, Memory>
+/// Copies of keys, in their order. The only error is want of memory.
+pub fn copy_keys<K: Key>(alloc: Global, keys: &[K]) -> Result<Vec<K>, Memory>
     ensures { IfOk result (λ copies. copies.items ≡ keys.now) }
 {
     let mut copies = Vec::new(alloc);
@@ -40,8 +40,8 @@ pub(crate) fn copy_keys<K: Key>(alloc: Global, keys: &[K]) -> Result<Vec<K>, Mem
     Ok(copies)
 }
 
-// Copies of queryables. The only error is want of memory.
-pub(crate) fn copy_queryables<K: Key>(
+/// Copies of queryables with their keys, in their order. The only error is want of memory.
+pub fn copy_queryables<K: Key>(
     alloc: Global,
     queryables: &[(K, QueryableInfo)],
 ) -> Result<Vec<(K, QueryableInfo)>, Memory>

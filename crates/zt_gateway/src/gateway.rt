@@ -1,5 +1,5 @@
 // A gateway, and the calls on it.
-ghost use Rattle.std.specs.Prelude.{◌≡◌, Ok, map, IfErr, IfOk, None, OnErr, OnOk};
+ghost use Rattle.std.specs.Prelude.{◌≡◌, [], Ok, map, IfErr, IfOk, None, OnErr, OnOk};
 ghost use Rattle.zt_gateway.specs.Running.{IsRefusedBy, by_face, called, next_waiting, oldest_for, planned, without_oldest, sent_alone};
 ghost use Rattle.zt_kept.specs.Sound.{IsSound};
 ghost use Rattle.zt_laws.specs.Sound.{CallHasFirstIds};
@@ -148,6 +148,13 @@ impl<K: Key> Gateway<K> {
         ensures left { self.new ≡ record self.old { waiting = without_oldest face self.old.waiting } }
     {
         take_oldest(&mut self.outbox, face)
+    }
+
+    /// Drops all messages that wait. This takes no memory.
+    pub fn clear_outbox(&mut self)
+        ensures { self.new ≡ record self.old { waiting = [] } }
+    {
+        self.outbox.clear();
     }
 
     /// The least face above this one for which a message waits. None exactly where there is none.
