@@ -39,11 +39,11 @@ after g c =
     ∙ ap (λ (sent : List (Sent K)). ended left (Ok sent) c.commit-made.result) c.in_ok-sent.ensures
     ∙ ap (λ (made : Option ℕ). ended left (Ok (map sent_alone (by_face c.args.prepared.said))) made) c.commit-made.ensures.made
     ∙ subst
-      (λ (j : Recorded K). record { opening = inside.opening; gateway = record { rows = c.args.prepared.after.rows; waiting = [] }; entries = inside.entries ++ record { pass = c.args.pass; call = call; made = c.args.prepared.made; outcome = Ok (map sent_alone (by_face c.args.prepared.said)) } ∷ [] } ≡ entered cmp matching c.args.pass call j)
-      c.self.view_is
-      (entered_prepared cmp matching c.args.pass call inside c.args.prepared
-        (subst (λ (j : Recorded K). c.args.prepared ≡ planned cmp matching call j.gateway) (sym c.self.view_is) c.requires.planned)
-        (subst (λ (j : Recorded K). outcome_of cmp matching call j.gateway.rows ≡ Ok (map sent_alone (by_face (said cmp matching call j.gateway.rows)))) (sym c.self.view_is) c.requires.outcome))
+    (λ (j : Recorded K). record { opening = inside.opening; gateway = record { rows = c.args.prepared.after.rows; waiting = [] }; entries = inside.entries ++ record { pass = c.args.pass; call = call; made = c.args.prepared.made; outcome = Ok (map sent_alone (by_face c.args.prepared.said)) } ∷ [] } ≡ entered cmp matching c.args.pass call j)
+    c.self.view_is
+    (entered_prepared cmp matching c.args.pass call inside c.args.prepared
+    (subst (λ (j : Recorded K). c.args.prepared ≡ planned cmp matching call j.gateway) (sym c.self.view_is) c.requires.planned)
+    (subst (λ (j : Recorded K). outcome_of cmp matching call j.gateway.rows ≡ Ok (map sent_alone (by_face (said cmp matching call j.gateway.rows)))) (sym c.self.view_is) c.requires.outcome))
 
 pub returns-clause-done : goal.returns-clause-done
 returns-clause-done = after
@@ -51,5 +51,5 @@ returns-clause-done = after
 pub invariant_of-self-2 : goal.invariant_of-self-2
 invariant_of-self-2 g c =
     subst (IsRecord g.K.Ord.cmp g.K.Key.matching) (sym (after g c))
-      (record_more g.K.Ord.cmp g.K.Key.matching c.args.pass (plain_call c.args.call) c.args.self.now
-        (subst (IsRecord g.K.Ord.cmp g.K.Key.matching) c.self.view_is c.self.invariant))
+    (record_more g.K.Ord.cmp g.K.Key.matching c.args.pass (plain_call c.args.call) c.args.self.now
+    (subst (IsRecord g.K.Ord.cmp g.K.Key.matching) c.self.view_is c.self.invariant))

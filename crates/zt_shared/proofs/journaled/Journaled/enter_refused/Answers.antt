@@ -14,7 +14,7 @@ returns-clause-done g c =
     let behind : List (JournalEntry K) → Recorded K = λ es. record { opening = inside.opening; gateway = inside.gateway; entries = map journalled es } in
     let within : List (Journalled K) → Recorded K = λ es. record { opening = inside.opening; gateway = inside.gateway; entries = es } in
     let refused : cause_of g.K.Ord.cmp g.K.Key.matching (plain_call c.args.call) inside.gateway.rows ≡ Some c.args.refusal =
-      subst (λ (j : Recorded K). cause_of g.K.Ord.cmp g.K.Key.matching (plain_call c.args.call) j.gateway.rows ≡ Some c.args.refusal) (sym c.self.view_is) c.requires
+    subst (λ (j : Recorded K). cause_of g.K.Ord.cmp g.K.Key.matching (plain_call c.args.call) j.gateway.rows ≡ Some c.args.refusal) (sym c.self.view_is) c.requires
     in
     ap behind c.in_ok-push.ensures.items
     ∙ ap within (map-append journalled _ _)
@@ -28,10 +28,10 @@ invariant_of-self-2 g c =
     let behind : List (JournalEntry K) → Recorded K = λ es. record { opening = inside.opening; gateway = inside.gateway; entries = map journalled es } in
     let within : List (Journalled K) → Recorded K = λ es. record { opening = inside.opening; gateway = inside.gateway; entries = es } in
     let refused : cause_of g.K.Ord.cmp g.K.Key.matching (plain_call c.args.call) inside.gateway.rows ≡ Some c.args.refusal =
-      subst (λ (j : Recorded K). cause_of g.K.Ord.cmp g.K.Key.matching (plain_call c.args.call) j.gateway.rows ≡ Some c.args.refusal) (sym c.self.view_is) c.requires
+    subst (λ (j : Recorded K). cause_of g.K.Ord.cmp g.K.Key.matching (plain_call c.args.call) j.gateway.rows ≡ Some c.args.refusal) (sym c.self.view_is) c.requires
     in
     let same = ap behind c.in_ok-push.ensures.items
-      ∙ ap within (map-append journalled _ _)
-      ∙ entered_refused g.K.Ord.cmp g.K.Key.matching c.args.pass (plain_call c.args.call) c.args.refusal inside c.self.invariant.quiet refused
+    ∙ ap within (map-append journalled _ _)
+    ∙ entered_refused g.K.Ord.cmp g.K.Key.matching c.args.pass (plain_call c.args.call) c.args.refusal inside c.self.invariant.quiet refused
     in
     subst (IsRecord g.K.Ord.cmp g.K.Key.matching) (sym same) (record_more g.K.Ord.cmp g.K.Key.matching c.args.pass (plain_call c.args.call) inside c.self.invariant)
