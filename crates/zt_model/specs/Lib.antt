@@ -22,4 +22,3 @@ pub mod TreePromises
 pub mod Journal
 pub mod Sourced
 pub mod Sessions
-pub mod Acts

@@ -1,4 +1,0 @@
-pub mod Ran
-pub mod Steps
-pub mod CallActs
-pub mod Does

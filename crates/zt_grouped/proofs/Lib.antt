@@ -1,7 +1,0 @@
-mod Following
-mod InGroups
-mod Kept
-mod Popped
-mod Tallied
-mod Tallies
-mod Waits

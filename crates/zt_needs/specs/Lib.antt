@@ -1,3 +1,0 @@
-pub mod Need
-pub mod Counts
-pub mod Adding

@@ -1,3 +1,0 @@
-pub mod KeyOrder
-pub mod AskWrites
-pub mod Unlisting

@@ -1,7 +1,0 @@
-use Rattle.std.proofs.Common.{◌≡◌, IfOk, subst}
-use Rattle.zt_model.specs.Visible.{visible_expressions}
-use Rattle.zt_store.proofs.tables.Tables.tokens_seen.Goals as goal
-
-pub returns : goal.returns
-unfolding visible_expressions
-returns g c = subst (λ keys. IfOk c.copies.result (λ v. v.items ≡ keys)) c.in_ok-found.ensures c.copies.ensures

@@ -1,6 +1,0 @@
-pub mod HatAnswers
-pub mod HatConditions
-pub mod HatActs
-pub mod HatTokenActs
-pub mod HatInterestActs
-pub mod HatTreeActs

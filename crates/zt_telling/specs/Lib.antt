@@ -1,5 +1,0 @@
-pub mod Hats
-pub mod Walk
-pub mod Forgets
-pub mod Tells
-pub mod Declares
