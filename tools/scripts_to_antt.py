@@ -6,8 +6,8 @@ usage: scripts_to_antt.py FOLDER..        the laws of every script in these fold
 
 Scripts of more than 400 lines are left out, and those that have words of their own (NAME.args other than 'run').
 A script that ends in a bad line is taken up to it. Keys stand as numbers in the order of their bytes, and which of
-them match is worked out here. What is written lies in src/, specs/, proofs/ and must-fail/ of the crate;
-specs/Script.antt alone is written by hand.
+them match is worked out here. What is written lies in src/, specs/, proofs/ and must-fail/ of the crate, and
+in tests/edits; specs/Script.antt alone is written by hand.
 """
 import glob, os, re, sys
 from string import Template
@@ -15,6 +15,7 @@ from string import Template
 HERE = os.path.dirname(os.path.abspath(__file__))
 ROOT = os.path.join(HERE, '..')
 CRATE = os.path.join(ROOT, 'crates', 'zt_model_test')
+FURTHER_EDITS = os.path.join('..', '..', 'tests', 'edits', 'zt_model_test')
 LINES_OF_A_PART = 640
 
 # ---- keys
@@ -331,8 +332,12 @@ def write(path, content):
     os.makedirs(os.path.dirname(path), exist_ok=True)
     with open(path, 'w', encoding='utf-8') as file: file.write(content)
 
+def edits_of(n, kind):
+    """Where a wrong line of the n-th part stands: the gate tries one of each part, each time of another kind."""
+    return 'must-fail' if kind == ('message', 'refusal', 'count')[(n - 1) % 3] else FURTHER_EDITS
+
 def remove_parts():
-    for pattern in ('specs/Part*.antt', 'proofs/Part*.antt', 'proofs/part_*/*.antt', 'must-fail/part_*.edit'):
+    for pattern in ('specs/Part*.antt', 'proofs/Part*.antt', 'proofs/part_*/*.antt', 'must-fail/part_*.edit', FURTHER_EDITS + '/part_*.edit'):
         for path in glob.glob(os.path.join(CRATE, pattern)): os.remove(path)
     for folder in glob.glob(os.path.join(CRATE, 'proofs', 'part_*')): os.rmdir(folder)
 
@@ -344,7 +349,7 @@ def write_part(n, part):
     clauses = ''.join('  %s = law.%s;\n' % (name, name) for name, _ in part)
     write('proofs/part_%d_comes_out/Answers.antt' % n, ANSWERS.substitute(made=MADE, n=n, clauses=clauses))
     for kind, old, new in wrong_lines(body.split('\n')):
-        write('must-fail/part_%d_other_%s.edit' % (n, kind), EDIT.substitute(n=n, old=old, new=new))
+        write(os.path.join(edits_of(n, kind), 'part_%d_other_%s.edit' % (n, kind)), EDIT.substitute(n=n, old=old, new=new))
 
 def write_opened():
     modules = list(unfoldable_names())

@@ -12,7 +12,6 @@ pub mod Declaring
 pub mod Undeclaring
 pub mod Asking
 pub mod Opening
-pub mod Acting
 pub mod Calls
 pub mod Ids
 pub mod MostIds

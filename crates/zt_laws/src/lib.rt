@@ -22,13 +22,11 @@ ghost use Rattle.zt_laws.specs.Effects.{forgotten, told_after_answers, told_anew
 ghost use Rattle.zt_laws.specs.Sessions.{IsOfSessions, session_parts};
 ghost use Rattle.zt_laws.specs.Sound.{FabricIsSound, HasFirstIds, IsToldInOrder, RiseFrom, RowsAreSound, rows_after_call};
 
-mod acts;
 mod effects;
 mod messages;
 mod order;
 mod shown;
 
-pub use acts::changes_are_heard;
 pub use effects::{
     calls_draw_next_ids, closing_says_what_leaving_says, hearing_may_wait, lines_draw_next_ids,
     other_calls_draw_no_ids, repeats_change_no_row,
