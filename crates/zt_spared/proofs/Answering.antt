@@ -33,7 +33,7 @@ use Rattle.zt_kept.proofs.Running.{said_by-append}
 use Rattle.zt_turns.proofs.Saying.{SaysEach, closing_says, declare_final_says, declaring_of_says, expiry_says, final_says, interest_final_says, route_says, said_each, showing_says, table_says, telling_says, undeclaration_says}
 
 -- each face is the first of its number
-finds_itself : {K : Type 0} (low : ℕ) (fs : List (Face K)) → RiseFrom (λ f. f.number) low fs → Each (λ f. first_where (λ k. f.number == k.number) fs ≡ Some f) fs
+pub finds_itself : {K : Type 0} (low : ℕ) (fs : List (Face K)) → RiseFrom (λ f. f.number) low fs → Each (λ f. first_where (λ k. f.number == k.number) fs ≡ Some f) fs
 finds_itself low [] rises = tt
 finds_itself low (f ∷ fs) rises =
     let above = rise_above (λ k. k.number) (f.number + 1) fs rises.1 in

@@ -4,3 +4,5 @@ pub mod Telling
 pub mod Answering
 pub mod Sparing
 pub mod Kept
+pub mod Admitted
+pub mod MoreSparing

@@ -46,7 +46,7 @@ use Rattle.zt_spared.proofs.Telling.{TellsNobody, TellsRight, abides_heard, call
 
 module _ {K : Type 0} (cmp : K → K → Ordering) (matching : K → K → Bool) where
   -- an ask stands, once the line has changed what it changes itself
-  asked_in : List (Node K) → ℕ → ℕ → ℕ → K → Bool
+  unfoldable pub asked_in : List (Node K) → ℕ → ℕ → ℕ → K → Bool
   asked_in ws j k i e = is_some_and (nth j ws) (λ (node : Node K). asked cmp matching node.rows k i e)
 
   abbrev Right : ℕ → Rows K → Face K → List (Message K) → Type 0
@@ -93,7 +93,8 @@ module _ {K : Type 0} (cmp : K → K → Ordering) (matching : K → K → Bool)
   asked_alike one two n (message.DeclareSubscriber id e interest) alike has = tt
   asked_alike one two n (message.DeclareQueryable id e info interest) alike has = tt
 
-  each_for : (B : ℕ → Message K → Type 0) (k : ℕ) (ss : Sends K) → Each (λ s. B s.0 s.1) ss → Each (B k) (messages_for k ss)
+  -- what each message has, each of those for a face has
+  pub each_for : (B : ℕ → Message K → Type 0) (k : ℕ) (ss : Sends K) → Each (λ s. B s.0 s.1) ss → Each (B k) (messages_for k ss)
   unfolding messages_for
   each_for B k [] all = tt
   each_for B k (s ∷ ss) all = of_cond (Each (B k)) (k == s.0) (s.1 ∷ messages_for k ss) (messages_for k ss) (λ here. (subst (λ n. B n s.1) (sym (eqb-true k s.0 here)) all.0, each_for B k ss all.1)) (λ _. each_for B k ss all.1)
@@ -203,7 +204,7 @@ module _ {K : Type 0} (cmp : K → K → Ordering) (matching : K → K → Bool)
     }
 
     -- an ask of the machine's fabric, as a transcript shows it
-    numbered_asked : (X : Fabric K) (k : ℕ) (p : Place) (i : ℕ) (e : K) → nth k X.faces ≡ Some p → asked_in X.gateways p.gateway p.face i e ≡ true
+    pub numbered_asked : (X : Fabric K) (k : ℕ) (p : Place) (i : ℕ) (e : K) → nth k X.faces ≡ Some p → asked_in X.gateways p.gateway p.face i e ≡ true
         → is_some_and (face_numbered (as_shown X) k) (λ x. is_some_and (at_id i x.face.asks) (λ ask. asks_token matching ask.interest e)) ≡ true
     unfolding asked_in face_numbered
     numbered_asked X k p i e at_ has = ap (λ o. is_some_and (at_place o) there) at_ ∙ ap (λ o. is_some_and (at_node p o) there) (nth_map node_shown p.gateway X.gateways) ∙ by_node (nth p.gateway X.gateways) ∙ has

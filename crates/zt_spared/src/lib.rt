@@ -5,7 +5,7 @@
 ghost use Rattle.std.specs.Prelude.{Bool, List};
 ghost use Rattle.zt_protocol.specs.Plain.{PlainLine};
 ghost use Rattle.zt_model.specs.Fabric.{Fabric, entries_from};
-ghost use Rattle.zt_model.specs.Promises.{IsSparing, UndeclaresWhatIsGone, UndeclaresWhatWasKept, turns_from};
+ghost use Rattle.zt_model.specs.Promises.{IsMoreSparing, IsSparing, UndeclaresWhatIsGone, UndeclaresWhatWasKept, turns_from};
 ghost use Rattle.zt_model.specs.Transcript.{Each};
 ghost use Rattle.zt_laws.specs.Order.{FabricIsInOrder};
 ghost use Rattle.zt_laws.specs.Shown.{as_shown};
@@ -26,6 +26,14 @@ pub fn turns_undeclare_what_is_gone<K: Key>()
 pub fn turns_are_sparing<K: Key>()
     ensures { (is_built : PlainLine K → Bool) (lines : List (PlainLine K)) (s : Fabric K) → Each HasFirstIds lines → FabricIsInOrder K.cmp K.matching s
         → Each (IsSparing K.cmp K.matching) (turns_from K.cmp K.matching lines (entries_from K.cmp K.matching is_built lines s) (as_shown s)) }
+{}
+
+/// And it is more sparing: outside router regions a token that answers nobody is admitted to its
+/// face, but where the line opens that; and an answer is printed for a face of whatever region only
+/// for a token ask of its id that it matches.
+pub fn turns_are_more_sparing<K: Key>()
+    ensures { (is_built : PlainLine K → Bool) (lines : List (PlainLine K)) (s : Fabric K) → Each HasFirstIds lines → FabricIsInOrder K.cmp K.matching s
+        → Each (IsMoreSparing K.cmp K.matching) (turns_from K.cmp K.matching lines (entries_from K.cmp K.matching is_built lines s) (as_shown s)) }
 {}
 
 /// And each undeclaration by id that it prints names a pair that its face kept before the line.

@@ -1,0 +1,4 @@
+pub mod Standing
+pub mod Rules
+pub mod Calls
+pub mod Turns
