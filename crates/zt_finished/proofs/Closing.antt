@@ -36,7 +36,7 @@ module _ {K : Type 0} where
   abbrev StandAmong : ℕ → ById Pending → Rows K → Type 0
   StandAmong n rows g = (x : ℕ) → stands g (n, x) ≡ true → has_id x rows ≡ true
 
-  find_filtered : (n k : ℕ) (fs : List (Face K)) → (n == k) ≡ false → first_where (λ f. k == f.number) (filter (λ f. not (n == f.number)) fs) ≡ first_where (λ f. k == f.number) fs
+  pub find_filtered : (n k : ℕ) (fs : List (Face K)) → (n == k) ≡ false → first_where (λ f. k == f.number) (filter (λ f. not (n == f.number)) fs) ≡ first_where (λ f. k == f.number) fs
   find_filtered n k [] apart = refl
   find_filtered n k (f ∷ fs) apart =
       by_test (n == f.number)
@@ -101,6 +101,43 @@ module _ {K : Type 0} (cmp : K → K → Ordering) (matching : K → K → Bool)
           let turned : (x == row.0) ≡ false = by_test (x == row.0) (λ same_. never (eq-eqb row.0 x (sym (eqb-true x row.0 same_))) own) (λ other. other) in
           ap (λ b. b || has_id x rows) (sym turned) ∙ among x both.0)
 
+  before_ends : (n : ℕ) (from : Face K) → List (Part K)
+  before_ends n from = flat_map (λ row. undeclaring cmp matching n row.0 None from ++ hiding cmp from.region row.1) from.live ++ flat_map (λ row. finalising cmp matching n row.0 row.1) from.held
+
+  before_still : (n : ℕ) (from : Face K) → Each (StillPart cmp matching (only n)) (unsaid_to n (before_ends n from))
+  unfolding before_ends unsaid_to
+  before_still n from =
+      subst (Each (StillPart cmp matching (only n))) (sym (unsaid-both n tokens finals))
+      (each_append (StillPart cmp matching (only n)) (unsaid_to n tokens) (unsaid_to n finals)
+      (unsaid_still cmp matching (only n) n tokens (each_flat_map (StillPart cmp matching (only n)) (λ row. undeclaring cmp matching n row.0 None from ++ hiding cmp from.region row.1) from.live (λ row. each_append (StillPart cmp matching (only n)) (undeclaring cmp matching n row.0 None from) (hiding cmp from.region row.1) (undeclaring_still cmp matching (only n) n row.0 None from) (hiding_still cmp matching (only n) from.region row.1))))
+      (finals_still from.held))
+    where
+      tokens : List (Part K)
+      tokens = flat_map (λ row. undeclaring cmp matching n row.0 None from ++ hiding cmp from.region row.1) from.live
+
+      finals : List (Part K)
+      finals = flat_map (λ row. finalising cmp matching n row.0 row.1) from.held
+
+      finals_still : (rows : ById _) → Each (StillPart cmp matching (only n)) (unsaid_to n (flat_map (λ row. finalising cmp matching n row.0 row.1) rows))
+      finals_still [] = tt
+      finals_still (row ∷ rows) =
+          subst (Each (StillPart cmp matching (only n))) (sym (unsaid-both n (finalising cmp matching n row.0 row.1) (flat_map (λ r. finalising cmp matching n r.0 r.1) rows)))
+          (each_append (StillPart cmp matching (only n)) (unsaid_to n (finalising cmp matching n row.0 row.1)) (unsaid_to n (flat_map (λ r. finalising cmp matching n r.0 r.1) rows)) (finalising_unsaid cmp matching (only n) n row.0 row.1) (finals_still rows))
+
+  -- a face's leaving: what is still, and then its pendings end
+  pub still_before : (n : ℕ) (from : Face K) → List (Part K)
+  still_before n from = unsaid_to n (before_ends n from) ++ Alter (with_face n without_asks) ∷ []
+
+  pub still_before_still : (n : ℕ) (from : Face K) → Each (StillPart cmp matching (only n)) (still_before n from)
+  unfolding still_before
+  still_before_still n from = each_append (StillPart cmp matching (only n)) (unsaid_to n (before_ends n from)) (Alter (with_face n without_asks) ∷ []) (before_still n from) (asks_still cmp matching n, tt)
+
+  pub leaving_splits : (n : ℕ) (from : Face K) → unsaid_to n (leaving cmp matching n from) ≡ still_before n from ++ unsaid_to n (flat_map (λ row. ending n row.0) from.pendings)
+  unfolding before_ends still_before unsaid_to
+  leaving_splits n from =
+      unsaid-both n (before_ends n from) (Alter (with_face n without_asks) ∷ flat_map (λ row. ending n row.0) from.pendings)
+      ∙ sym (append_assoc (unsaid_to n (before_ends n from)) (Alter (with_face n without_asks) ∷ []) (unsaid_to n (flat_map (λ row. ending n row.0) from.pendings)))
+
   module _ (k i : ℕ) (ask : Ask K) where
     -- the face goes
     gone_asks : (n : ℕ) (b : Bool) (g : Rows K) → (n == k) ≡ false → StandAmong n [] g → IsAsk cmp k i ask b g → IsAsk cmp k i ask b (without_face n g)
@@ -118,29 +155,6 @@ module _ {K : Type 0} (cmp : K → K → Ordering) (matching : K → K → Bool)
 
     abbrev Ends_ : List (Part K) → Type 0
     Ends_ = Ends cmp matching k i ask
-
-    before_ends : (n : ℕ) (from : Face K) → List (Part K)
-    before_ends n from = flat_map (λ row. undeclaring cmp matching n row.0 None from ++ hiding cmp from.region row.1) from.live ++ flat_map (λ row. finalising cmp matching n row.0 row.1) from.held
-
-    before_still : (n : ℕ) (from : Face K) → Each (StillPart cmp matching (only n)) (unsaid_to n (before_ends n from))
-    unfolding before_ends unsaid_to
-    before_still n from =
-        subst (Each (StillPart cmp matching (only n))) (sym (unsaid-both n tokens finals))
-        (each_append (StillPart cmp matching (only n)) (unsaid_to n tokens) (unsaid_to n finals)
-        (unsaid_still cmp matching (only n) n tokens (each_flat_map (StillPart cmp matching (only n)) (λ row. undeclaring cmp matching n row.0 None from ++ hiding cmp from.region row.1) from.live (λ row. each_append (StillPart cmp matching (only n)) (undeclaring cmp matching n row.0 None from) (hiding cmp from.region row.1) (undeclaring_still cmp matching (only n) n row.0 None from) (hiding_still cmp matching (only n) from.region row.1))))
-        (finals_still from.held))
-      where
-        tokens : List (Part K)
-        tokens = flat_map (λ row. undeclaring cmp matching n row.0 None from ++ hiding cmp from.region row.1) from.live
-
-        finals : List (Part K)
-        finals = flat_map (λ row. finalising cmp matching n row.0 row.1) from.held
-
-        finals_still : (rows : ById _) → Each (StillPart cmp matching (only n)) (unsaid_to n (flat_map (λ row. finalising cmp matching n row.0 row.1) rows))
-        finals_still [] = tt
-        finals_still (row ∷ rows) =
-            subst (Each (StillPart cmp matching (only n))) (sym (unsaid-both n (finalising cmp matching n row.0 row.1) (flat_map (λ r. finalising cmp matching n r.0 r.1) rows)))
-            (each_append (StillPart cmp matching (only n)) (unsaid_to n (finalising cmp matching n row.0 row.1)) (unsaid_to n (flat_map (λ r. finalising cmp matching n r.0 r.1) rows)) (finalising_unsaid cmp matching (only n) n row.0 row.1) (finals_still rows))
 
     unsaid_endings : (n : ℕ) (rows : ById Pending) → (n == k) ≡ false → Ends_ (unsaid_to n (flat_map (λ row. ending n row.0) rows))
     unfolding unsaid_to
@@ -167,7 +181,7 @@ module _ {K : Type 0} (cmp : K → K → Ordering) (matching : K → K → Bool)
         (is_routed g from) [] (unsaid_to n (leaving cmp matching n from))
         (λ here.
         then_gone n [] b g apart (λ x has. standing here x has) (ends_nothing cmp matching k i ask b g is))
-        (λ _. subst (λ (parts : List (Part K)). Outcome cmp matching k i ask b (ran cmp (parts ++ Alter (without_face n) ∷ []) g) (messages_for k (said_by cmp matching (parts ++ Alter (without_face n) ∷ []) g))) (sym split) plain)
+        (λ _. subst (λ (parts : List (Part K)). Outcome cmp matching k i ask b (ran cmp (parts ++ Alter (without_face n) ∷ []) g) (messages_for k (said_by cmp matching (parts ++ Alter (without_face n) ∷ []) g))) (sym (leaving_splits n from)) plain)
       where
         standing : is_routed g from ≡ true → (x : ℕ) → stands g (n, x) ≡ true → has_id x (let rows : ById Pending = [] in rows) ≡ true
         standing here x has =
@@ -175,16 +189,13 @@ module _ {K : Type 0} (cmp : K → K → Ordering) (matching : K → K → Bool)
             sym (ap (has_id x) none_) ∙ sym (ap (λ (o : Option (Face K)). is_some_and o (λ f. has_id x f.pendings)) found) ∙ has
 
         still : List (Part K)
-        still = unsaid_to n (before_ends n from) ++ Alter (with_face n without_asks) ∷ []
+        still = still_before n from
 
         still_ : Each (StillPart cmp matching (only n)) still
-        still_ = each_append (StillPart cmp matching (only n)) (unsaid_to n (before_ends n from)) (Alter (with_face n without_asks) ∷ []) (before_still n from) (asks_still cmp matching n, tt)
+        still_ = still_before_still n from
 
         over : List (Part K)
         over = unsaid_to n (flat_map (λ row. ending n row.0) from.pendings)
-
-        split : unsaid_to n (leaving cmp matching n from) ≡ still ++ over
-        split = unfold before_ends in unfold unsaid_to in unsaid-both n (before_ends n from) (Alter (with_face n without_asks) ∷ flat_map (λ row. ending n row.0) from.pendings) ∙ sym (append_assoc (unsaid_to n (before_ends n from)) (Alter (with_face n without_asks) ∷ []) over)
 
         plain : Outcome cmp matching k i ask b (ran cmp ((still ++ over) ++ Alter (without_face n) ∷ []) g) (messages_for k (said_by cmp matching ((still ++ over) ++ Alter (without_face n) ∷ []) g))
         plain =

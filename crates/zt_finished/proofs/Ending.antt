@@ -41,7 +41,7 @@ any_others s q (x ∷ xs) none_ = let miss : q x ≡ false = none_.0 in rw miss 
     and_true false = refl
 
 module _ {K : Type 0} where
-  finals_none : (i : ℕ) (q : ℕ × Ask K → Bool) (rows : ById (Ask K)) → Each (λ row. (i == row.0) ≡ false) rows → finals_in i (let ms : List (Message K) = map (λ row. message.DeclareFinal row.0) (filter q rows) in ms) ≡ 0
+  pub finals_none : (i : ℕ) (q : ℕ × Ask K → Bool) (rows : ById (Ask K)) → Each (λ row. (i == row.0) ≡ false) rows → finals_in i (let ms : List (Message K) = map (λ row. message.DeclareFinal row.0) (filter q rows) in ms) ≡ 0
   finals_none i q [] apart = refl
   finals_none i q (row ∷ rows) apart = let miss : (i == row.0) ≡ false = apart.0 in by_test (q row) (λ here. rw (here, miss) (finals_none i q rows apart.1)) (λ here. rw here (finals_none i q rows apart.1))
 

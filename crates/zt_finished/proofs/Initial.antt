@@ -78,12 +78,12 @@ module _ {K : Type 0} where
   each_found g = each_weaker (λ f. list_any (λ (k : Face K). f.number == k.number) g.faces ≡ true) (λ f. is_some (find_face f.number g) ≡ true) (λ f there. some_where (λ (k : Face K). f.number == k.number) g.faces ∙ there) g.faces (any_own g.faces)
 
   -- a new face is found behind others
-  find_new : (n : ℕ) (fs : List (Face K)) (x : Face K) → Each (λ f. (n == f.number) ≡ false) fs → (n == x.number) ≡ true → first_where (λ f. n == f.number) (fs ++ x ∷ []) ≡ Some x
+  pub find_new : (n : ℕ) (fs : List (Face K)) (x : Face K) → Each (λ f. (n == f.number) ≡ false) fs → (n == x.number) ≡ true → first_where (λ f. n == f.number) (fs ++ x ∷ []) ≡ Some x
   find_new n [] x apart own = rw own refl
   find_new n (f ∷ fs) x apart own = let miss : (n == f.number) ≡ false = apart.0 in rw miss (find_new n fs x apart.1 own)
 
   -- finals come behind what has none
-  finals_after : (xs ys : List (Message K)) → Each NoFinal xs → finals_in 0 (xs ++ ys) ≡ finals_in 0 ys
+  pub finals_after : (xs ys : List (Message K)) → Each NoFinal xs → finals_in 0 (xs ++ ys) ≡ finals_in 0 ys
   finals_after [] ys none_ = refl
   finals_after (x ∷ xs) ys none_ = let miss : is_final_of 0 x ≡ false = none_.0 0 in rw miss (finals_after xs ys none_.1)
 
@@ -130,7 +130,7 @@ module _ {K : Type 0} where
       (λ j x own. each_weaker (λ f. was_open s j f.number ≡ true) (λ f. New s j x.rows f (printed_for (number_from 1 j f.number places) ms)) (λ f there fresh. never there fresh) x.rows.faces own) 1 gs old
 
 module _ {K : Type 0} (cmp : K → K → Ordering) (matching : K → K → Bool) where
-  heard-initial : (now : ℕ) (m : Message K) (f : Face K) → (heard cmp now m f).initial ≡ f.initial
+  pub heard-initial : (now : ℕ) (m : Message K) (f : Face K) → (heard cmp now m f).initial ≡ f.initial
   heard-initial now (message.DeclareToken id e interest node) f = refl
   heard-initial now (message.UndeclareToken id e node) f = refl
   heard-initial now (message.DeclareFinal id) f = refl

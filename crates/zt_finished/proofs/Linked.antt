@@ -10,7 +10,7 @@ use Rattle.zt_protocol.specs.Plain.{PlainCall, NewTransport, CloseFace}
 use Rattle.zt_protocol.specs.declared.entries.Sent.{Sent}
 use Rattle.zt_protocol.specs.declared.messages.Message.{Message}
 use Rattle.zt_model.specs.Closing.{closing}
-use Rattle.zt_model.specs.Fabric.{CallAt, Fabric, Node, Place, after_opening, altered_at, at_nth, call_at, closed_ends, closing_call, gateways_after_hearing, next_face, number_from, opened_at, opened_ends, opening_at, printed_for, rows_after_hearing, said_at, said_opening}
+use Rattle.zt_model.specs.Fabric.{CallAt, Fabric, Node, Place, after_opening, altered_at, at_nth, call_at, closed_ends, closing_call, gateways_after_hearing, next_face, number_from, opened_at, opened_ends, opening_at, printed_for, rows_after_hearing, said_at, said_opening, with_place}
 use Rattle.zt_model.specs.Hearing.{rows_heard}
 use Rattle.zt_model.specs.Linking.{LinkEnd}
 use Rattle.zt_model.specs.Lists.{nth}
@@ -18,13 +18,14 @@ use Rattle.zt_model.specs.Routing.{face_opened, interests_from, opened, opening_
 use Rattle.zt_model.specs.Rows.{Ask, ById, Face, Rows}
 use Rattle.zt_model.specs.Says.{Sends, altered, altered_by, find_face, parts_of, said, said_by, to_face}
 use Rattle.zt_model.specs.Transcript.{Each}
-use Rattle.zt_laws.specs.Order.{FabricIsInOrder}
+use Rattle.zt_laws.specs.Order.{FabricIsInOrder, RowsAreInOrder}
 use Rattle.zt_laws.specs.Sound.{EachFrom, is_placed, places_of}
 use Rattle.zt_laws.proofs.Ends.{by_end, end_alone, end_in_order}
 use Rattle.zt_laws.proofs.LinesOrder.{called_at, gateway_in_order}
 use Rattle.zt_laws.proofs.Lists.{by_test, each_always, each_append, each_map, each_weaker}
 use Rattle.zt_laws.proofs.Places.{not_placed_yet, number_new}
 use Rattle.zt_laws.proofs.Sorting.{printed as printed_at}
+use Rattle.zt_laws.proofs.ToldFrom.{found_by_number}
 use Rattle.zt_laws.proofs.Unlinking.{closing_case}
 use Rattle.zt_kept.proofs.Parts.{only}
 use Rattle.zt_finished.proofs.Calls.{closing_asks}
@@ -47,6 +48,21 @@ module _ {K : Type 0} (cmp : K → K → Ordering) (matching : K → K → Bool)
   -- a fact of the asks of each face, by its gateway and number
   abbrev pub AsksIn : (ℕ → ℕ → ById (Ask K) → Type 0) → List (Node K) → Type 0
   AsksIn P gs = EachFrom (λ j (x : Node K). Each (λ f. P j f.number f.asks) x.rows.faces) 1 gs
+
+  -- ---- asks as they were
+
+  -- the asks of a face, as they were
+  pub asks_of : Fabric K → ℕ → ℕ → ById (Ask K)
+  asks_of s j k = elim (nth j s.gateways) [ None ↦ [] | Some x ↦ elim (find_face k x.rows) [ None ↦ [] | Some f ↦ f.asks ] ]
+
+  pub asks_are : (s : Fabric K) (j : ℕ) (x : Node K) → nth j s.gateways ≡ Some x → RowsAreInOrder cmp matching x.rows → Each (λ f. asks_of s j f.number ≡ f.asks) x.rows.faces
+  unfolding asks_of
+  asks_are s j x at_ ordered =
+      each_weaker (λ f. find_face f.number x.rows ≡ Some f) (λ f. asks_of s j f.number ≡ f.asks)
+      (λ f found.
+      ap (λ (o : Option (Node K)). (let rows : ById (Ask K) = elim o [ None ↦ [] | Some y ↦ elim (find_face f.number y.rows) [ None ↦ [] | Some k ↦ k.asks ] ] in rows)) at_
+      ∙ ap (λ (o : Option (Face K)). (let rows : ById (Ask K) = elim o [ None ↦ [] | Some k ↦ k.asks ] in rows)) found)
+      x.rows.faces (found_by_number 1 x.rows.faces ordered.lists.faces_rise)
 
   -- ---- openings
 
@@ -73,29 +89,30 @@ module _ {K : Type 0} (cmp : K → K → Ordering) (matching : K → K → Bool)
       (each_append (λ s. s.0 ≡ made) s2 (s3 ++ []) (numbers_of_one made (λ f. tokens_from f.next (opening_tokens cmp matching h1 f)) h1)
       (each_append (λ s. s.0 ≡ made) s3 [] (numbers_of_one made (opening_final cmp matching) h2) tt))
 
+  -- the new face's number is beyond those of the others
+  pub opening_beyond : (n : ℕ) (zid : Zid) (whatami : WhatAmI) (region : Region) (bound : Bound) (first : ℕ) (node : Node K) (X : Fabric K) → nth n X.gateways ≡ Some node → FabricIsInOrder cmp matching X
+      → Each (λ m. length X.faces < m.face) (map (printed_at (with_place n X).faces n) (said cmp matching (NewTransport zid whatami region bound first) node.rows))
+  opening_beyond n zid whatami region bound first node X at_ fine =
+      let g = node.rows in
+      let ss = said cmp matching (NewTransport zid whatami region bound first) g in
+      let p : Place = record { gateway = n; face = next_face (nth n X.gateways) } in
+      let places = X.faces ++ p ∷ [] in
+      let gateway = gateway_in_order cmp matching X n node at_ fine in
+      let p_face : p.face ≡ g.made + 1 = ap next_face at_ in
+      let p_is : p ≡ record { gateway = n; face = g.made + 1 } = ap (λ k. record { gateway = n; face = k }) p_face in
+      let unplaced : is_placed n (g.made + 1) X.faces ≡ false = not_placed_yet n (g.made + 1) X.faces (each_weaker (λ q. q.face ≤ g.made) (λ q. q.face < g.made + 1) (λ q low. omega arith) (places_of n X.faces) gateway.places_made) in
+      let at_end : number_from 1 n (g.made + 1) places ≡ 1 + length X.faces = ap (λ q. number_from 1 n (g.made + 1) (X.faces ++ q ∷ [])) p_is ∙ number_new 1 n (g.made + 1) X.faces unplaced in
+      each_map (λ m. length X.faces < m.face) (printed_at places n) ss
+      (each_weaker (λ s. s.0 ≡ g.made + 1) (λ s. length X.faces < (printed_at places n s).face)
+      (λ s is. let number_ : number_from 1 n s.0 places ≡ 1 + length X.faces = ap (λ k. number_from 1 n k places) is ∙ at_end in omega (arith, number_)) ss (opening_speaks zid whatami region bound first g))
+
   end_beyond : (end : LinkEnd K) (X : Fabric K) → FabricIsInOrder cmp matching X → (let at = opening_at cmp matching X end in Each (λ m. length X.faces < m.face) (said_at cmp matching (opened_at cmp matching at X) at))
   end_beyond end X fine =
       by_end cmp matching (λ c. (let at : Option (CallAt K) = elim c [ None ↦ None | Some call ↦ call_at X end.gateway call ] in Beyond at)) end tt
-      (λ zid whatami region bound. called_at Beyond X end.gateway (NewTransport zid whatami region bound end.first) tt (opens zid whatami region bound))
+      (λ zid whatami region bound. called_at Beyond X end.gateway (NewTransport zid whatami region bound end.first) tt (λ node at_. opening_beyond end.gateway zid whatami region bound end.first node X at_ fine))
     where
       Beyond : Option (CallAt K) → Type 0
       Beyond at = Each (λ m. length X.faces < m.face) (said_at cmp matching (opened_at cmp matching at X) at)
-
-      opens : (zid : Zid) (whatami : WhatAmI) (region : Region) (bound : Bound) (node : Node K) → nth end.gateway X.gateways ≡ Some node → Beyond (Some (record { gateway = end.gateway; rows = node.rows; call = NewTransport zid whatami region bound end.first }))
-      opens zid whatami region bound node at_ =
-          let n = end.gateway in
-          let g = node.rows in
-          let ss = said cmp matching (NewTransport zid whatami region bound end.first) g in
-          let p : Place = record { gateway = n; face = next_face (nth n X.gateways) } in
-          let places = X.faces ++ p ∷ [] in
-          let gateway = gateway_in_order cmp matching X n node at_ fine in
-          let p_face : p.face ≡ g.made + 1 = ap next_face at_ in
-          let p_is : p ≡ record { gateway = n; face = g.made + 1 } = ap (λ k. record { gateway = n; face = k }) p_face in
-          let unplaced : is_placed n (g.made + 1) X.faces ≡ false = not_placed_yet n (g.made + 1) X.faces (each_weaker (λ q. q.face ≤ g.made) (λ q. q.face < g.made + 1) (λ q low. omega arith) (places_of n X.faces) gateway.places_made) in
-          let at_end : number_from 1 n (g.made + 1) places ≡ 1 + length X.faces = ap (λ q. number_from 1 n (g.made + 1) (X.faces ++ q ∷ [])) p_is ∙ number_new 1 n (g.made + 1) X.faces unplaced in
-          each_map (λ m. length X.faces < m.face) (printed_at places n) ss
-          (each_weaker (λ s. s.0 ≡ g.made + 1) (λ s. length X.faces < (printed_at places n s).face)
-          (λ s is. let number_ : number_from 1 n s.0 places ≡ 1 + length X.faces = ap (λ k. number_from 1 n k places) is ∙ at_end in omega (arith, number_)) ss (opening_speaks zid whatami region bound end.first g))
 
   module _ (total : IsTotalOrder cmp) where
     pub openings_beyond : (low : ℕ) (ends : List (LinkEnd K)) (X : Fabric K) → low ≤ length X.faces → Each (λ end. 1 ≤ end.first) ends → FabricIsInOrder cmp matching X → Each (λ m. low < m.face) (said_opening cmp matching ends X)

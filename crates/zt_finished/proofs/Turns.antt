@@ -36,7 +36,6 @@ use Rattle.zt_laws.proofs.PartsOrder.{each_flat_map, each_of_map}
 use Rattle.zt_laws.proofs.Places.{placed_new, placed_still}
 use Rattle.zt_laws.proofs.ShownLines.{turns_have}
 use Rattle.zt_laws.proofs.Sorting.{sorted_each}
-use Rattle.zt_laws.proofs.ToldFrom.{found_by_number}
 use Rattle.zt_laws.proofs.Unlinking.{closing_case, each_from_both}
 use Rattle.zt_kept.specs.Lines.{EachGatewayIs}
 use Rattle.zt_kept.specs.Ran.{ran}
@@ -53,7 +52,7 @@ use Rattle.zt_finished.proofs.Calls.{FinishesBy, GetsFinal, closing_away, each_a
 use Rattle.zt_finished.proofs.Closing.{closing_ends}
 use Rattle.zt_finished.proofs.Ending.{Outcome, count}
 use Rattle.zt_finished.proofs.Initial.{from_nth, heard_numbers, opened_stay}
-use Rattle.zt_finished.proofs.Linked.{closed_asks, heard_back, opened_asks, openings_beyond, printed_beyond}
+use Rattle.zt_finished.proofs.Linked.{asks_are, asks_of, closed_asks, heard_back, opened_asks, openings_beyond, printed_beyond}
 use Rattle.zt_finished.proofs.Standing.{call_finishes, ended_by, open_is_left, opens_finish}
 
 -- what holds of each row holds of that at an id
@@ -340,13 +339,9 @@ module _ {K : Type 0} (cmp : K → K → Ordering) (matching : K → K → Bool)
                   by_list rows quiet_all.1 (λ none__. (standing none__).1),
                 )
 
-    -- the asks of a face, as they were
-    asks_of : Fabric K → ℕ → ℕ → ById (Ask K)
-    asks_of s j k = elim (nth j s.gateways) [ None ↦ [] | Some x ↦ elim (find_face k x.rows) [ None ↦ [] | Some f ↦ f.asks ] ]
-
     -- what each of them came to
     abbrev Tracked : Fabric K → ℕ → Rows K → Face K → List (Message K) → Type 0
-    Tracked s j g f xs = Each (λ row. Outcome cmp matching f.number row.0 row.1 true g xs) (asks_of s j f.number)
+    Tracked s j g f xs = Each (λ row. Outcome cmp matching f.number row.0 row.1 true g xs) (asks_of cmp matching s j f.number)
 
     -- a closing, after what was printed before it
     closing_step : (s : Fabric K) (n k : ℕ) (g : Rows K) → RowsAreInOrder cmp matching g → AsksAreOpen cmp matching g → (before : ℕ → List (Message K)) → Each (λ f. Tracked s n g f (before f.number)) g.faces
@@ -354,13 +349,13 @@ module _ {K : Type 0} (cmp : K → K → Ordering) (matching : K → K → Bool)
     unfolding parts_of altered_by ran said_by messages_for
     closing_step s n k g ordered open_ before all =
         heard_numbers cmp matching Then (said cmp matching c g) (altered cmp matching c g)
-        (subst (λ (h : Rows K). Each (λ f. Each (λ row. Outcome cmp matching f.number row.0 row.1 true h (before f.number ++ messages_for f.number (said cmp matching c g))) (asks_of s n f.number)) (altered cmp matching c g).faces) (sym (call_runs cmp matching c g)) (by_face (find_face k g) refl (altered_faces cmp matching total (λ i. Each (λ row. Outcome cmp matching i row.0 row.1 true g (before i)) (asks_of s n i)) c g refl ordered.lists all).0))
+        (subst (λ (h : Rows K). Each (λ f. Each (λ row. Outcome cmp matching f.number row.0 row.1 true h (before f.number ++ messages_for f.number (said cmp matching c g))) (asks_of cmp matching s n f.number)) (altered cmp matching c g).faces) (sym (call_runs cmp matching c g)) (by_face (find_face k g) refl (altered_faces cmp matching total (λ i. Each (λ row. Outcome cmp matching i row.0 row.1 true g (before i)) (asks_of cmp matching s n i)) c g refl ordered.lists all).0))
       where
         c : PlainCall K
         c = CloseFace k
 
         Then : ℕ → Type 0
-        Then i = Each (λ row. Outcome cmp matching i row.0 row.1 true (rows_after_call cmp matching c g) (before i ++ messages_for i (said cmp matching c g))) (asks_of s n i)
+        Then i = Each (λ row. Outcome cmp matching i row.0 row.1 true (rows_after_call cmp matching c g) (before i ++ messages_for i (said cmp matching c g))) (asks_of cmp matching s n i)
 
         parts_for : Option (Face K) → List (Part K)
         parts_for o = elim o [ None ↦ [] | Some f ↦ closing cmp matching k g f ]
@@ -374,27 +369,18 @@ module _ {K : Type 0} (cmp : K → K → Ordering) (matching : K → K → Bool)
             added : (x y z u v : ℕ) → x + u ≡ v → y + z ≡ u → (x + y) + z ≡ v
             added x y z u v first second = omega (arith, first, second)
 
-        by_face : (o : Option (Face K)) → find_face k g ≡ o → (let a = altered_by cmp matching (parts_for o) g in Each (λ f. Each (λ row. Outcome cmp matching f.number row.0 row.1 true g (before f.number)) (asks_of s n f.number)) a.faces)
-            → (let a = altered_by cmp matching (parts_for o) g in Each (λ f. Each (λ row. Outcome cmp matching f.number row.0 row.1 true (ran cmp (parts_for o) g) (before f.number ++ messages_for f.number (said_by cmp matching (parts_for o) g))) (asks_of s n f.number)) a.faces)
+        by_face : (o : Option (Face K)) → find_face k g ≡ o → (let a = altered_by cmp matching (parts_for o) g in Each (λ f. Each (λ row. Outcome cmp matching f.number row.0 row.1 true g (before f.number)) (asks_of cmp matching s n f.number)) a.faces)
+            → (let a = altered_by cmp matching (parts_for o) g in Each (λ f. Each (λ row. Outcome cmp matching f.number row.0 row.1 true (ran cmp (parts_for o) g) (before f.number ++ messages_for f.number (said_by cmp matching (parts_for o) g))) (asks_of cmp matching s n f.number)) a.faces)
         by_face None found before_ =
-            each_weaker (λ f. Each (λ row. Outcome cmp matching f.number row.0 row.1 true g (before f.number)) (asks_of s n f.number)) (λ f. Each (λ row. Outcome cmp matching f.number row.0 row.1 true g (before f.number ++ [])) (asks_of s n f.number))
-            (λ f own. subst (λ xs. Each (λ row. Outcome cmp matching f.number row.0 row.1 true g xs) (asks_of s n f.number)) (sym (append-nil (before f.number))) own) g.faces before_
+            each_weaker (λ f. Each (λ row. Outcome cmp matching f.number row.0 row.1 true g (before f.number)) (asks_of cmp matching s n f.number)) (λ f. Each (λ row. Outcome cmp matching f.number row.0 row.1 true g (before f.number ++ [])) (asks_of cmp matching s n f.number))
+            (λ f own. subst (λ xs. Each (λ row. Outcome cmp matching f.number row.0 row.1 true g xs) (asks_of cmp matching s n f.number)) (sym (append-nil (before f.number))) own) g.faces before_
         by_face (Some from) found before_ =
-            each_both (λ f. (k == f.number) ≡ false) (λ f. Each (λ row. Outcome cmp matching f.number row.0 row.1 true g (before f.number)) (asks_of s n f.number)) (λ f. Each (λ row. Outcome cmp matching f.number row.0 row.1 true (ran cmp (closing cmp matching k g from) g) (before f.number ++ messages_for f.number (said_by cmp matching (closing cmp matching k g from) g))) (asks_of s n f.number))
+            each_both (λ f. (k == f.number) ≡ false) (λ f. Each (λ row. Outcome cmp matching f.number row.0 row.1 true g (before f.number)) (asks_of cmp matching s n f.number)) (λ f. Each (λ row. Outcome cmp matching f.number row.0 row.1 true (ran cmp (closing cmp matching k g from) g) (before f.number ++ messages_for f.number (said_by cmp matching (closing cmp matching k g from) g))) (asks_of cmp matching s n f.number))
             (λ f apart own.
             each_weaker (λ row. Outcome cmp matching f.number row.0 row.1 true g (before f.number)) (λ row. Outcome cmp matching f.number row.0 row.1 true (ran cmp (closing cmp matching k g from) g) (before f.number ++ messages_for f.number (said_by cmp matching (closing cmp matching k g from) g)))
             (λ row one. two f.number row (before f.number) (messages_for f.number (said_by cmp matching (closing cmp matching k g from) g)) (ran cmp (closing cmp matching k g from) g) one (closing_ends cmp matching f.number row.0 row.1 k from one.there g apart found open_.stand.routed one.is))
-            (asks_of s n f.number) own)
+            (asks_of cmp matching s n f.number) own)
             (altered_by cmp matching (closing cmp matching k g from) g).faces (closing_away cmp matching k from g) before_
-
-    asks_are : (s : Fabric K) (j : ℕ) (x : Node K) → nth j s.gateways ≡ Some x → RowsAreInOrder cmp matching x.rows → Each (λ f. asks_of s j f.number ≡ f.asks) x.rows.faces
-    unfolding asks_of
-    asks_are s j x at_ ordered =
-        each_weaker (λ f. find_face f.number x.rows ≡ Some f) (λ f. asks_of s j f.number ≡ f.asks)
-        (λ f found.
-        ap (λ (o : Option (Node K)). (let rows : ById (Ask K) = elim o [ None ↦ [] | Some y ↦ elim (find_face f.number y.rows) [ None ↦ [] | Some k ↦ k.asks ] ] in rows)) at_
-        ∙ ap (λ (o : Option (Face K)). (let rows : ById (Ask K) = elim o [ None ↦ [] | Some k ↦ k.asks ] in rows)) found)
-        x.rows.faces (found_by_number 1 x.rows.faces ordered.lists.faces_rise)
 
     tracked_first : (s : Fabric K) → FabricIsInOrder cmp matching s → Open s.gateways → FacesHave (Tracked s) s.faces [] s.gateways
     tracked_first s fine open_ =
@@ -404,11 +390,11 @@ module _ {K : Type 0} (cmp : K → K → Ordering) (matching : K → K → Bool)
         let e : m ≡ 0 + m = omega arith in
         let ordered = (gateway_in_order cmp matching s m x at_ fine).rows in
         subst (λ j. Each (λ f. Tracked s j x.rows f []) x.rows.faces) e
-        (each_both (λ f. asks_of s m f.number ≡ f.asks) (λ f. Each (λ row. IsAsk cmp f.number row.0 row.1 true x.rows) f.asks) (λ f. Tracked s m x.rows f [])
+        (each_both (λ f. asks_of cmp matching s m f.number ≡ f.asks) (λ f. Each (λ row. IsAsk cmp f.number row.0 row.1 true x.rows) f.asks) (λ f. Tracked s m x.rows f [])
         (λ f same_ all.
         subst (λ (rows : ById (Ask K)). Each (λ row. Outcome cmp matching f.number row.0 row.1 true x.rows []) rows) (sym same_)
         (each_weaker (λ row. IsAsk cmp f.number row.0 row.1 true x.rows) (λ row. Outcome cmp matching f.number row.0 row.1 true x.rows []) (λ row is. record { there = true; is = is; counts = refl }) f.asks all))
-        x.rows.faces (asks_are s m x at_ ordered) (each_ask cmp matching x.rows ordered (open_at s.gateways m x open_ at_).stand))))
+        x.rows.faces (asks_are cmp matching s m x at_ ordered) (each_ask cmp matching x.rows ordered (open_at s.gateways m x open_ at_).stand))))
 
     unlinked : (n : ℕ) (s : Fabric K) → FabricIsInOrder cmp matching s → Open s.gateways
         → (let fs = both_ends cmp matching s n in
@@ -437,7 +423,7 @@ module _ {K : Type 0} (cmp : K → K → Ordering) (matching : K → K → Bool)
 
         -- a face when it has heard: what its asks came to, and whether their pendings stand at its gateway
         Seen : ℕ → Rows K → ℕ → Type 0
-        Seen j h k = Each (λ row. Outcome cmp matching k row.0 row.1 true h (printed_for (number_from 1 j k X.faces) ms)) (asks_of s j k) × ((ask : Ask K) → none_stands gs j ask ≡ not (list_any (stands h) ask.pendings))
+        Seen j h k = Each (λ row. Outcome cmp matching k row.0 row.1 true h (printed_for (number_from 1 j k X.faces) ms)) (asks_of cmp matching s j k) × ((ask : Ask K) → none_stands gs j ask ≡ not (list_any (stands h) ask.pendings))
 
         After : ℕ → Node K → Type 0
         After j y = Each (λ f. Seen j y.rows f.number) y.rows.faces
@@ -449,7 +435,7 @@ module _ {K : Type 0} (cmp : K → K → Ordering) (matching : K → K → Bool)
         Came j x = Each (CameTo j x) x.rows.faces
 
         WasAsk : ℕ → Face K → Type 0
-        WasAsk j f = Each (λ row. at_id row.0 (asks_of s j f.number) ≡ Some row.1) f.asks
+        WasAsk j f = Each (λ row. at_id row.0 (asks_of cmp matching s j f.number) ≡ Some row.1) f.asks
 
         Was : ℕ → Node K → Type 0
         Was j x = Each (WasAsk j) x.rows.faces
@@ -481,19 +467,19 @@ module _ {K : Type 0} (cmp : K → K → Ordering) (matching : K → K → Bool)
 
         was_ : EachFrom Was 1 X.gateways
         was_ =
-            closed_asks cmp matching (λ j k asks. Each (λ row. at_id row.0 (asks_of s j k) ≡ Some row.1) asks) fs s
-            (from_nth (λ j (x : Node K). Each (λ f. Each (λ row. at_id row.0 (asks_of s j f.number) ≡ Some row.1) f.asks) x.rows.faces) 0 s.gateways
+            closed_asks cmp matching (λ j k asks. Each (λ row. at_id row.0 (asks_of cmp matching s j k) ≡ Some row.1) asks) fs s
+            (from_nth (λ j (x : Node K). Each (λ f. Each (λ row. at_id row.0 (asks_of cmp matching s j f.number) ≡ Some row.1) f.asks) x.rows.faces) 0 s.gateways
             (λ m x at_.
             let e : m ≡ 0 + m = omega arith in
             let ordered = (gateway_in_order cmp matching s m x at_ fine).rows in
-            subst (λ j. Each (λ f. Each (λ row. at_id row.0 (asks_of s j f.number) ≡ Some row.1) f.asks) x.rows.faces) e
-            (each_both (λ f. asks_of s m f.number ≡ f.asks) HasRowsInOrder (λ f. Each (λ row. at_id row.0 (asks_of s m f.number) ≡ Some row.1) f.asks)
-            (λ f same_ rows. subst (λ (asks : ById (Ask K)). Each (λ row. at_id row.0 asks ≡ Some row.1) f.asks) (sym same_) (each_at 0 f.asks rows.asks)) x.rows.faces (asks_are s m x at_ ordered) ordered.lists.rows)))
+            subst (λ j. Each (λ f. Each (λ row. at_id row.0 (asks_of cmp matching s j f.number) ≡ Some row.1) f.asks) x.rows.faces) e
+            (each_both (λ f. asks_of cmp matching s m f.number ≡ f.asks) HasRowsInOrder (λ f. Each (λ row. at_id row.0 (asks_of cmp matching s m f.number) ≡ Some row.1) f.asks)
+            (λ f same_ rows. subst (λ (asks : ById (Ask K)). Each (λ row. at_id row.0 asks ≡ Some row.1) f.asks) (sym same_) (each_at 0 f.asks rows.asks)) x.rows.faces (asks_are cmp matching s m x at_ ordered) ordered.lists.rows)))
 
         each_row : (j : ℕ) (x : Node K) (f : Face K) → CameTo j x f → WasAsk j f → FinishedAll calls gs j x.rows f (printed_for (number_from 1 j f.number X.faces) ms)
         each_row j x f own were =
-            each_weaker (λ row. at_id row.0 (asks_of s j f.number) ≡ Some row.1) (Finished calls gs j f (printed_for (number_from 1 j f.number X.faces) ms))
-            (λ row at_. outcome row (each_at_id (λ r. Outcome cmp matching f.number r.0 r.1 true (rows_after_hearing cmp X ms j x.rows) (printed_for (number_from 1 j f.number X.faces) ms)) row.0 (asks_of s j f.number) row.1 own.0 at_))
+            each_weaker (λ row. at_id row.0 (asks_of cmp matching s j f.number) ≡ Some row.1) (Finished calls gs j f (printed_for (number_from 1 j f.number X.faces) ms))
+            (λ row at_. outcome row (each_at_id (λ r. Outcome cmp matching f.number r.0 r.1 true (rows_after_hearing cmp X ms j x.rows) (printed_for (number_from 1 j f.number X.faces) ms)) row.0 (asks_of cmp matching s j f.number) row.1 own.0 at_))
             f.asks were
           where
             outcome : (row : ℕ × Ask K) → Outcome cmp matching f.number row.0 row.1 true (rows_after_hearing cmp X ms j x.rows) (printed_for (number_from 1 j f.number X.faces) ms) → Finished calls gs j f (printed_for (number_from 1 j f.number X.faces) ms) row
@@ -556,17 +542,22 @@ module _ {K : Type 0} (cmp : K → K → Ordering) (matching : K → K → Bool)
             cases None = refl
             cases (Some x) = refl
 
-    module _ (is_built : PlainLine K → Bool) where
-      open_after : (line : PlainLine K) (s : Fabric K) → HasFirstIds line → FabricIsInOrder cmp matching s → Open s.gateways → Open (fabric_after cmp matching line (entry_of cmp matching is_built line s) s).gateways
-      open_after line s real fine open_ = (each_after_line cmp matching (AsksAreOpen cmp matching) (open_is_left cmp matching total equal_is_same) total is_built line s real (record { order = fine; gateways = open_ })).gateways
+    -- every gateway of the empty fabric, and of what a line leaves
+    pub open_first : EachGatewayIs cmp matching (AsksAreOpen cmp matching) empty_fabric
+    open_first = record { order = in_order_empty cmp matching; gateways = tt }
 
+    pub open_after_line : (is_built : PlainLine K → Bool) (line : PlainLine K) (s : Fabric K) → HasFirstIds line → EachGatewayIs cmp matching (AsksAreOpen cmp matching) s
+        → EachGatewayIs cmp matching (AsksAreOpen cmp matching) (fabric_after cmp matching line (entry_of cmp matching is_built line s) s)
+    open_after_line is_built line s real is = each_after_line cmp matching (AsksAreOpen cmp matching) (open_is_left cmp matching total equal_is_same) total is_built line s real is
+
+    module _ (is_built : PlainLine K → Bool) where
       -- Each turn of a transcript finishes the asks that it ends, from any fabric on whose asks are open.
       pub turns_finish : (lines : List (PlainLine K)) (s : Fabric K) → Each HasFirstIds lines → EachGatewayIs cmp matching (AsksAreOpen cmp matching) s
           → Each (FinishesAsks cmp matching) (turns_from cmp matching lines (entries_from cmp matching is_built lines s) (as_shown s))
       turns_finish lines s real is =
           turns_have cmp matching total is_built (FinishesAsks cmp matching) (λ x. Open x.gateways)
           (λ line x first ordered open_.
-          let next = open_after line x first ordered open_ in
+          let next = (open_after_line is_built line x first (record { order = ordered; gateways = open_ })).gateways in
           let after = fabric_after cmp matching line (entry_of cmp matching is_built line x) x in (
             finishes_shown x _ (turn_is_shown cmp matching total (λ y. Open y.gateways) Comes finals_of_calls is_built line x first ordered open_) (each_map AsksHold node_shown after.gateways (standing_if_open after.gateways next)),
             next,
@@ -574,4 +565,4 @@ module _ {K : Type 0} (cmp : K → K → Ordering) (matching : K → K → Bool)
           lines s real is.order is.gateways
 
       pub turns_finish_first : (lines : List (PlainLine K)) → Each HasFirstIds lines → Each (FinishesAsks cmp matching) (turns_from cmp matching lines (entries_from cmp matching is_built lines empty_fabric) empty_fabric)
-      turns_finish_first lines real = turns_finish lines empty_fabric real (record { order = in_order_empty cmp matching; gateways = tt })
+      turns_finish_first lines real = turns_finish lines empty_fabric real open_first
