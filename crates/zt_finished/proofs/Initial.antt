@@ -44,7 +44,7 @@ use Rattle.zt_turns.proofs.Saying.{interests_say, tokens_say}
 use Rattle.zt_finished.proofs.Last.{NoFinal}
 
 -- a fact of each at its place
-from_nth : {A : Type 0} (P : ℕ → A → Type 0) (i : ℕ) (xs : List A) → ((m : ℕ) (x : A) → nth m xs ≡ Some x → P (i + m) x) → EachFrom P (i + 1) xs
+pub from_nth : {A : Type 0} (P : ℕ → A → Type 0) (i : ℕ) (xs : List A) → ((m : ℕ) (x : A) → nth m xs ≡ Some x → P (i + m) x) → EachFrom P (i + 1) xs
 from_nth P i [] one = tt
 from_nth {A = A} P i (x ∷ xs) one = (one 1 x refl, from_nth P (i + 1) xs later)
   where
@@ -78,16 +78,16 @@ module _ {K : Type 0} where
   each_found g = each_weaker (λ f. list_any (λ (k : Face K). f.number == k.number) g.faces ≡ true) (λ f. is_some (find_face f.number g) ≡ true) (λ f there. some_where (λ (k : Face K). f.number == k.number) g.faces ∙ there) g.faces (any_own g.faces)
 
   -- a new face is found behind others
-  find_new : (n : ℕ) (fs : List (Face K)) (x : Face K) → Each (λ f. (n == f.number) ≡ false) fs → (n == x.number) ≡ true → first_where (λ f. n == f.number) (fs ++ x ∷ []) ≡ Some x
+  pub find_new : (n : ℕ) (fs : List (Face K)) (x : Face K) → Each (λ f. (n == f.number) ≡ false) fs → (n == x.number) ≡ true → first_where (λ f. n == f.number) (fs ++ x ∷ []) ≡ Some x
   find_new n [] x apart own = rw own refl
   find_new n (f ∷ fs) x apart own = let miss : (n == f.number) ≡ false = apart.0 in rw miss (find_new n fs x apart.1 own)
 
   -- finals come behind what has none
-  finals_after : (xs ys : List (Message K)) → Each NoFinal xs → finals_in 0 (xs ++ ys) ≡ finals_in 0 ys
+  pub finals_after : (xs ys : List (Message K)) → Each NoFinal xs → finals_in 0 (xs ++ ys) ≡ finals_in 0 ys
   finals_after [] ys none_ = refl
   finals_after (x ∷ xs) ys none_ = let miss : is_final_of 0 x ≡ false = none_.0 0 in rw miss (finals_after xs ys none_.1)
 
-  to_face_none : (k n : ℕ) (rule : Face K → List (Message K)) (g : Rows K) → (k == n) ≡ false → messages_for k (to_face n rule g) ≡ []
+  pub to_face_none : (k n : ℕ) (rule : Face K → List (Message K)) (g : Rows K) → (k == n) ≡ false → messages_for k (to_face n rule g) ≡ []
   unfolding to_face messages_for
   to_face_none k n rule g miss = cases (find_face n g)
     where
@@ -95,7 +95,7 @@ module _ {K : Type 0} where
       cases None = refl
       cases (Some f) = messages_for_other k n (rule f) miss
 
-  to_face_own : (n : ℕ) (rule : Face K → List (Message K)) (g : Rows K) (f : Face K) → find_face n g ≡ Some f → messages_for n (to_face n rule g) ≡ rule f
+  pub to_face_own : (n : ℕ) (rule : Face K → List (Message K)) (g : Rows K) (f : Face K) → find_face n g ≡ Some f → messages_for n (to_face n rule g) ≡ rule f
   unfolding to_face
   to_face_own n rule g f found = ap (λ (o : Option (Face K)). (let ss : Sends K = elim o [ None ↦ [] | Some h ↦ map (λ m. (n, m)) (rule h) ] in messages_for n ss)) found ∙ messages_for_own n (rule f)
 
@@ -130,7 +130,7 @@ module _ {K : Type 0} where
       (λ j x own. each_weaker (λ f. was_open s j f.number ≡ true) (λ f. New s j x.rows f (printed_for (number_from 1 j f.number places) ms)) (λ f there fresh. never there fresh) x.rows.faces own) 1 gs old
 
 module _ {K : Type 0} (cmp : K → K → Ordering) (matching : K → K → Bool) where
-  heard-initial : (now : ℕ) (m : Message K) (f : Face K) → (heard cmp now m f).initial ≡ f.initial
+  pub heard-initial : (now : ℕ) (m : Message K) (f : Face K) → (heard cmp now m f).initial ≡ f.initial
   heard-initial now (message.DeclareToken id e interest node) f = refl
   heard-initial now (message.UndeclareToken id e node) f = refl
   heard-initial now (message.DeclareFinal id) f = refl
@@ -139,7 +139,7 @@ module _ {K : Type 0} (cmp : K → K → Ordering) (matching : K → K → Bool)
   heard-initial now (message.DeclareSubscriber number e id) f = refl
   heard-initial now (message.DeclareQueryable number e info id) f = refl
 
-  heard_numbers : (Q : ℕ → Type 0) (ss : Sends K) (g : Rows K) → Each (λ f. Q f.number) g.faces → Each (λ f. Q f.number) (rows_heard cmp ss g).faces
+  pub heard_numbers : (Q : ℕ → Type 0) (ss : Sends K) (g : Rows K) → Each (λ f. Q f.number) g.faces → Each (λ f. Q f.number) (rows_heard cmp ss g).faces
   unfolding rows_heard
   heard_numbers Q ss g all =
       let hears = λ (f : Face K). heard_all cmp g.moment (messages_for f.number ss) f in
@@ -258,7 +258,7 @@ module _ {K : Type 0} (cmp : K → K → Ordering) (matching : K → K → Bool)
   abbrev Stay : Fabric K → List Place → Type 0
   Stay s places = (j k : ℕ) → is_placed j k s.faces ≡ true → number_from 1 j k places ≡ number_from 1 j k s.faces
 
-  opened_stay : (ends : List (LinkEnd K)) (X : Fabric K) (j k : ℕ) → is_placed j k X.faces ≡ true → number_from 1 j k (opened_ends cmp matching ends X).faces ≡ number_from 1 j k X.faces
+  pub opened_stay : (ends : List (LinkEnd K)) (X : Fabric K) (j k : ℕ) → is_placed j k X.faces ≡ true → number_from 1 j k (opened_ends cmp matching ends X).faces ≡ number_from 1 j k X.faces
   unfolding opened_ends
   opened_stay [] X j k there = refl
   opened_stay (end ∷ ends) X j k there = let one = cases (opening_at cmp matching X end) in opened_stay ends (opened_at cmp matching (opening_at cmp matching X end) X) j k one.0 ∙ one.1

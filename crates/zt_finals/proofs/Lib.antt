@@ -1,0 +1,3 @@
+pub mod Silent
+pub mod Named
+pub mod Whole
