@@ -1,0 +1,6 @@
+pub mod Sums
+pub mod Prices
+pub mod Once
+pub mod Sends
+pub mod Ending
+pub mod Answering

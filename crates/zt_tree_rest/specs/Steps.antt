@@ -1,0 +1,101 @@
+-- How many steps can follow one another in a fabric of trees where nothing but steps comes. A message that falls comes to
+-- each gateway below at most once. One that rises is passed on at each gateway above, and brings about messages that
+-- fall there. An interest that was sent up is ended once. An ask that stands is answered each token once, and finished once.
+use Rattle.std.specs.Prelude.{ℕ, zero, suc, Bool, true, ◌+◌, ◌*◌, not, if◌then◌else◌, List, [], ◌∷◌, ◌++◌, length, sum_by, None, Some, map, filter}
+use Rattle.std.specs.List.{flat_map}
+use Rattle.std.specs.Option.{option_to_list}
+use Rattle.std.specs.declared.cmp.Ordering.{Ordering}
+use Rattle.zt_region.specs.Region.{is_north}
+use Rattle.zt_protocol.specs.declared.messages.Message.{Message}
+use Rattle.zt_protocol.specs.declared.messages.Message.TheVariants.{DeclareToken, InterestFinal}
+use Rattle.zt_model.specs.Fabric.{Fabric, Node, number_of_place}
+use Rattle.zt_model.specs.Linking.{gateway_beyond}
+use Rattle.zt_model.specs.Lists.{in_key_order, is_among, nth}
+use Rattle.zt_model.specs.Rows.{Ask, Face}
+use Rattle.zt_model.specs.Transcript.{FaceAt, face_numbered}
+
+-- ---- gateways above and below
+
+abbrev pub faces_of : {K : Type 0} → Fabric K → ℕ → List (Face K)
+faces_of s n = elim (nth n s.gateways) [ None ↦ [] | Some node ↦ node.rows.faces ]
+
+-- the gateway at the other end of a face's open link
+abbrev pub beyond : {K : Type 0} → Fabric K → ℕ → Face K → List ℕ
+beyond s n f = option_to_list (gateway_beyond s (number_of_place s n f.number))
+
+-- How many gateways a message comes to that falls to this one: itself, and those below, as many levels down.
+unfoldable pub falls : {K : Type 0} → ℕ → Fabric K → ℕ → ℕ
+falls zero s n = 1
+falls (suc levels) s n = 1 + sum_by (λ f. if is_north f.region then 0 else sum_by (falls levels s) (beyond s n f)) (faces_of s n)
+
+-- down to the last
+abbrev pub falls_from : {K : Type 0} → Fabric K → ℕ → ℕ
+falls_from s n = falls (length s.gateways) s n
+
+-- the entities of a gateway's faces
+abbrev pub entities_at : {K : Type 0} → Fabric K → ℕ → ℕ
+entities_at s n = sum_by (λ f. length f.subscribers + length f.queryables) (faces_of s n)
+
+-- The most that is sent down in answer to a message from below, where there are so many tokens.
+abbrev pub most_answers : {K : Type 0} → ℕ → Fabric K → ℕ → ℕ
+most_answers tokens s n = 3 * tokens + entities_at s n + 2
+
+-- How many steps a message comes to that rises to this gateway: on each gateway on its way, as many levels up.
+unfoldable pub rises : {K : Type 0} → ℕ → ℕ → Fabric K → ℕ → ℕ
+rises zero tokens s n = 0
+rises (suc levels) tokens s n =
+    most_answers tokens s n * falls_from s n + sum_by (λ f. if is_north f.region then sum_by (rises levels tokens s) (beyond s n f) else 0) (faces_of s n)
+
+abbrev pub rises_from : {K : Type 0} → ℕ → Fabric K → ℕ → ℕ
+rises_from tokens s n = rises (length s.gateways + 1) tokens s n
+
+-- How many steps the end of an interest comes to that this gateway sent up: each token can be untold that it was told.
+abbrev pub ends_from : {K : Type 0} → ℕ → Fabric K → ℕ → ℕ
+ends_from tokens s n = 1 + tokens * falls_from s n
+
+-- ---- what messages, interests and asks come to
+
+-- how many steps a message to be spoken at the other end of a gateway's face comes to, but the end of an interest
+abbrev pub passes_on : {K : Type 0} → ℕ → Fabric K → ℕ → Face K → ℕ
+passes_on tokens s n f = sum_by (λ m. if is_north f.region then rises_from tokens s m else falls_from s m) (beyond s n f)
+
+abbrev pub steps_of : {K : Type 0} → ℕ → Fabric K → FaceAt K → Message K → ℕ
+steps_of tokens s x (InterestFinal id) = ends_from tokens s x.gateway
+steps_of tokens s x m = passes_on tokens s x.gateway x.face
+
+-- of all that waits for a face
+abbrev pub steps_of_queue : {K : Type 0} → ℕ → Fabric K → ℕ × List (Message K) → ℕ
+steps_of_queue tokens s row = elim (face_numbered s row.0) [ None ↦ 0 | Some x ↦ sum_by (steps_of tokens s x) row.1 ]
+
+-- the tokens that a list of messages declares
+abbrev pub declared : {K : Type 0} → List (Message K) → List K
+declared [] = []
+declared (DeclareToken id e interest node ∷ ms) = e ∷ declared ms
+declared (_ ∷ ms) = declared ms
+
+module _ {K : Type 0} (cmp : K → K → Ordering) where
+  -- the tokens that are live anywhere, or wait
+  abbrev pub tokens_of : Fabric K → List K
+  tokens_of s =
+      in_key_order cmp (flat_map (λ (node : Node K). flat_map (λ f. map (λ row. row.1) f.live) node.rows.faces) s.gateways ++ flat_map (λ row. declared row.1) s.waiting)
+
+  -- those of them that an ask wasn't answered yet
+  abbrev pub unanswered : List K → Ask K → ℕ
+  unanswered tokens ask = length (filter (λ e. not (is_among cmp e ask.answered)) tokens)
+
+  -- how many steps the interests that a face was sent, and its asks, can still come to
+  abbrev pub steps_due : List K → Fabric K → ℕ → Face K → ℕ
+  steps_due tokens s n f =
+      length f.locals * ends_from (length tokens) s n + sum_by (λ row. (1 + unanswered tokens row.1) * passes_on (length tokens) s n f) f.asks
+
+  -- at the gateways from the n-th on
+  abbrev pub steps_due_from : List K → Fabric K → ℕ → List (Node K) → ℕ
+  steps_due_from tokens s n [] = 0
+  steps_due_from tokens s n (node ∷ nodes) = sum_by (steps_due tokens s n) node.rows.faces + steps_due_from tokens s (n + 1) nodes
+
+  abbrev pub steps_with : List K → Fabric K → ℕ
+  steps_with tokens s = sum_by (steps_of_queue (length tokens) s) s.waiting + steps_due_from tokens s 1 s.gateways
+
+  -- the most steps that can follow one another
+  abbrev pub most_steps : Fabric K → ℕ
+  most_steps s = steps_with (tokens_of s) s
