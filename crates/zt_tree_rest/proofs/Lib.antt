@@ -4,3 +4,4 @@ pub mod Once
 pub mod Sends
 pub mod Ending
 pub mod Answering
+pub mod Telling
