@@ -5,3 +5,5 @@ pub mod Sends
 pub mod Ending
 pub mod Answering
 pub mod Telling
+pub mod Frames
+pub mod Calls

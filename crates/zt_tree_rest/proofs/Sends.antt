@@ -58,6 +58,9 @@ module _ {K : Type 0} (cmp : K → K → Ordering) (tokens : List K) (price : �
   abbrev pub cost : Sends K → ℕ
   cost ss = total (λ s. message_price cmp tokens price end_price s.0 s.1) ss
 
+  pub cost-append : (ss ts : Sends K) → cost (ss ++ ts) ≡ cost ss + cost ts
+  cost-append ss ts = total-append (λ (s : ℕ × Message K). message_price cmp tokens price end_price s.0 s.1) ss ts
+
   abbrev pub owed_by : List (Face K) → ℕ
   owed_by fs = total (owed cmp tokens price end_price) fs
 
