@@ -7,3 +7,4 @@ pub mod Answering
 pub mod Telling
 pub mod Frames
 pub mod Calls
+pub mod Tokens
