@@ -8,3 +8,4 @@ pub mod Telling
 pub mod Frames
 pub mod Calls
 pub mod Tokens
+pub mod Interests
