@@ -86,7 +86,7 @@ module _ {K : Type 0} (cmp : K → K → Ordering) (matching : K → K → Bool)
       let rs = filter (is_newly_shown cmp h source e) (router_regions h) in
       let still : Owes cmp matching tokens price end_price (with_own_rows cmp rs e h) ≡ Owes cmp matching tokens price end_price h = own_rows_leave cmp (Owes cmp matching tokens price end_price) (λ k rows. refl) rs e h in
       runs_say cmp matching tokens price end_price (λ k. to_each (show_to cmp k source e) k.faces) _ g 0 0 (none_said (show_to cmp g source e) g framed pays)
-      (runs_alter cmp matching tokens price end_price _ [] h 0 0 (omega arith) (runs_nothing cmp matching tokens price end_price _))
+      (runs_alter cmp matching tokens price end_price _ [] h 0 0 (omega arith) (own_rows_leave cmp (λ k. map outline k.faces) (λ k rows. refl) rs e h) (runs_nothing cmp matching tokens price end_price _))
 
   pub hiding_runs : (source : Region) (e : K) (g : Rows K) → Frame g → Runs (hiding cmp source e) g 0
   unfolding hide_to without_own_rows
@@ -95,7 +95,7 @@ module _ {K : Type 0} (cmp : K → K → Ordering) (matching : K → K → Bool)
       let pays = each_weaker (λ f. is_router_hat (strategy_of mode f.region) ≡ false) (λ f. Pays cmp tokens price end_price g.moment f 0 (hide_to cmp g source e f)) (λ f none_. nothing_pays cmp matching tokens price end_price g.moment f (hide_to cmp g source e f) (hide_none g source e f framed.mode_is none_)) g.faces none_ in
       let h = rows_heard cmp (to_each (hide_to cmp g source e) g.faces) g in
       runs_say cmp matching tokens price end_price (λ k. to_each (hide_to cmp k source e) k.faces) _ g 0 0 (none_said (hide_to cmp g source e) g framed pays)
-      (runs_alter cmp matching tokens price end_price (without_own_rows cmp source e) [] h 0 0 (omega arith) (runs_nothing cmp matching tokens price end_price _))
+      (runs_alter cmp matching tokens price end_price (without_own_rows cmp source e) [] h 0 0 (omega arith) refl (runs_nothing cmp matching tokens price end_price _))
 
   -- ---- a change of one face that owes no more
 

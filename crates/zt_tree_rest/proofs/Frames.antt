@@ -80,24 +80,25 @@ module _ {K : Type 0} (cmp : K → K → Ordering) (matching : K → K → Bool)
   abbrev pub Cost : Sends K → ℕ
   Cost ss = cost cmp tokens price end_price ss
 
-  -- what parts say, and what is owed once they have run, is within what was owed and so much
+  -- what parts say, and what is owed once they have run, is within what was owed and so much; and faces keep their outlines
   pub record RunsWithin (parts : List (Part K)) (g : Rows K) (most : ℕ) : Type 0 where
     pub within : Cost (said_by cmp matching parts g) + Owes (ran cmp parts g) ≤ Owes g + most
+    pub outlines : map outline (ran cmp parts g).faces ≡ map outline g.faces
 
   pub runs_nothing : (g : Rows K) → RunsWithin [] g 0
   unfolding said_by ran
-  runs_nothing g = record { within = omega arith }
+  runs_nothing g = record { within = omega arith; outlines = refl }
 
-  pub runs_alter : (change : Rows K → Rows K) (parts : List (Part K)) (g : Rows K) (a b : ℕ) → Owes (change g) ≤ Owes g + a → RunsWithin parts (change g) b → RunsWithin (Alter change ∷ parts) g (a + b)
+  pub runs_alter : (change : Rows K → Rows K) (parts : List (Part K)) (g : Rows K) (a b : ℕ) → Owes (change g) ≤ Owes g + a → map outline (change g).faces ≡ map outline g.faces → RunsWithin parts (change g) b → RunsWithin (Alter change ∷ parts) g (a + b)
   unfolding said_by ran
-  runs_alter change parts g a b first rest = let r = rest.within in record { within = omega arith }
+  runs_alter change parts g a b first same_ rest = let r = rest.within in record { within = omega arith; outlines = rest.outlines ∙ same_ }
 
   pub runs_say : (rule : Rows K → Sends K) (parts : List (Part K)) (g : Rows K) (a b : ℕ) → Cost (rule g) + Owes (rows_heard cmp (rule g) g) ≤ Owes g + a → RunsWithin parts (rows_heard cmp (rule g) g) b → RunsWithin (Say rule ∷ parts) g (a + b)
   unfolding said_by ran
   runs_say rule parts g a b first rest =
       let sum = cost-append cmp tokens price end_price (rule g) (said_by cmp matching parts (rows_heard cmp (rule g) g)) in
       let r = rest.within in
-      record { within = omega arith }
+      record { within = omega arith; outlines = rest.outlines ∙ heard_outlines cmp (rule g) g }
 
   pub runs_append : (ps qs : List (Part K)) (g : Rows K) (a b : ℕ) → RunsWithin ps g a → RunsWithin qs (ran cmp ps g) b → RunsWithin (ps ++ qs) g (a + b)
   runs_append ps qs g a b first rest =
@@ -106,7 +107,7 @@ module _ {K : Type 0} (cmp : K → K → Ordering) (matching : K → K → Bool)
       let two = rest.within in
       let said_is : Cost (said_by cmp matching (ps ++ qs) g) ≡ Cost (said_by cmp matching ps g ++ said_by cmp matching qs (ran cmp ps g)) = ap Cost (said_by-append cmp matching ps qs g) in
       let ran_is : Owes (ran cmp (ps ++ qs) g) ≡ Owes (ran cmp qs (ran cmp ps g)) = ap Owes (ran-append cmp ps qs g) in
-      record { within = omega arith }
+      record { within = omega arith; outlines = ap (λ (h : Rows K). map outline h.faces) (ran-append cmp ps qs g) ∙ rest.outlines ∙ first.outlines }
 
   pub runs_more : (parts : List (Part K)) (g : Rows K) (a b : ℕ) → a ≤ b → RunsWithin parts g a → RunsWithin parts g b
-  runs_more parts g a b le runs = let r = runs.within in record { within = omega arith }
+  runs_more parts g a b le runs = let r = runs.within in record { within = omega arith; outlines = runs.outlines }

@@ -9,3 +9,4 @@ pub mod Frames
 pub mod Calls
 pub mod Tokens
 pub mod Interests
+pub mod Weights

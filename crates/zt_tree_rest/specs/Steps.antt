@@ -1,7 +1,7 @@
 -- How many steps can follow one another in a fabric of trees where nothing but steps comes. A message that falls comes to
 -- each gateway below at most once. One that rises is passed on at each gateway above, and brings about messages that
 -- fall there. An interest that was sent up is ended once. An ask that stands is answered each token once, and finished once.
-use Rattle.std.specs.Prelude.{ℕ, zero, suc, Bool, true, ◌+◌, ◌*◌, not, if◌then◌else◌, List, [], ◌∷◌, ◌++◌, length, sum_by, None, Some, map, filter}
+use Rattle.std.specs.Prelude.{ℕ, zero, suc, ◌+◌, ◌*◌, not, if◌then◌else◌, List, [], ◌∷◌, ◌++◌, length, sum_by, None, Some, map, filter}
 use Rattle.std.specs.List.{flat_map}
 use Rattle.std.specs.Option.{option_to_list}
 use Rattle.std.specs.declared.cmp.Ordering.{Ordering}
@@ -12,7 +12,7 @@ use Rattle.zt_model.specs.Fabric.{Fabric, Node, number_of_place}
 use Rattle.zt_model.specs.Linking.{gateway_beyond}
 use Rattle.zt_model.specs.Lists.{in_key_order, is_among, nth}
 use Rattle.zt_model.specs.Rows.{Ask, Face}
-use Rattle.zt_model.specs.Transcript.{FaceAt, face_numbered}
+use Rattle.zt_model.specs.Transcript.{face_numbered}
 
 -- ---- gateways above and below
 
@@ -20,15 +20,16 @@ abbrev pub faces_of : {K : Type 0} → Fabric K → ℕ → List (Face K)
 faces_of s n = elim (nth n s.gateways) [ None ↦ [] | Some node ↦ node.rows.faces ]
 
 -- the gateway at the other end of a face's open link
-abbrev pub beyond : {K : Type 0} → Fabric K → ℕ → Face K → List ℕ
-beyond s n f = option_to_list (gateway_beyond s (number_of_place s n f.number))
+abbrev pub beyond : {K : Type 0} → Fabric K → ℕ → List ℕ
+beyond s k = option_to_list (gateway_beyond s k)
 
--- How many gateways a message comes to that falls to this one: itself, and those below, as many levels down.
+-- How many steps a message that falls to a gateway comes to: one there, and as many as it comes to at each gateway
+-- below, down so many levels.
 unfoldable pub falls : {K : Type 0} → ℕ → Fabric K → ℕ → ℕ
 falls zero s n = 1
-falls (suc levels) s n = 1 + sum_by (λ f. if is_north f.region then 0 else sum_by (falls levels s) (beyond s n f)) (faces_of s n)
+falls (suc levels) s n = 1 + sum_by (λ f. if is_north f.region then 0 else sum_by (falls levels s) (beyond s (number_of_place s n f.number))) (faces_of s n)
 
--- down to the last
+-- down to the last: as many as there are gateways from this one down
 abbrev pub falls_from : {K : Type 0} → Fabric K → ℕ → ℕ
 falls_from s n = falls (length s.gateways) s n
 
@@ -36,38 +37,42 @@ falls_from s n = falls (length s.gateways) s n
 abbrev pub entities_at : {K : Type 0} → Fabric K → ℕ → ℕ
 entities_at s n = sum_by (λ f. length f.subscribers + length f.queryables) (faces_of s n)
 
--- The most that is sent down in answer to a message from below, where there are so many tokens.
+-- the most that falls at a gateway because of a message from below, where there are so many tokens
 abbrev pub most_answers : {K : Type 0} → ℕ → Fabric K → ℕ → ℕ
 most_answers tokens s n = 3 * tokens + entities_at s n + 2
 
--- How many steps a message comes to that rises to this gateway: on each gateway on its way, as many levels up.
+-- How many steps a message that rises to a gateway comes to: those that fall there, and as many as it comes to above, up
+-- so many levels.
 unfoldable pub rises : {K : Type 0} → ℕ → ℕ → Fabric K → ℕ → ℕ
 rises zero tokens s n = 0
 rises (suc levels) tokens s n =
-    most_answers tokens s n * falls_from s n + sum_by (λ f. if is_north f.region then sum_by (rises levels tokens s) (beyond s n f) else 0) (faces_of s n)
+    most_answers tokens s n * falls_from s n
+    + sum_by (λ f. if is_north f.region then sum_by (rises levels tokens s) (beyond s (number_of_place s n f.number)) else 0) (faces_of s n)
 
+-- up to the first
 abbrev pub rises_from : {K : Type 0} → ℕ → Fabric K → ℕ → ℕ
-rises_from tokens s n = rises (length s.gateways + 1) tokens s n
+rises_from tokens s n = rises (suc (length s.gateways)) tokens s n
 
--- How many steps the end of an interest comes to that this gateway sent up: each token can be untold that it was told.
+-- How many steps the end of an interest comes to that a gateway has sent up: there each token can be untold.
 abbrev pub ends_from : {K : Type 0} → ℕ → Fabric K → ℕ → ℕ
 ends_from tokens s n = 1 + tokens * falls_from s n
 
 -- ---- what messages, interests and asks come to
 
--- how many steps a message to be spoken at the other end of a gateway's face comes to, but the end of an interest
-abbrev pub passes_on : {K : Type 0} → ℕ → Fabric K → ℕ → Face K → ℕ
-passes_on tokens s n f = sum_by (λ m. if is_north f.region then rises_from tokens s m else falls_from s m) (beyond s n f)
+-- how many steps a message for a face comes to, when it is spoken at the other end
+abbrev pub passes_on : {K : Type 0} → ℕ → Fabric K → ℕ → ℕ
+passes_on tokens s k =
+    elim (face_numbered s k) [ None ↦ 0 | Some x ↦ sum_by (λ n. if is_north x.face.region then rises_from tokens s n else falls_from s n) (beyond s k) ]
 
-abbrev pub steps_of : {K : Type 0} → ℕ → Fabric K → FaceAt K → Message K → ℕ
-steps_of tokens s x (InterestFinal id) = ends_from tokens s x.gateway
-steps_of tokens s x m = passes_on tokens s x.gateway x.face
+abbrev pub steps_of : {K : Type 0} → ℕ → Fabric K → ℕ → Message K → ℕ
+steps_of tokens s k (InterestFinal id) = elim (face_numbered s k) [ None ↦ 0 | Some x ↦ ends_from tokens s x.gateway ]
+steps_of tokens s k m = passes_on tokens s k
 
 -- of all that waits for a face
 abbrev pub steps_of_queue : {K : Type 0} → ℕ → Fabric K → ℕ × List (Message K) → ℕ
-steps_of_queue tokens s row = elim (face_numbered s row.0) [ None ↦ 0 | Some x ↦ sum_by (steps_of tokens s x) row.1 ]
+steps_of_queue tokens s row = sum_by (steps_of tokens s row.0) row.1
 
--- the tokens that a list of messages declares
+-- the tokens that messages declare
 abbrev pub declared : {K : Type 0} → List (Message K) → List K
 declared [] = []
 declared (DeclareToken id e interest node ∷ ms) = e ∷ declared ms
@@ -83,19 +88,22 @@ module _ {K : Type 0} (cmp : K → K → Ordering) where
   abbrev pub unanswered : List K → Ask K → ℕ
   unanswered tokens ask = length (filter (λ e. not (is_among cmp e ask.answered)) tokens)
 
-  -- how many steps the interests that a face was sent, and its asks, can still come to
+  -- How many steps the interests that a face was sent, and its asks, can still come to: each interest can be ended, and
+  -- each ask be answered the other tokens, and finished.
   abbrev pub steps_due : List K → Fabric K → ℕ → Face K → ℕ
   steps_due tokens s n f =
-      length f.locals * ends_from (length tokens) s n + sum_by (λ row. (1 + unanswered tokens row.1) * passes_on (length tokens) s n f) f.asks
+      length f.locals * ends_from (length tokens) s n
+      + sum_by (λ row. (1 + unanswered tokens row.1) * passes_on (length tokens) s (number_of_place s n f.number)) f.asks
 
-  -- at the gateways from the n-th on
+  -- of gateways, from the n-th on
   abbrev pub steps_due_from : List K → Fabric K → ℕ → List (Node K) → ℕ
   steps_due_from tokens s n [] = 0
   steps_due_from tokens s n (node ∷ nodes) = sum_by (steps_due tokens s n) node.rows.faces + steps_due_from tokens s (n + 1) nodes
 
-  abbrev pub steps_with : List K → Fabric K → ℕ
-  steps_with tokens s = sum_by (steps_of_queue (length tokens) s) s.waiting + steps_due_from tokens s 1 s.gateways
+  -- how many steps can follow in a fabric, by the tokens, links and faces of an earlier one
+  abbrev pub steps_left : List K → Fabric K → Fabric K → ℕ
+  steps_left tokens s now = sum_by (steps_of_queue (length tokens) s) now.waiting + steps_due_from tokens s 1 now.gateways
 
-  -- the most steps that can follow one another
+  -- The most steps that can follow one another in a fabric of trees.
   abbrev pub most_steps : Fabric K → ℕ
-  most_steps s = steps_with (tokens_of s) s
+  most_steps s = steps_left (tokens_of s) s s
