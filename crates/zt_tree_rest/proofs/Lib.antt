@@ -10,3 +10,4 @@ pub mod Calls
 pub mod Tokens
 pub mod Interests
 pub mod Weights
+pub mod Directions
