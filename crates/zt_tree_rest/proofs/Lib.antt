@@ -11,3 +11,5 @@ pub mod Tokens
 pub mod Interests
 pub mod Weights
 pub mod Directions
+pub mod Waiting
+pub mod Arithmetic
