@@ -13,3 +13,4 @@ pub mod Weights
 pub mod Directions
 pub mod Waiting
 pub mod Arithmetic
+pub mod Since
