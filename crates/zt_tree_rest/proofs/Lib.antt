@@ -14,3 +14,5 @@ pub mod Directions
 pub mod Waiting
 pub mod Arithmetic
 pub mod Since
+pub mod AtGateway
+pub mod OneStep

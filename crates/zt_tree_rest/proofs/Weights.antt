@@ -264,6 +264,9 @@ module _ {K : Type 0} (cmp : K → K → Ordering) (matching : K → K → Bool)
           let within = agree.forest.within x.gateway in
           ap (λ k. 0 + k) (sym (rises_more tokens (length s.gateways) m (omega arith)))
 
+  pub entities_by_faces : (n : ℕ) (node : Node K) → nth n s.gateways ≡ Some node → entities_at s n ≡ total (λ o. length o.subscribers + length o.queryables) (map outline node.rows.faces)
+  entities_by_faces n node at_ = by_outlines (λ o. length o.subscribers + length o.queryables) n node at_
+
   -- ---- at a joint
 
   -- what falls to a gateway, and what rises to one
