@@ -3,20 +3,24 @@ use Rattle.std.proofs.Common.{◌≡◌, ◌≢◌, ℕ, ◌+◌, ◌*◌, ◌-�
 use Rattle.std.specs.Cmp.{IsTotalOrder}
 use Rattle.std.specs.declared.cmp.Ordering.{Ordering}
 use Rattle.std.specs.declared.cmp.Ordering.TheVariants.{Equal}
+use Rattle.zt_region.specs.declared.region.WhatAmI.{WhatAmI}
 use Rattle.zt_region.specs.Region.{is_north}
 use Rattle.zt_protocol.specs.Plain.{PlainCall, DeclareToken, UndeclareToken, Interest, InterestFinal, DeclareFinal}
 use Rattle.zt_protocol.specs.declared.entries.Sent.{Sent}
+use Rattle.zt_protocol.specs.declared.interests.InterestMode.{InterestMode}
+use Rattle.zt_protocol.specs.declared.interests.InterestOptions.{InterestOptions}
 use Rattle.zt_protocol.specs.declared.messages.Message.{Message}
 use Rattle.zt_protocol.specs.declared.messages.Message.TheVariants as message
 use Rattle.zt_model.specs.Fabric.{Fabric, Node, at_nth, number_of_place, printed_message}
 use Rattle.zt_model.specs.Linking.{waiting_of}
 use Rattle.zt_model.specs.Lists.{is_among, nth}
-use Rattle.zt_model.specs.Parts.{Sends, find_face}
+use Rattle.zt_model.specs.Parts.{Sends, find_face, is_routed}
 use Rattle.zt_model.specs.Rows.{Face, Rows}
 use Rattle.zt_model.specs.Says.{parts_of, said}
 use Rattle.zt_model.specs.Transcript.{Each, FaceAt, face_numbered}
 use Rattle.zt_laws.specs.Order.{FabricIsInOrder}
 use Rattle.zt_laws.specs.Sound.{RiseFrom, opens_face, rows_after_call}
+use Rattle.zt_laws.proofs.Gateways.{prints_sorted}
 use Rattle.zt_laws.proofs.Lists.{by_test}
 use Rattle.zt_laws.proofs.LinesOrder.{gateway_in_order}
 use Rattle.zt_kept.specs.Ran.{ran}
@@ -24,7 +28,9 @@ use Rattle.zt_kept.specs.Sound.{IsSound}
 use Rattle.zt_kept.proofs.CallsRun.{call_runs}
 use Rattle.zt_trees.specs.Facts.{IsForAbove, IsForBelow, IsTreeGateway, TreesAgree}
 use Rattle.zt_trees.specs.Joints.{are_joined}
+use Rattle.zt_trees.proofs.After.{after_call}
 use Rattle.zt_trees.proofs.Lasting.{printed_by, turned_by}
+use Rattle.zt_trees.proofs.Lines.{after_is}
 use Rattle.zt_trees.proofs.Members.{each_nth, number_is_its}
 use Rattle.zt_trees.proofs.Quiet.{joined_back}
 use Rattle.zt_trees.proofs.Stepping.{taken}
@@ -33,9 +39,10 @@ use Rattle.zt_tree_lines.proofs.Queues.{added}
 use Rattle.zt_tree_rest.specs.Steps.{ends_from, falls_from, most_answers, passes_on, rises_from, steps_left, steps_of}
 use Rattle.zt_tree_rest.proofs.Arithmetic.{interest_fits, token_fits}
 use Rattle.zt_tree_rest.proofs.AtGateway.{Down, Entities, Up, down_member, entities_are, framed, live_rise, looks, os, outside, plain, rises, told_tokens, up_once}
+use Rattle.zt_tree_rest.proofs.Calls.{NoRouters}
 use Rattle.zt_tree_rest.proofs.Directions.{fallen_declare, fallen_undeclare, risen_declare, risen_undeclare}
-use Rattle.zt_tree_rest.proofs.Frames.{Cost, Outline, RunsWithin, outline, runs_more}
-use Rattle.zt_tree_rest.proofs.Interests.{end_runs, interest_runs}
+use Rattle.zt_tree_rest.proofs.Frames.{Cost, Framed, Outline, RunsWithin, outline, runs_more}
+use Rattle.zt_tree_rest.proofs.Interests.{end_runs, interest_most, interest_runs}
 use Rattle.zt_tree_rest.proofs.Sends.{cost, owed_by}
 use Rattle.zt_tree_rest.proofs.Since.{Since, Was, dues, dues_changed, end_price, face_was, left_is, node_was, price, price_at_most, rise_taken, shapes, weight}
 use Rattle.zt_tree_rest.proofs.Sums.{times, times_is, total}
@@ -184,3 +191,109 @@ module _ {K : Type 0} (cmp : K → K → Ordering) (matching : K → K → Bool)
 
     rises_are : rises_from T s0 j ≡ (3 * T + Entities cmp matching tokens total_order equal_is_same node.rows sound_ tree_ in_ (Price j) (EndPrice j) + 2) * falls_from s0 j + UP
     rises_are = rises_by_faces cmp matching s0 fine0 agree0 T j outlines_.0 outlines_.1 ∙ ap (λ k. most_answers T s0 j * falls_from s0 j + k) (ap (λ xs. total (λ (o : Outline K). if is_north o.region then Price j o.number else 0) xs) (sym outlines_.2)) ∙ ap (λ k. k * falls_from s0 j + UP) entities_are_
+
+    abbrev Then : PlainCall K → Type 0
+    Then c = Lessens (after_call cmp matching total_order equal_is_same s fine agree (record s { waiting = taken q0 s.waiting }) (Some (record { gateway = j; rows = node.rows; call = c })))
+
+    -- a call's cost is within what its message weighs
+    then_ : (c : PlainCall K) (still : opens_face c ≡ false) (most : ℕ) → RunsWithin cmp matching tokens (Price j) (EndPrice j) (parts_of cmp matching c node.rows) node.rows most → most + 1 ≤ Weight q0 m → Then c
+    then_ c still most runs within =
+        subst Lessens (sym (after_is cmp matching total_order s fine agree j node c (printed_by cmp matching total_order equal_is_same s fine agree j node c) (taken q0 s.waiting) at_j still (prints_sorted s.faces j (said cmp matching c node.rows))))
+        (called j node at_j c still q0 m rest most oldest_is runs within)
+
+    abbrev Mode : WhatAmI
+    Mode = node.rows.mode
+
+    abbrev rises_ : RiseFrom (λ (o : Outline K). o.number) 1 OS
+    rises_ = rises cmp matching tokens total_order equal_is_same node.rows sound_ tree_ in_
+
+    abbrev plain_ : NoRouters Mode OS
+    plain_ = plain cmp matching tokens total_order equal_is_same node.rows sound_ tree_ in_
+
+    framed_ : Framed Mode OS node.rows
+    framed_ = framed cmp matching tokens total_order equal_is_same node.rows sound_ tree_ in_
+
+    outside_ : is_routed node.rows z.face ≡ false
+    outside_ = outside cmp matching tokens total_order equal_is_same node.rows sound_ tree_ in_ z.face.number z.face found
+
+    -- what a message weighs that ends no interest
+    abbrev IsMildly : Type 0
+    IsMildly = Weight q0 m ≡ passes_on T s0 q0
+
+    -- ---- what falls
+
+    module _ (north : is_north z.face.region ≡ true) where
+      fallen_weight : passes_on T s0 q0 ≡ 1 + DOWN
+      fallen_weight =
+          let south : is_north other.face.region ≡ false = turned_ ∙ ap not north in
+          falls_to cmp matching s0 fine0 agree0 T q0 q1 other was.face (joined_back s0 q1 q0 joined0) other_is was.is south ∙ ap (falls_from s0) was.gateway ∙ falls_are
+
+      fallen : (c : PlainCall K) (still : opens_face c ≡ false) (most : ℕ) → IsMildly → most ≤ DOWN → RunsWithin cmp matching tokens (Price j) (EndPrice j) (parts_of cmp matching c node.rows) node.rows most → Then c
+      fallen c still most mild less runs = let weighs = fallen_weight in then_ c still most runs (omega arith)
+
+      fallen_token : (id n : ℕ) (e : K) (i : Option ℕ) → is_among cmp e tokens ≡ true → IsMildly → Then (DeclareToken z.face.number id e n i)
+      fallen_token id n e i there mild =
+          fallen (DeclareToken z.face.number id e n i) refl DOWN mild (omega arith)
+          (fallen_declare cmp matching tokens (Price j) (EndPrice j) Mode OS rises_ plain_ total_order equal_is_same z.face.number id n e i z.face node.rows framed_ found outside_ north there)
+
+      fallen_untoken : (id n : ℕ) (given : Option K) → IsMildly → Then (UndeclareToken z.face.number id given n)
+      fallen_untoken id n given mild =
+          fallen (UndeclareToken z.face.number id given n) refl DOWN mild (omega arith)
+          (fallen_undeclare cmp matching tokens (Price j) (EndPrice j) Mode OS rises_ plain_ total_order equal_is_same z.face.number id n given z.face node.rows framed_ found outside_
+          (live_rise cmp matching tokens total_order equal_is_same node.rows sound_ tree_ in_ z.face.number z.face found) north (looks cmp matching tokens total_order equal_is_same node.rows sound_ tree_ in_ (Price j) (EndPrice j)))
+
+      fallen_final : (id : ℕ) → IsMildly → Then (DeclareFinal z.face.number id)
+      fallen_final id mild =
+          fallen (DeclareFinal z.face.number id) refl 0 mild (omega arith)
+          (finish_runs cmp matching tokens (Price j) (EndPrice j) Mode OS rises_ plain_ z.face.number id z.face node.rows framed_ found)
+
+    -- ---- what rises
+
+    module _ (south : is_north z.face.region ≡ false) where
+      risen_weight : passes_on T s0 q0 ≡ (3 * T + Entities cmp matching tokens total_order equal_is_same node.rows sound_ tree_ in_ (Price j) (EndPrice j) + 2) * falls_from s0 j + UP
+      risen_weight =
+          let north : is_north other.face.region ≡ true = turned_ ∙ ap not south in
+          rises_to cmp matching s0 fine0 agree0 T q0 q1 other was.face (joined_back s0 q1 q0 joined0) other_is was.is north ∙ ap (rises_from T s0) was.gateway ∙ rises_are
+
+      risen : (c : PlainCall K) (still : opens_face c ≡ false) → IsMildly → RunsWithin cmp matching tokens (Price j) (EndPrice j) (parts_of cmp matching c node.rows) node.rows (DOWN + UP) → Then c
+      risen c still mild runs =
+          let weighs = risen_weight in
+          let fits = token_fits T (Entities cmp matching tokens total_order equal_is_same node.rows sound_ tree_ in_ (Price j) (EndPrice j)) DOWN (falls_from s0 j) UP falls_are in
+          then_ c still (DOWN + UP) runs (omega arith)
+
+      risen_token : (id n : ℕ) (e : K) (i : Option ℕ) → is_among cmp e tokens ≡ true → IsMildly → Then (DeclareToken z.face.number id e n i)
+      risen_token id n e i there mild =
+          risen (DeclareToken z.face.number id e n i) refl mild
+          (risen_declare cmp matching tokens (Price j) (EndPrice j) Mode OS rises_ plain_ total_order equal_is_same z.face.number id n e i z.face node.rows framed_ found outside_ there)
+
+      risen_untoken : (id n : ℕ) (given : Option K) → IsMildly → Then (UndeclareToken z.face.number id given n)
+      risen_untoken id n given mild =
+          risen (UndeclareToken z.face.number id given n) refl mild
+          (risen_undeclare cmp matching tokens (Price j) (EndPrice j) Mode OS rises_ plain_ total_order equal_is_same z.face.number id n given z.face node.rows framed_ found outside_)
+
+      risen_interest : (id : ℕ) (mode : InterestMode) (options : InterestOptions) (e : Option K) → IsMildly → Then (Interest z.face.number id mode options e)
+      risen_interest id mode options e mild =
+          let p = Price j z.face.number in
+          let weighs = risen_weight in
+          let entities = Entities cmp matching tokens total_order equal_is_same node.rows sound_ tree_ in_ (Price j) (EndPrice j) in
+          let member = down_member cmp matching tokens total_order equal_is_same node.rows sound_ tree_ in_ (Price j) (EndPrice j) z.face.number z.face found south in
+          let fits = interest_fits T entities p DOWN (falls_from s0 j) UP member falls_are in
+          let once = up_once cmp matching tokens total_order equal_is_same node.rows sound_ tree_ in_ (Price j) (EndPrice j) in
+          let sum = entities_are cmp matching tokens total_order equal_is_same node.rows sound_ tree_ in_ (Price j) (EndPrice j) p in
+          let count = times_is p tokens in
+          then_ (Interest z.face.number id mode options e) refl (interest_most cmp matching tokens (Price j) (EndPrice j) Mode OS rises_ plain_ total_order equal_is_same z.face.number)
+          (interest_runs cmp matching tokens (Price j) (EndPrice j) Mode OS rises_ plain_ total_order equal_is_same z.face.number id mode options e z.face node.rows framed_ found in_) (omega arith)
+
+      its_number : number_of_place s0 j z.face.number ≡ q1
+      its_number = ap (λ g. number_of_place s0 g z.face.number) (sym was.gateway) ∙ ap (λ (o : Outline K). number_of_place s0 was.face.gateway o.number) (sym was.alike) ∙ number_is_its cmp matching s0 q1 was.face fine0 was.is
+
+      risen_end : (id : ℕ) → m ≡ message.InterestFinal id → Then (InterestFinal z.face.number id)
+      risen_end id is =
+          let p = Price j z.face.number in
+          let down_was : is_north was.face.face.region ≡ false = region_was ∙ south in
+          let price_is : p ≡ falls_from s0 other.gateway = ap (passes_on T s0) its_number ∙ falls_to cmp matching s0 fine0 agree0 T q1 q0 was.face other joined0 was.is other_is down_was in
+          let weighs : Weight q0 m ≡ ends_from T s0 other.gateway = ap (Weight q0) is ∙ ap (λ (o : Option (FaceAt K)). (let n : ℕ = elim o [ None ↦ 0 | Some x ↦ ends_from T s0 x.gateway ] in n)) other_is in
+          let at_ : T * p ≡ T * falls_from s0 other.gateway = ap (λ k. T * k) price_is in
+          let count = times_is p tokens in
+          then_ (InterestFinal z.face.number id) refl (times p tokens)
+          (end_runs cmp matching tokens (Price j) (EndPrice j) Mode OS rises_ plain_ total_order equal_is_same z.face.number id z.face node.rows framed_ found (told_tokens cmp matching tokens total_order equal_is_same node.rows sound_ tree_ in_)) (omega arith)
