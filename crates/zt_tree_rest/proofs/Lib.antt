@@ -16,3 +16,4 @@ pub mod Arithmetic
 pub mod Since
 pub mod AtGateway
 pub mod OneStep
+pub mod Stepped

@@ -231,18 +231,18 @@ module _ {K : Type 0} (cmp : K → K → Ordering) (matching : K → K → Bool)
       fallen : (c : PlainCall K) (still : opens_face c ≡ false) (most : ℕ) → IsMildly → most ≤ DOWN → RunsWithin cmp matching tokens (Price j) (EndPrice j) (parts_of cmp matching c node.rows) node.rows most → Then c
       fallen c still most mild less runs = let weighs = fallen_weight in then_ c still most runs (omega arith)
 
-      fallen_token : (id n : ℕ) (e : K) (i : Option ℕ) → is_among cmp e tokens ≡ true → IsMildly → Then (DeclareToken z.face.number id e n i)
+      pub fallen_token : (id n : ℕ) (e : K) (i : Option ℕ) → is_among cmp e tokens ≡ true → IsMildly → Then (DeclareToken z.face.number id e n i)
       fallen_token id n e i there mild =
           fallen (DeclareToken z.face.number id e n i) refl DOWN mild (omega arith)
           (fallen_declare cmp matching tokens (Price j) (EndPrice j) Mode OS rises_ plain_ total_order equal_is_same z.face.number id n e i z.face node.rows framed_ found outside_ north there)
 
-      fallen_untoken : (id n : ℕ) (given : Option K) → IsMildly → Then (UndeclareToken z.face.number id given n)
+      pub fallen_untoken : (id n : ℕ) (given : Option K) → IsMildly → Then (UndeclareToken z.face.number id given n)
       fallen_untoken id n given mild =
           fallen (UndeclareToken z.face.number id given n) refl DOWN mild (omega arith)
           (fallen_undeclare cmp matching tokens (Price j) (EndPrice j) Mode OS rises_ plain_ total_order equal_is_same z.face.number id n given z.face node.rows framed_ found outside_
           (live_rise cmp matching tokens total_order equal_is_same node.rows sound_ tree_ in_ z.face.number z.face found) north (looks cmp matching tokens total_order equal_is_same node.rows sound_ tree_ in_ (Price j) (EndPrice j)))
 
-      fallen_final : (id : ℕ) → IsMildly → Then (DeclareFinal z.face.number id)
+      pub fallen_final : (id : ℕ) → IsMildly → Then (DeclareFinal z.face.number id)
       fallen_final id mild =
           fallen (DeclareFinal z.face.number id) refl 0 mild (omega arith)
           (finish_runs cmp matching tokens (Price j) (EndPrice j) Mode OS rises_ plain_ z.face.number id z.face node.rows framed_ found)
@@ -261,17 +261,17 @@ module _ {K : Type 0} (cmp : K → K → Ordering) (matching : K → K → Bool)
           let fits = token_fits T (Entities cmp matching tokens total_order equal_is_same node.rows sound_ tree_ in_ (Price j) (EndPrice j)) DOWN (falls_from s0 j) UP falls_are in
           then_ c still (DOWN + UP) runs (omega arith)
 
-      risen_token : (id n : ℕ) (e : K) (i : Option ℕ) → is_among cmp e tokens ≡ true → IsMildly → Then (DeclareToken z.face.number id e n i)
+      pub risen_token : (id n : ℕ) (e : K) (i : Option ℕ) → is_among cmp e tokens ≡ true → IsMildly → Then (DeclareToken z.face.number id e n i)
       risen_token id n e i there mild =
           risen (DeclareToken z.face.number id e n i) refl mild
           (risen_declare cmp matching tokens (Price j) (EndPrice j) Mode OS rises_ plain_ total_order equal_is_same z.face.number id n e i z.face node.rows framed_ found outside_ there)
 
-      risen_untoken : (id n : ℕ) (given : Option K) → IsMildly → Then (UndeclareToken z.face.number id given n)
+      pub risen_untoken : (id n : ℕ) (given : Option K) → IsMildly → Then (UndeclareToken z.face.number id given n)
       risen_untoken id n given mild =
           risen (UndeclareToken z.face.number id given n) refl mild
           (risen_undeclare cmp matching tokens (Price j) (EndPrice j) Mode OS rises_ plain_ total_order equal_is_same z.face.number id n given z.face node.rows framed_ found outside_)
 
-      risen_interest : (id : ℕ) (mode : InterestMode) (options : InterestOptions) (e : Option K) → IsMildly → Then (Interest z.face.number id mode options e)
+      pub risen_interest : (id : ℕ) (mode : InterestMode) (options : InterestOptions) (e : Option K) → IsMildly → Then (Interest z.face.number id mode options e)
       risen_interest id mode options e mild =
           let p = Price j z.face.number in
           let weighs = risen_weight in
@@ -287,7 +287,7 @@ module _ {K : Type 0} (cmp : K → K → Ordering) (matching : K → K → Bool)
       its_number : number_of_place s0 j z.face.number ≡ q1
       its_number = ap (λ g. number_of_place s0 g z.face.number) (sym was.gateway) ∙ ap (λ (o : Outline K). number_of_place s0 was.face.gateway o.number) (sym was.alike) ∙ number_is_its cmp matching s0 q1 was.face fine0 was.is
 
-      risen_end : (id : ℕ) → m ≡ message.InterestFinal id → Then (InterestFinal z.face.number id)
+      pub risen_end : (id : ℕ) → m ≡ message.InterestFinal id → Then (InterestFinal z.face.number id)
       risen_end id is =
           let p = Price j z.face.number in
           let down_was : is_north was.face.face.region ≡ false = region_was ∙ south in
@@ -297,3 +297,27 @@ module _ {K : Type 0} (cmp : K → K → Ordering) (matching : K → K → Bool)
           let count = times_is p tokens in
           then_ (InterestFinal z.face.number id) refl (times p tokens)
           (end_runs cmp matching tokens (Price j) (EndPrice j) Mode OS rises_ plain_ total_order equal_is_same z.face.number id z.face node.rows framed_ found (told_tokens cmp matching tokens total_order equal_is_same node.rows sound_ tree_ in_)) (omega arith)
+
+    -- ---- each message weighs something
+
+    pub real_weight : 1 ≤ Weight q0 m
+    real_weight = by_message m
+      where
+        passes : 1 ≤ passes_on T s0 q0
+        passes =
+            by_test (is_north z.face.region) (λ north. let is = fallen_weight north in omega arith)
+            (λ south.
+            let is = risen_weight south in
+            let fits = token_fits T (Entities cmp matching tokens total_order equal_is_same node.rows sound_ tree_ in_ (Price j) (EndPrice j)) DOWN (falls_from s0 j) UP falls_are in
+            omega arith)
+
+        by_message : (x : Message K) → 1 ≤ Weight q0 x
+        by_message (message.DeclareToken id e interest n) = passes
+        by_message (message.UndeclareToken id e n) = passes
+        by_message (message.DeclareFinal id) = passes
+        by_message (message.Interest id mode options e) = passes
+        by_message (message.DeclareSubscriber id e interest) = passes
+        by_message (message.DeclareQueryable id e info interest) = passes
+        by_message (message.InterestFinal id) =
+            let weighs : Weight q0 (message.InterestFinal id) ≡ ends_from T s0 other.gateway = ap (λ (o : Option (FaceAt K)). (let n : ℕ = elim o [ None ↦ 0 | Some x ↦ ends_from T s0 x.gateway ] in n)) other_is in
+            omega arith

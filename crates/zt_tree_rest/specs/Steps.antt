@@ -1,11 +1,13 @@
 -- How many steps can follow one another in a fabric of trees where nothing but steps comes. A message that falls comes to
 -- each gateway below at most once. One that rises is passed on at each gateway above, and brings about messages that
 -- fall there. An interest that was sent up is ended once. An ask that stands is answered each token once, and finished once.
-use Rattle.std.specs.Prelude.{ℕ, zero, suc, ◌+◌, ◌*◌, not, if◌then◌else◌, List, [], ◌∷◌, ◌++◌, length, sum_by, None, Some, map, filter}
+use Rattle.std.specs.Prelude.{ℕ, zero, suc, Bool, true, false, nat_lt, Ok, Err, ◌+◌, ◌*◌, not, if◌then◌else◌, List, [], ◌∷◌, ◌++◌, length, sum_by, None, Some, map, filter}
 use Rattle.std.specs.List.{flat_map}
 use Rattle.std.specs.Option.{option_to_list}
 use Rattle.std.specs.declared.cmp.Ordering.{Ordering}
 use Rattle.zt_region.specs.Region.{is_north}
+use Rattle.zt_protocol.specs.Plain.{PlainEntry, PlainLine, Step}
+use Rattle.zt_protocol.specs.Refusal.{number_of}
 use Rattle.zt_protocol.specs.declared.messages.Message.{Message}
 use Rattle.zt_protocol.specs.declared.messages.Message.TheVariants.{DeclareToken, InterestFinal}
 use Rattle.zt_model.specs.Fabric.{Fabric, Node, number_of_place}
@@ -107,3 +109,15 @@ module _ {K : Type 0} (cmp : K → K → Ordering) where
   -- The most steps that can follow one another in a fabric of trees.
   abbrev pub most_steps : Fabric K → ℕ
   most_steps s = steps_left (tokens_of s) s s
+
+-- ---- steps
+
+abbrev pub is_step : {K : Type 0} → PlainLine K → Bool
+is_step (Step link back) = true
+is_step _ = false
+
+-- A step takes its message where it is accepted, and where the message's call is refused. It takes none where there is no
+-- such link, or nothing waits on it.
+abbrev pub takes_message : {K : Type 0} → PlainEntry K → Bool
+takes_message (Ok ms) = true
+takes_message (Err refusal) = nat_lt 3 (number_of refusal)
