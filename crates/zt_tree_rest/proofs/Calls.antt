@@ -25,7 +25,7 @@ use Rattle.zt_kept.specs.Ran.{ran}
 use Rattle.zt_kept.proofs.CallsRun.{own_rows_leave}
 use Rattle.zt_tree_rest.proofs.Answering.{answer_pays}
 use Rattle.zt_tree_rest.proofs.Ending.{finish_pays}
-use Rattle.zt_tree_rest.proofs.Frames.{Cost, Framed, Outline, Owes, RunsWithin, framed_face, framed_heard, outline, rise_outlines, runs_alter, runs_append, runs_more, runs_nothing, runs_say}
+use Rattle.zt_tree_rest.proofs.Frames.{Cost, Framed, Outline, Owes, RunsWithin, frame_of, framed_face, framed_heard, outline, rise_outlines, runs_alter, runs_append, runs_more, runs_nothing, runs_say}
 use Rattle.zt_tree_rest.proofs.Prices.{Pays}
 use Rattle.zt_tree_rest.proofs.Sends.{each_pays, one_owes}
 use Rattle.zt_tree_rest.proofs.Sums.{total, total-map, total_less}
@@ -86,7 +86,7 @@ module _ {K : Type 0} (cmp : K → K → Ordering) (matching : K → K → Bool)
       let rs = filter (is_newly_shown cmp h source e) (router_regions h) in
       let still : Owes cmp matching tokens price end_price (with_own_rows cmp rs e h) ≡ Owes cmp matching tokens price end_price h = own_rows_leave cmp (Owes cmp matching tokens price end_price) (λ k rows. refl) rs e h in
       runs_say cmp matching tokens price end_price (λ k. to_each (show_to cmp k source e) k.faces) _ g 0 0 (none_said (show_to cmp g source e) g framed pays)
-      (runs_alter cmp matching tokens price end_price _ [] h 0 0 (omega arith) (own_rows_leave cmp (λ k. map outline k.faces) (λ k rows. refl) rs e h) (runs_nothing cmp matching tokens price end_price _))
+      (runs_alter cmp matching tokens price end_price _ [] h 0 0 (omega arith) (own_rows_leave cmp frame_of (λ k rows. refl) rs e h) (runs_nothing cmp matching tokens price end_price _))
 
   pub hiding_runs : (source : Region) (e : K) (g : Rows K) → Frame g → Runs (hiding cmp source e) g 0
   unfolding hide_to without_own_rows

@@ -27,6 +27,16 @@ pub record Outline (K : Type 0) : Type 0 where
 abbrev pub outline : {K : Type 0} → Face K → Outline K
 outline f = record { number = f.number; region = f.region; subscribers = f.subscribers; queryables = f.queryables }
 
+-- what stays of a gateway whatever is said there: its settings, and its faces' outlines
+pub record Frame (K : Type 0) : Type 0 where
+  pub mode : WhatAmI
+  pub regions : List Region
+  pub refused : List (Region × Region)
+  pub outlines : List (Outline K)
+
+abbrev pub frame_of : {K : Type 0} → Rows K → Frame K
+frame_of g = record { mode = g.mode; regions = g.regions; refused = g.refused; outlines = map outline g.faces }
+
 -- the gateway's mode and its faces' outlines
 pub record Framed {K : Type 0} (mode : WhatAmI) (outlines : List (Outline K)) (g : Rows K) : Type 0 where
   pub mode_is : g.mode ≡ mode
@@ -57,6 +67,10 @@ module _ {K : Type 0} (cmp : K → K → Ordering) where
       map-map outline (λ f. heard_all cmp g.moment (messages_for f.number ss) f) g.faces
       ∙ map_alike (λ f. outline (heard_all cmp g.moment (messages_for f.number ss) f)) outline g.faces (each_always (λ f. outline (heard_all cmp g.moment (messages_for f.number ss) f) ≡ outline f) (λ f. heard_all_leaves cmp outline heard-outline g.moment (messages_for f.number ss) f) g.faces)
 
+  pub heard_frame : (ss : Sends K) (g : Rows K) → frame_of (rows_heard cmp ss g) ≡ frame_of g
+  unfolding rows_heard
+  heard_frame ss g = ap (λ (os : List (Outline K)). record (frame_of g) { outlines = os }) (heard_outlines ss g)
+
   pub framed_heard : (mode : WhatAmI) (os : List (Outline K)) (ss : Sends K) (g : Rows K) → Framed mode os g → Framed mode os (rows_heard cmp ss g)
   unfolding rows_heard
   framed_heard mode os ss g framed = record { mode_is = framed.mode_is; faces_are = heard_outlines ss g ∙ framed.faces_are }
@@ -66,6 +80,10 @@ unfolding with_face
 face_outlines n change same_ g =
     map-map outline (λ f. if n == f.number then change f else f) g.faces
     ∙ map_alike (λ f. outline (if n == f.number then change f else f)) outline g.faces (each_always (λ f. outline (if n == f.number then change f else f) ≡ outline f) (λ f. of_cond (λ (h : Face _). outline h ≡ outline f) (n == f.number) (change f) f (λ _. same_ f) (λ _. refl)) g.faces)
+
+pub face_frame : {K : Type 0} (n : ℕ) (change : Face K → Face K) → ((f : Face K) → outline (change f) ≡ outline f) → (g : Rows K) → frame_of (with_face n change g) ≡ frame_of g
+unfolding with_face
+face_frame n change same_ g = ap (λ (os : List (Outline _)). record (frame_of g) { outlines = os }) (face_outlines n change same_ g)
 
 pub framed_face : {K : Type 0} (mode : WhatAmI) (os : List (Outline K)) (n : ℕ) (change : Face K → Face K) → ((f : Face K) → outline (change f) ≡ outline f) → (g : Rows K) → Framed mode os g → Framed mode os (with_face n change g)
 unfolding with_face
@@ -80,25 +98,25 @@ module _ {K : Type 0} (cmp : K → K → Ordering) (matching : K → K → Bool)
   abbrev pub Cost : Sends K → ℕ
   Cost ss = cost cmp tokens price end_price ss
 
-  -- what parts say, and what is owed once they have run, is within what was owed and so much; and faces keep their outlines
+  -- what parts say, and what is owed once they have run, is within what was owed and so much; and the frame stays
   pub record RunsWithin (parts : List (Part K)) (g : Rows K) (most : ℕ) : Type 0 where
     pub within : Cost (said_by cmp matching parts g) + Owes (ran cmp parts g) ≤ Owes g + most
-    pub outlines : map outline (ran cmp parts g).faces ≡ map outline g.faces
+    pub frame : frame_of (ran cmp parts g) ≡ frame_of g
 
   pub runs_nothing : (g : Rows K) → RunsWithin [] g 0
   unfolding said_by ran
-  runs_nothing g = record { within = omega arith; outlines = refl }
+  runs_nothing g = record { within = omega arith; frame = refl }
 
-  pub runs_alter : (change : Rows K → Rows K) (parts : List (Part K)) (g : Rows K) (a b : ℕ) → Owes (change g) ≤ Owes g + a → map outline (change g).faces ≡ map outline g.faces → RunsWithin parts (change g) b → RunsWithin (Alter change ∷ parts) g (a + b)
+  pub runs_alter : (change : Rows K → Rows K) (parts : List (Part K)) (g : Rows K) (a b : ℕ) → Owes (change g) ≤ Owes g + a → frame_of (change g) ≡ frame_of g → RunsWithin parts (change g) b → RunsWithin (Alter change ∷ parts) g (a + b)
   unfolding said_by ran
-  runs_alter change parts g a b first same_ rest = let r = rest.within in record { within = omega arith; outlines = rest.outlines ∙ same_ }
+  runs_alter change parts g a b first same_ rest = let r = rest.within in record { within = omega arith; frame = rest.frame ∙ same_ }
 
   pub runs_say : (rule : Rows K → Sends K) (parts : List (Part K)) (g : Rows K) (a b : ℕ) → Cost (rule g) + Owes (rows_heard cmp (rule g) g) ≤ Owes g + a → RunsWithin parts (rows_heard cmp (rule g) g) b → RunsWithin (Say rule ∷ parts) g (a + b)
   unfolding said_by ran
   runs_say rule parts g a b first rest =
       let sum = cost-append cmp tokens price end_price (rule g) (said_by cmp matching parts (rows_heard cmp (rule g) g)) in
       let r = rest.within in
-      record { within = omega arith; outlines = rest.outlines ∙ heard_outlines cmp (rule g) g }
+      record { within = omega arith; frame = rest.frame ∙ heard_frame cmp (rule g) g }
 
   pub runs_append : (ps qs : List (Part K)) (g : Rows K) (a b : ℕ) → RunsWithin ps g a → RunsWithin qs (ran cmp ps g) b → RunsWithin (ps ++ qs) g (a + b)
   runs_append ps qs g a b first rest =
@@ -107,7 +125,7 @@ module _ {K : Type 0} (cmp : K → K → Ordering) (matching : K → K → Bool)
       let two = rest.within in
       let said_is : Cost (said_by cmp matching (ps ++ qs) g) ≡ Cost (said_by cmp matching ps g ++ said_by cmp matching qs (ran cmp ps g)) = ap Cost (said_by-append cmp matching ps qs g) in
       let ran_is : Owes (ran cmp (ps ++ qs) g) ≡ Owes (ran cmp qs (ran cmp ps g)) = ap Owes (ran-append cmp ps qs g) in
-      record { within = omega arith; outlines = ap (λ (h : Rows K). map outline h.faces) (ran-append cmp ps qs g) ∙ rest.outlines ∙ first.outlines }
+      record { within = omega arith; frame = ap frame_of (ran-append cmp ps qs g) ∙ rest.frame ∙ first.frame }
 
   pub runs_more : (parts : List (Part K)) (g : Rows K) (a b : ℕ) → a ≤ b → RunsWithin parts g a → RunsWithin parts g b
-  runs_more parts g a b le runs = let r = runs.within in record { within = omega arith; outlines = runs.outlines }
+  runs_more parts g a b le runs = let r = runs.within in record { within = omega arith; frame = runs.frame }

@@ -28,7 +28,7 @@ use Rattle.zt_tree_asks.specs.Tokens.{IsIn}
 use Rattle.zt_tree_asks.proofs.Tokens.{heard_in}
 use Rattle.zt_tree_rest.proofs.Calls.{NoRouters, changed_owes, each_said, framed_rise, framed_total}
 use Rattle.zt_tree_rest.proofs.Ending.{end_upstream_pays, final_of_both_pays, final_pays}
-use Rattle.zt_tree_rest.proofs.Frames.{Cost, Framed, Outline, Owes, RunsWithin, face_outlines, framed_face, framed_heard, outline, runs_alter, runs_append, runs_more, runs_nothing, runs_say}
+use Rattle.zt_tree_rest.proofs.Frames.{Cost, Framed, Outline, Owes, RunsWithin, face_frame, framed_face, framed_heard, outline, runs_alter, runs_append, runs_more, runs_nothing, runs_say}
 use Rattle.zt_tree_rest.proofs.Prices.{Pays, left, total_put_if}
 use Rattle.zt_tree_rest.proofs.Sends.{one_pays}
 use Rattle.zt_tree_rest.proofs.Sums.{times, total, total_filter}
@@ -147,7 +147,7 @@ module _ {K : Type 0} (cmp : K → K → Ordering) (matching : K → K → Bool)
       (runs_alter cmp matching tokens price end_price (with_numbers cmp (numbered_by cmp interest)) _ g 0 _ (omega arith) refl
       (runs_say cmp matching tokens price end_price (route f.region interest) _ g1 (total up_price os) _ (omega arith)
       (runs_say cmp matching tokens price end_price (λ h. to_face n (entities_for cmp matching h id interest) h) _ g2 (total (entities_price p) os) _ entered
-      (runs_alter cmp matching tokens price end_price (with_face n (asked_as pendings id interest)) _ g3 (p + times p tokens) _ asked_ (face_outlines n (asked_as pendings id interest) (λ k. refl) g3)
+      (runs_alter cmp matching tokens price end_price (with_face n (asked_as pendings id interest)) _ g3 (p + times p tokens) _ asked_ (face_frame n (asked_as pendings id interest) (λ k. refl) g3)
       (runs_say cmp matching tokens price end_price (λ h. to_face n (answers_of cmp matching h id interest) h) _ g4 (times p tokens) _ answered
       (runs_say cmp matching tokens price end_price (to_face n (final_of id)) [] g5 0 0 finished (runs_nothing cmp matching tokens price end_price _))))))))
     where
@@ -192,7 +192,7 @@ module _ {K : Type 0} (cmp : K → K → Ordering) (matching : K → K → Bool)
           (each_always (λ (k : Face K). Pays cmp tokens price end_price g3.moment k 0 (end_upstream_to cmp matching g3 interest k)) (λ k. end_upstream_pays cmp matching tokens price end_price g3.moment g3 interest k) g3.faces) in
           let zero_ = no_sum g3.faces in
           runs_more cmp matching tokens price end_price _ g (0 + (times p tokens + (0 + (0 + 0)))) (times p tokens) (omega arith)
-          (runs_alter cmp matching tokens price end_price (with_face n (unheld id)) _ g 0 _ unheld_ (face_outlines n (unheld id) (λ k. refl) g)
+          (runs_alter cmp matching tokens price end_price (with_face n (unheld id)) _ g 0 _ unheld_ (face_frame n (unheld id) (λ k. refl) g)
           (runs_say cmp matching tokens price end_price (to_face n (untell_to cmp matching)) _ g1 (times p tokens) _ untells
           (runs_say cmp matching tokens price end_price (to_face n (final_of_both id interest)) _ g2 0 _ finished
           (runs_say cmp matching tokens price end_price (λ h. to_each (end_upstream_to cmp matching h interest) h.faces) [] g3 0 0 (omega arith) (runs_nothing cmp matching tokens price end_price _)))))

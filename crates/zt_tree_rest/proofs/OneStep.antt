@@ -41,25 +41,25 @@ use Rattle.zt_tree_rest.proofs.Arithmetic.{interest_fits, token_fits}
 use Rattle.zt_tree_rest.proofs.AtGateway.{Down, Entities, Up, down_member, entities_are, framed, live_rise, looks, os, outside, plain, rises, told_tokens, up_once}
 use Rattle.zt_tree_rest.proofs.Calls.{NoRouters}
 use Rattle.zt_tree_rest.proofs.Directions.{fallen_declare, fallen_undeclare, risen_declare, risen_undeclare}
-use Rattle.zt_tree_rest.proofs.Frames.{Cost, Framed, Outline, RunsWithin, outline, runs_more}
+use Rattle.zt_tree_rest.proofs.Frames.{Cost, Frame, Framed, Outline, RunsWithin, frame_of, outline, runs_more}
 use Rattle.zt_tree_rest.proofs.Interests.{end_runs, interest_most, interest_runs}
 use Rattle.zt_tree_rest.proofs.Sends.{cost, owed_by}
-use Rattle.zt_tree_rest.proofs.Since.{Since, Was, dues, dues_changed, end_price, face_was, left_is, node_was, price, price_at_most, rise_taken, shapes, weight}
+use Rattle.zt_tree_rest.proofs.Since.{Since, Was, dues, dues_changed, end_price, face_was, left_is, node_was, price, price_at_most, rise_taken, frames, weight}
 use Rattle.zt_tree_rest.proofs.Sums.{times, times_is, total}
 use Rattle.zt_tree_rest.proofs.Tokens.{finish_runs}
 use Rattle.zt_tree_rest.proofs.Waiting.{added_pays, printed as printed_weight, queues, sorted_total, taken_pays}
 use Rattle.zt_tree_rest.proofs.Weights.{entities_by_faces, falls_by_faces, falls_to, rises_by_faces, rises_to}
 
-shapes_changed : {K : Type 0} (n : ℕ) (change : Node K → Node K) (gs : List (Node K)) (node : Node K) → nth n gs ≡ Some node → map outline (change node).rows.faces ≡ map outline node.rows.faces → shapes (at_nth n change gs) ≡ shapes gs
-shapes_changed n change [] node at_ same_ = refl
-shapes_changed n change (x ∷ gs) node at_ same_ =
+frames_changed : {K : Type 0} (n : ℕ) (change : Node K → Node K) (gs : List (Node K)) (node : Node K) → nth n gs ≡ Some node → frame_of (change node).rows ≡ frame_of node.rows → frames (at_nth n change gs) ≡ frames gs
+frames_changed n change [] node at_ same_ = refl
+frames_changed n change (x ∷ gs) node at_ same_ =
     by_test (n == 1)
     (λ here.
     let first : Some x ≡ Some node = rw here at at_ in
     let is : x ≡ node = cc in
-    let own : map outline (change x).rows.faces ≡ map outline x.rows.faces = subst (λ y. map outline (change y).rows.faces ≡ map outline y.rows.faces) (sym is) same_ in
-    rw here (ap (λ o. o ∷ shapes gs) own))
-    (λ here. rw here (ap (λ rest. map outline x.rows.faces ∷ rest) (shapes_changed (n - 1) change gs node (rw here at at_) same_)))
+    let own : frame_of (change x).rows ≡ frame_of x.rows = subst (λ y. frame_of (change y).rows ≡ frame_of y.rows) (sym is) same_ in
+    rw here (ap (λ o. o ∷ frames gs) own))
+    (λ here. rw here (ap (λ rest. frame_of x.rows ∷ rest) (frames_changed (n - 1) change gs node (rw here at at_) same_)))
 
 rise_added : {K : Type 0} (ms : List (Sent K)) (low : ℕ) (w : List (ℕ × List (Message K))) → RiseFrom (λ row. row.0) low w → RiseFrom (λ row. row.0) low (added ms w)
 rise_added ms low [] rises_ = tt
@@ -87,7 +87,7 @@ module _ {K : Type 0} (cmp : K → K → Ordering) (matching : K → K → Bool)
     pub fewer : steps_left cmp tokens s0 t + 1 ≤ steps_left cmp tokens s0 s
     pub links : t.links ≡ s.links
     pub places : t.faces ≡ s.faces
-    pub outlines : shapes t.gateways ≡ shapes s.gateways
+    pub framed : frames t.gateways ≡ frames s.gateways
     pub queued : RiseFrom (λ row. row.0) 0 t.waiting
 
   -- a message that comes to nothing
@@ -97,7 +97,7 @@ module _ {K : Type 0} (cmp : K → K → Ordering) (matching : K → K → Bool)
       let now_ = left_is cmp matching tokens s0 t in
       let then_ = left_is cmp matching tokens s0 s in
       let pays = taken_pays Weight q m rest s.waiting is in
-      record { fewer = omega arith; links = refl; places = refl; outlines = refl; queued = rise_taken q 0 s.waiting since.queued }
+      record { fewer = omega arith; links = refl; places = refl; framed = refl; queued = rise_taken q 0 s.waiting since.queued }
 
   -- a message whose call is accepted
   printed_cost : (j : ℕ) (ss : Sends K) → printed_weight Weight (map (printed_message s j) ss) ≤ cost cmp tokens (Price j) (EndPrice j) ss
@@ -128,7 +128,7 @@ module _ {K : Type 0} (cmp : K → K → Ordering) (matching : K → K → Bool)
         fewer = omega arith;
         links = refl;
         places = refl;
-        outlines = shapes_changed j change s.gateways node at_j (ap (λ (g : Rows K). map outline g.faces) (call_runs cmp matching c node.rows) ∙ runs.outlines);
+        framed = frames_changed j change s.gateways node at_j (ap frame_of (call_runs cmp matching c node.rows) ∙ runs.frame);
         queued = rise_added ms 0 (taken q s.waiting) queued_;
       }
 
@@ -155,7 +155,7 @@ module _ {K : Type 0} (cmp : K → K → Ordering) (matching : K → K → Bool)
     joined0 = subst (λ ls. are_joined (record s0 { links = ls }) q1 q0 ≡ true) since.links joined
 
     was : Was cmp matching tokens s0 q1 z
-    was = face_was cmp matching tokens s0 s since.places since.outlines q1 z z_is
+    was = face_was cmp matching tokens s0 s since.places since.framed q1 z z_is
 
     abbrev other : FaceAt K
     other = (agree0.links.meet q1 q0 joined0).two
@@ -172,7 +172,7 @@ module _ {K : Type 0} (cmp : K → K → Ordering) (matching : K → K → Bool)
         (agree0.links.meet q1 q0 joined0).one_leads_up ∙ ap (λ (x : FaceAt K). not (is_north x.face.region)) one ∙ ap not region_was
 
     outlines_ : (node0 : Node K) × (nth j s0.gateways ≡ Some node0) × (map outline node.rows.faces ≡ map outline node0.rows.faces)
-    outlines_ = node_was cmp matching tokens s0 s since.outlines j node at_j
+    outlines_ = let was_ = node_was cmp matching tokens s0 s since.framed j node at_j in (was_.0, was_.1, ap (λ (f : Frame K). f.outlines) was_.2)
 
     abbrev OS : List (Outline K)
     OS = os cmp matching tokens total_order equal_is_same node.rows sound_ tree_ in_

@@ -23,7 +23,7 @@ use Rattle.zt_trees.proofs.Members.{is_there, numbered}
 use Rattle.zt_trees.proofs.Stepping.{taken}
 use Rattle.zt_tree_asks.proofs.Everywhere.{Everywhere}
 use Rattle.zt_tree_rest.specs.Steps.{ends_from, passes_on, steps_due, steps_due_from, steps_left, steps_of, steps_of_queue, unanswered}
-use Rattle.zt_tree_rest.proofs.Frames.{Outline, outline}
+use Rattle.zt_tree_rest.proofs.Frames.{Frame, Outline, frame_of, outline}
 use Rattle.zt_tree_rest.proofs.Prices.{left, message_price, owed}
 use Rattle.zt_tree_rest.proofs.Sends.{owed_by}
 use Rattle.zt_tree_rest.proofs.Sums.{times, times_is, total, total_alike, total_is}
@@ -40,9 +40,9 @@ nth_zero : {A : Type 0} (xs : List A) → nth 0 xs ≡ None
 nth_zero [] = refl
 nth_zero (x ∷ xs) = nth_zero xs
 
--- the outlines of all faces, gateway by gateway
-abbrev pub shapes : {K : Type 0} → List (Node K) → List (List (Outline K))
-shapes gs = map (λ node. map outline node.rows.faces) gs
+-- the frames of all gateways
+abbrev pub frames : {K : Type 0} → List (Node K) → List (Frame K)
+frames gs = map (λ node. frame_of node.rows) gs
 
 pub rise_taken : {K : Type 0} (q low : ℕ) (w : ById (List (Message K))) → RiseFrom (λ row. row.0) low w → RiseFrom (λ row. row.0) low (taken q w)
 rise_taken q low [] rises = tt
@@ -56,7 +56,7 @@ module _ {K : Type 0} (cmp : K → K → Ordering) (matching : K → K → Bool)
   pub record Since (s : Fabric K) : Type 0 where
     pub links : s.links ≡ s0.links
     pub places : s.faces ≡ s0.faces
-    pub outlines : shapes s.gateways ≡ shapes s0.gateways
+    pub framed : frames s.gateways ≡ frames s0.gateways
     pub sound : EachGatewayIs cmp matching (IsSound cmp matching) s
     pub agree : TreesAgree cmp matching s
     pub everywhere : Everywhere (λ e. is_among cmp e tokens ≡ true) s
@@ -64,17 +64,17 @@ module _ {K : Type 0} (cmp : K → K → Ordering) (matching : K → K → Bool)
 
   -- ---- gateways and faces then and now
 
-  pub node_was : (s : Fabric K) → shapes s.gateways ≡ shapes s0.gateways → (j : ℕ) (node : Node K) → nth j s.gateways ≡ Some node
-      → (node0 : Node K) × (nth j s0.gateways ≡ Some node0) × (map outline node.rows.faces ≡ map outline node0.rows.faces)
+  pub node_was : (s : Fabric K) → frames s.gateways ≡ frames s0.gateways → (j : ℕ) (node : Node K) → nth j s.gateways ≡ Some node
+      → (node0 : Node K) × (nth j s0.gateways ≡ Some node0) × (frame_of node.rows ≡ frame_of node0.rows)
   node_was s same_ j node at_ =
-      let make = λ (x : Node K). map outline x.rows.faces in
+      let make = λ (x : Node K). frame_of x.rows in
       by_node (nth j s0.gateways) refl
       (sym (ap (option_map make) at_) ∙ sym (nth-map j make s.gateways) ∙ ap (nth j) same_ ∙ nth-map j make s0.gateways)
     where
-      by_node : (o : Option (Node K)) → nth j s0.gateways ≡ o → Some (map outline node.rows.faces) ≡ option_map (λ (x : Node K). map outline x.rows.faces) (nth j s0.gateways)
-          → (node0 : Node K) × (nth j s0.gateways ≡ Some node0) × (map outline node.rows.faces ≡ map outline node0.rows.faces)
-      by_node None is e = let bad : Some (map outline node.rows.faces) ≡ None = e ∙ ap (option_map (λ (x : Node K). map outline x.rows.faces)) is in cc
-      by_node (Some node0) is e = (node0, is, some_is (e ∙ ap (option_map (λ (x : Node K). map outline x.rows.faces)) is))
+      by_node : (o : Option (Node K)) → nth j s0.gateways ≡ o → Some (frame_of node.rows) ≡ option_map (λ (x : Node K). frame_of x.rows) (nth j s0.gateways)
+          → (node0 : Node K) × (nth j s0.gateways ≡ Some node0) × (frame_of node.rows ≡ frame_of node0.rows)
+      by_node None is e = let bad : Some (frame_of node.rows) ≡ None = e ∙ ap (option_map (λ (x : Node K). frame_of x.rows)) is in cc
+      by_node (Some node0) is e = (node0, is, some_is (e ∙ ap (option_map (λ (x : Node K). frame_of x.rows)) is))
 
   found_outline : (n : ℕ) (fs : List (Face K)) → option_map outline (first_where (λ (f : Face K). n == f.number) fs) ≡ first_where (λ (o : Outline K). n == o.number) (map outline fs)
   found_outline n [] = refl
@@ -96,12 +96,12 @@ module _ {K : Type 0} (cmp : K → K → Ordering) (matching : K → K → Bool)
     pub gateway : face.gateway ≡ z.gateway
     pub alike : outline face.face ≡ outline z.face
 
-  pub face_was : (s : Fabric K) → s.faces ≡ s0.faces → shapes s.gateways ≡ shapes s0.gateways → (k : ℕ) (z : FaceAt K) → face_numbered s k ≡ Some z → Was k z
+  pub face_was : (s : Fabric K) → s.faces ≡ s0.faces → frames s.gateways ≡ frames s0.gateways → (k : ℕ) (z : FaceAt K) → face_numbered s k ≡ Some z → Was k z
   face_was s places same_ k z found =
       let at_ = is_there s k z found in
       let was = node_was s same_ z.gateway at_.node at_.node_is in
       let here : find_face at_.place.face at_.node.rows ≡ Some z.face = ap (λ n. find_face n at_.node.rows) at_.number_is ∙ ap (find_face z.face.number) at_.rows_are ∙ at_.face_is in
-      let face_ = found_alike at_.place.face at_.node.rows.faces was.0.rows.faces z.face was.2 here in
+      let face_ = found_alike at_.place.face at_.node.rows.faces was.0.rows.faces z.face (ap (λ (f : Frame K). f.outlines) was.2) here in
       record {
         face = record { gateway = at_.place.gateway; rows = was.0.rows; face = face_.0 };
         is = numbered s0 k at_.place was.0 face_.0 (ap (nth k) (sym places) ∙ at_.place_is) (ap (λ g. nth g s0.gateways) at_.gateway_is ∙ was.1) face_.1;

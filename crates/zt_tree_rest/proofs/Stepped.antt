@@ -222,7 +222,7 @@ module _ {K : Type 0} (cmp : K → K → Ordering) (matching : K → K → Bool)
       record {
         links = less.links ∙ since.links;
         places = less.places ∙ since.places;
-        outlines = less.outlines ∙ since.outlines;
+        framed = less.framed ∙ since.framed;
         sound = sound_after_line cmp matching total_order equal_is_same is_built (Step n back) s tt since.sound;
         agree = trees_after_call cmp matching total_order equal_is_same s fine agree is_built (Step n back) refl other;
         everywhere = tokens_stay is_built n back;

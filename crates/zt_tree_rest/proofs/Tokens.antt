@@ -29,7 +29,7 @@ use Rattle.zt_kept.specs.Ran.{ran}
 use Rattle.zt_tree_rest.proofs.Answering.{answer_pays}
 use Rattle.zt_tree_rest.proofs.Calls.{NoRouters, changed_owes, each_said, framed_total, hiding_runs, showing_runs, tell_said, told_price}
 use Rattle.zt_tree_rest.proofs.Ending.{finish_pays}
-use Rattle.zt_tree_rest.proofs.Frames.{Cost, Framed, Outline, Owes, RunsWithin, face_outlines, framed_face, framed_heard, outline, runs_alter, runs_append, runs_more, runs_nothing, runs_say}
+use Rattle.zt_tree_rest.proofs.Frames.{Cost, Framed, Outline, Owes, RunsWithin, face_frame, framed_face, framed_heard, outline, runs_alter, runs_append, runs_more, runs_nothing, runs_say}
 use Rattle.zt_tree_rest.proofs.Prices.{Pays}
 use Rattle.zt_tree_rest.proofs.Sums.{total}
 use Rattle.zt_tree_rest.proofs.Telling.{forget_pays, nothing_pays}
@@ -84,7 +84,7 @@ module _ {K : Type 0} (cmp : K → K → Ordering) (matching : K → K → Bool)
       let told = rows_heard cmp (tell cmp matching f.region e h) h in
       let most = total (told_price cmp matching tokens price end_price mode os rises plain f.region) os in
       let runs = runs_alter cmp matching tokens price end_price (with_face n (registered id e)) (Say (tell cmp matching f.region e) ∷ showing cmp f.region e) g 0 (most + 0)
-      (free_change n (registered id e) g framed (λ k. refl)) (face_outlines n (registered id e) (λ k. refl) g)
+      (free_change n (registered id e) g framed (λ k. refl)) (face_frame n (registered id e) (λ k. refl) g)
       (runs_say cmp matching tokens price end_price (tell cmp matching f.region e) (showing cmp f.region e) h most 0 (tell_said cmp matching tokens price end_price mode os rises plain f.region e h framed_h)
       (showing_runs cmp matching tokens price end_price mode os rises plain f.region e told (framed_heard cmp mode os (tell cmp matching f.region e h) h framed_h))) in
       runs_more cmp matching tokens price end_price _ g (0 + (most + 0)) most (omega arith) runs
@@ -129,7 +129,7 @@ module _ {K : Type 0} (cmp : K → K → Ordering) (matching : K → K → Bool)
           let said = each_said cmp matching tokens price end_price mode os rises plain (forget_to cmp matching h f.region e) (λ k. most (outline k)) h framed_h (forgets e is) in
           let sum = framed_total most mode os h framed_h in
           let runs = runs_alter cmp matching tokens price end_price (with_face n (unregistered id)) (Say (λ k. to_each (forget_to cmp matching k f.region e) k.faces) ∷ hiding cmp f.region e) g 0 (total most os + 0)
-          (free_change n (unregistered id) g framed (λ k. refl)) (face_outlines n (unregistered id) (λ k. refl) g)
+          (free_change n (unregistered id) g framed (λ k. refl)) (face_frame n (unregistered id) (λ k. refl) g)
           (runs_say cmp matching tokens price end_price (λ k. to_each (forget_to cmp matching k f.region e) k.faces) (hiding cmp f.region e) h (total most os) 0 (omega arith)
           (hiding_runs cmp matching tokens price end_price mode os rises plain f.region e _ (framed_heard cmp mode os (to_each (forget_to cmp matching h f.region e) h.faces) h framed_h))) in
           runs_more cmp matching tokens price end_price _ g (0 + (total most os + 0)) (total most os) (omega arith) runs
@@ -164,12 +164,12 @@ module _ {K : Type 0} (cmp : K → K → Ordering) (matching : K → K → Bool)
       let rest : Runs (if has_id id f.pendings then ending n id else []) h 0 =
       of_cond (λ (ps : List (Part K)). Runs ps h 0) (has_id id f.pendings) (ending n id) [] (λ _. ending_runs n id h framed_h) (λ _. runs_nothing cmp matching tokens price end_price h) in
       subst (λ (ps : List (Part K)). Runs ps g 0) (sym is)
-      (runs_more cmp matching tokens price end_price _ g (0 + 0) 0 (omega arith) (runs_alter cmp matching tokens price end_price (with_face n (initial_finalised id)) _ g 0 0 (free_change n (initial_finalised id) g framed (λ k. refl)) (face_outlines n (initial_finalised id) (λ k. refl) g) rest))
+      (runs_more cmp matching tokens price end_price _ g (0 + 0) 0 (omega arith) (runs_alter cmp matching tokens price end_price (with_face n (initial_finalised id)) _ g 0 0 (free_change n (initial_finalised id) g framed (λ k. refl)) (face_frame n (initial_finalised id) (λ k. refl) g) rest))
     where
       ending_runs : (n id : ℕ) (h : Rows K) → Frame h → Runs (ending n id) h 0
       ending_runs n id h framed_h =
           let k = with_face n (ended id) h in
           let framed_k : Frame k = framed_face mode os n (ended id) (λ f. refl) h framed_h in
           runs_more cmp matching tokens price end_price _ h (0 + (0 + 0)) 0 (omega arith)
-          (runs_alter cmp matching tokens price end_price (with_face n (ended id)) _ h 0 (0 + 0) (free_change n (ended id) h framed_h (λ f. refl)) (face_outlines n (ended id) (λ f. refl) h)
+          (runs_alter cmp matching tokens price end_price (with_face n (ended id)) _ h 0 (0 + 0) (free_change n (ended id) h framed_h (λ f. refl)) (face_frame n (ended id) (λ f. refl) h)
           (runs_say cmp matching tokens price end_price (λ j. to_each (finish_to j n id) j.faces) [] k 0 0 (free_said (finish_to k n id) k framed_k (λ f. finish_pays cmp matching tokens price end_price k.moment k n id f)) (runs_nothing cmp matching tokens price end_price _)))
