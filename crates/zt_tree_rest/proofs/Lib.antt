@@ -17,3 +17,4 @@ pub mod Since
 pub mod AtGateway
 pub mod OneStep
 pub mod Stepped
+pub mod Queues

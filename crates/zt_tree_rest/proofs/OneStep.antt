@@ -43,8 +43,9 @@ use Rattle.zt_tree_rest.proofs.Calls.{NoRouters}
 use Rattle.zt_tree_rest.proofs.Directions.{fallen_declare, fallen_undeclare, risen_declare, risen_undeclare}
 use Rattle.zt_tree_rest.proofs.Frames.{Cost, Frame, Framed, Outline, RunsWithin, frame_of, outline, runs_more}
 use Rattle.zt_tree_rest.proofs.Interests.{end_runs, interest_most, interest_runs}
+use Rattle.zt_tree_rest.proofs.Queues.{numbers_added, numbers_of, numbers_taken, rise_by_numbers}
 use Rattle.zt_tree_rest.proofs.Sends.{cost, owed_by}
-use Rattle.zt_tree_rest.proofs.Since.{Since, Was, dues, dues_changed, end_price, face_was, left_is, node_was, price, price_at_most, rise_taken, frames, weight}
+use Rattle.zt_tree_rest.proofs.Since.{Since, Was, dues, dues_changed, end_price, face_was, left_is, node_was, price, price_at_most, frames, weight}
 use Rattle.zt_tree_rest.proofs.Sums.{times, times_is, total}
 use Rattle.zt_tree_rest.proofs.Tokens.{finish_runs}
 use Rattle.zt_tree_rest.proofs.Waiting.{added_pays, printed as printed_weight, queues, sorted_total, taken_pays}
@@ -60,10 +61,6 @@ frames_changed n change (x ∷ gs) node at_ same_ =
     let own : frame_of (change x).rows ≡ frame_of x.rows = subst (λ y. frame_of (change y).rows ≡ frame_of y.rows) (sym is) same_ in
     rw here (ap (λ o. o ∷ frames gs) own))
     (λ here. rw here (ap (λ rest. frame_of x.rows ∷ rest) (frames_changed (n - 1) change gs node (rw here at at_) same_)))
-
-rise_added : {K : Type 0} (ms : List (Sent K)) (low : ℕ) (w : List (ℕ × List (Message K))) → RiseFrom (λ row. row.0) low w → RiseFrom (λ row. row.0) low (added ms w)
-rise_added ms low [] rises_ = tt
-rise_added ms low (row ∷ w) rises_ = (rises_.0, rise_added ms (row.0 + 1) w rises_.1)
 
 module _ {K : Type 0} (cmp : K → K → Ordering) (matching : K → K → Bool) (total_order : IsTotalOrder cmp) (equal_is_same : (a b : K) → cmp a b ≡ Equal → a ≡ b) (tokens : List K) (s0 : Fabric K) (fine0 : FabricIsInOrder cmp matching s0) (agree0 : TreesAgree cmp matching s0)
     (s : Fabric K) (since : Since cmp matching tokens s0 s) where
@@ -88,7 +85,7 @@ module _ {K : Type 0} (cmp : K → K → Ordering) (matching : K → K → Bool)
     pub links : t.links ≡ s.links
     pub places : t.faces ≡ s.faces
     pub framed : frames t.gateways ≡ frames s.gateways
-    pub queued : RiseFrom (λ row. row.0) 0 t.waiting
+    pub numbers : numbers_of t.waiting ≡ numbers_of s.waiting
 
   -- a message that comes to nothing
   pub dropped : (q : ℕ) (m : Message K) (rest : List (Message K)) → waiting_of s q ≡ m ∷ rest → 1 ≤ Weight q m → Lessens (record s { waiting = taken q s.waiting })
@@ -97,7 +94,7 @@ module _ {K : Type 0} (cmp : K → K → Ordering) (matching : K → K → Bool)
       let now_ = left_is cmp matching tokens s0 t in
       let then_ = left_is cmp matching tokens s0 s in
       let pays = taken_pays Weight q m rest s.waiting is in
-      record { fewer = omega arith; links = refl; places = refl; framed = refl; queued = rise_taken q 0 s.waiting since.queued }
+      record { fewer = omega arith; links = refl; places = refl; framed = refl; numbers = numbers_taken q s.waiting }
 
   -- a message whose call is accepted
   printed_cost : (j : ℕ) (ss : Sends K) → printed_weight Weight (map (printed_message s j) ss) ≤ cost cmp tokens (Price j) (EndPrice j) ss
@@ -114,7 +111,7 @@ module _ {K : Type 0} (cmp : K → K → Ordering) (matching : K → K → Bool)
       let t = turned_by cmp matching total_order equal_is_same s fine agree j node c (taken q s.waiting) at_j still in
       let ms = printed_by cmp matching total_order equal_is_same s fine agree j node c in
       let change = λ (x : Node K). record x { rows = rows_after_call cmp matching c x.rows } in
-      let queued_ = rise_taken q 0 s.waiting since.queued in
+      let queued_ = rise_by_numbers 0 (taken q s.waiting) s.waiting (numbers_taken q s.waiting) since.queued.rise in
       let now_ = left_is cmp matching tokens s0 t in
       let then_ = left_is cmp matching tokens s0 s in
       let pays = taken_pays Weight q m rest s.waiting is in
@@ -129,7 +126,7 @@ module _ {K : Type 0} (cmp : K → K → Ordering) (matching : K → K → Bool)
         links = refl;
         places = refl;
         framed = frames_changed j change s.gateways node at_j (ap frame_of (call_runs cmp matching c node.rows) ∙ runs.frame);
-        queued = rise_added ms 0 (taken q s.waiting) queued_;
+        numbers = numbers_added ms (taken q s.waiting) ∙ numbers_taken q s.waiting;
       }
 
   -- ---- at the gateway where a message is spoken

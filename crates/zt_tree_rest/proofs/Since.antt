@@ -7,7 +7,7 @@ use Rattle.std.specs.declared.cmp.Ordering.TheVariants.{Equal}
 use Rattle.zt_protocol.specs.declared.messages.Message.{Message}
 use Rattle.zt_protocol.specs.declared.messages.Message.TheVariants as message
 use Rattle.zt_model.specs.Fabric.{Fabric, Link, Node, Place, at_nth, number_of_place}
-use Rattle.zt_model.specs.Lists.{first_where, is_among, nth, rest_of}
+use Rattle.zt_model.specs.Lists.{first_where, is_among, nth}
 use Rattle.zt_model.specs.Parts.{find_face}
 use Rattle.zt_model.specs.Rows.{Ask, ById, Face, Rows}
 use Rattle.zt_model.specs.Transcript.{Each, FaceAt, face_numbered}
@@ -20,9 +20,8 @@ use Rattle.zt_kept.specs.Lines.{EachGatewayIs}
 use Rattle.zt_kept.specs.Sound.{IsSound}
 use Rattle.zt_trees.specs.Facts.{TreesAgree}
 use Rattle.zt_trees.proofs.Members.{is_there, numbered}
-use Rattle.zt_trees.proofs.Stepping.{taken}
 use Rattle.zt_tree_asks.proofs.Everywhere.{Everywhere}
-use Rattle.zt_tree_rest.specs.Steps.{ends_from, passes_on, steps_due, steps_due_from, steps_left, steps_of, steps_of_queue, unanswered}
+use Rattle.zt_tree_rest.specs.Steps.{QueuesStand, ends_from, passes_on, steps_due, steps_due_from, steps_left, steps_of, steps_of_queue, unanswered}
 use Rattle.zt_tree_rest.proofs.Frames.{Frame, Outline, frame_of, outline}
 use Rattle.zt_tree_rest.proofs.Prices.{left, message_price, owed}
 use Rattle.zt_tree_rest.proofs.Sends.{owed_by}
@@ -44,12 +43,6 @@ nth_zero (x ∷ xs) = nth_zero xs
 abbrev pub frames : {K : Type 0} → List (Node K) → List (Frame K)
 frames gs = map (λ node. frame_of node.rows) gs
 
-pub rise_taken : {K : Type 0} (q low : ℕ) (w : ById (List (Message K))) → RiseFrom (λ row. row.0) low w → RiseFrom (λ row. row.0) low (taken q w)
-rise_taken q low [] rises = tt
-rise_taken q low (row ∷ w) rises =
-    let rest = rise_taken q (row.0 + 1) w rises.1 in
-    of_cond (λ (r : ℕ × List (Message _)). (low ≤ r.0) × RiseFrom (λ row. row.0) (r.0 + 1) (taken q w)) (q == row.0) (row.0, rest_of row.1) row (λ _. (rises.0, rest)) (λ _. (rises.0, rest))
-
 module _ {K : Type 0} (cmp : K → K → Ordering) (matching : K → K → Bool) (tokens : List K) (s0 : Fabric K) where
   -- What stays true while steps follow one another, with what calls need: all is sound, trees agree, the tokens are those
   -- that were there, and the queues are of different faces.
@@ -60,7 +53,7 @@ module _ {K : Type 0} (cmp : K → K → Ordering) (matching : K → K → Bool)
     pub sound : EachGatewayIs cmp matching (IsSound cmp matching) s
     pub agree : TreesAgree cmp matching s
     pub everywhere : Everywhere (λ e. is_among cmp e tokens ≡ true) s
-    pub queued : RiseFrom (λ row. row.0) 0 s.waiting
+    pub queued : QueuesStand s
 
   -- ---- gateways and faces then and now
 

@@ -35,6 +35,7 @@ use Rattle.zt_tree_asks.specs.Tokens.{CallIn, TokenIn}
 use Rattle.zt_tree_asks.proofs.Everywhere.{Everywhere, Queues, added_in, oldest_in, says_in, sends_in, sorted_in, taken_in, turned_in}
 use Rattle.zt_tree_rest.specs.Steps.{ends_from, takes_message}
 use Rattle.zt_tree_rest.proofs.OneStep.{Lessens, dropped, fallen_final, fallen_token, fallen_untoken, real_weight, risen_end, risen_interest, risen_token, risen_untoken}
+use Rattle.zt_tree_rest.proofs.Queues.{stand_by}
 use Rattle.zt_tree_rest.proofs.Since.{Since}
 
 module _ {K : Type 0} (cmp : K → K → Ordering) (matching : K → K → Bool) (total_order : IsTotalOrder cmp) (equal_is_same : (a b : K) → cmp a b ≡ Equal → a ≡ b) (tokens : List K) (s0 : Fabric K) (fine0 : FabricIsInOrder cmp matching s0) (agree0 : TreesAgree cmp matching s0)
@@ -226,5 +227,5 @@ module _ {K : Type 0} (cmp : K → K → Ordering) (matching : K → K → Bool)
         sound = sound_after_line cmp matching total_order equal_is_same is_built (Step n back) s tt since.sound;
         agree = trees_after_call cmp matching total_order equal_is_same s fine agree is_built (Step n back) refl other;
         everywhere = tokens_stay is_built n back;
-        queued = less.queued;
+        queued = stand_by (fabric_after cmp matching (Step n back) (entry_of cmp matching is_built (Step n back) s) s) s less.links less.numbers since.queued;
       }

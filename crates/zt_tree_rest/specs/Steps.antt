@@ -1,7 +1,7 @@
 -- How many steps can follow one another in a fabric of trees where nothing but steps comes. A message that falls comes to
 -- each gateway below at most once. One that rises is passed on at each gateway above, and brings about messages that
 -- fall there. An interest that was sent up is ended once. An ask that stands is answered each token once, and finished once.
-use Rattle.std.specs.Prelude.{ℕ, zero, suc, Bool, true, false, nat_lt, Ok, Err, ◌+◌, ◌*◌, not, if◌then◌else◌, List, [], ◌∷◌, ◌++◌, length, sum_by, None, Some, map, filter}
+use Rattle.std.specs.Prelude.{◌≡◌, ℕ, zero, suc, Bool, true, false, nat_lt, Ok, Err, ◌+◌, ◌*◌, not, if◌then◌else◌, List, [], ◌∷◌, ◌++◌, length, sum_by, None, Some, map, filter}
 use Rattle.std.specs.List.{flat_map}
 use Rattle.std.specs.Option.{option_to_list}
 use Rattle.std.specs.declared.cmp.Ordering.{Ordering}
@@ -10,11 +10,12 @@ use Rattle.zt_protocol.specs.Plain.{PlainEntry, PlainLine, Step}
 use Rattle.zt_protocol.specs.Refusal.{number_of}
 use Rattle.zt_protocol.specs.declared.messages.Message.{Message}
 use Rattle.zt_protocol.specs.declared.messages.Message.TheVariants.{DeclareToken, InterestFinal}
-use Rattle.zt_model.specs.Fabric.{Fabric, Node, number_of_place}
+use Rattle.zt_model.specs.Fabric.{Fabric, Node, is_linked_face, number_of_place}
 use Rattle.zt_model.specs.Linking.{gateway_beyond}
 use Rattle.zt_model.specs.Lists.{in_key_order, is_among, nth}
 use Rattle.zt_model.specs.Rows.{Ask, Face}
-use Rattle.zt_model.specs.Transcript.{face_numbered}
+use Rattle.zt_model.specs.Transcript.{Each, face_numbered}
+use Rattle.zt_laws.specs.Sound.{RiseFrom}
 
 -- ---- gateways above and below
 
@@ -121,3 +122,10 @@ is_step _ = false
 abbrev pub takes_message : {K : Type 0} → PlainEntry K → Bool
 takes_message (Ok ms) = true
 takes_message (Err refusal) = nat_lt 3 (number_of refusal)
+
+-- ---- queues
+
+-- Messages wait for faces that end open links alone, and for each of these in one queue.
+pub record QueuesStand {K : Type 0} (s : Fabric K) : Type 0 where
+  pub rise : RiseFrom (λ row. row.0) 0 s.waiting
+  pub ends : Each (λ row. is_linked_face s (Some row.0) ≡ true) s.waiting
