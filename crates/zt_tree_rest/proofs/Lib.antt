@@ -18,3 +18,4 @@ pub mod AtGateway
 pub mod OneStep
 pub mod Stepped
 pub mod Queues
+pub mod Rest

@@ -47,7 +47,7 @@ module _ {K : Type 0} (cmp : K → K → Ordering) (matching : K → K → Bool)
       numbered s k (record { gateway = n; face = f.number }) node f place_ at_ found)
       node.rows.faces (found_by_number 1 node.rows.faces gateway.rows.lists.faces_rise) gateway.placed
 
-  joins_other : (a : ℕ) (link : Link) → is_end_of a link ≡ true → joins a (if a == link.one then link.two else link.one) link ≡ true
+  pub joins_other : (a : ℕ) (link : Link) → is_end_of a link ≡ true → joins a (if a == link.one then link.two else link.one) link ≡ true
   joins_other a link end_ =
       by_test (a == link.one)
       (λ here. rw here (or_left (true && (link.two == link.two)) _ (and_from true (link.two == link.two) refl (eq-eqb link.two link.two refl))))
