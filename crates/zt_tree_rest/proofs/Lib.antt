@@ -19,3 +19,4 @@ pub mod OneStep
 pub mod Stepped
 pub mod Queues
 pub mod Rest
+pub mod Resting
