@@ -239,3 +239,12 @@ module _ {K : Type 0} (cmp : K → K → Ordering) (matching : K → K → Bool)
         let here : IsTreeFabric next = tree_unshown cmp matching next (subst IsTreeFabric is turns.0.0) in
         let now_ = stand_after_line is_built line s real.0 stand (not_spent cmp matching total_order equal_is_same entry turns.0.1) here in
         subst (λ (after : Fabric K). (let more = turns_from cmp matching lines (entries_from cmp matching is_built lines next) after in Each (IsTreeTurn cmp matching) more → TreesStand cmp matching (fabric_after_all cmp matching is_built lines next) × IsTreeFabric (fabric_after_all cmp matching is_built lines next))) (sym is) (stand_after_all is_built lines next real.1 now_ here) turns.1
+
+  -- a step that takes no message changes nothing
+  pub takes_nothing : (is_built : PlainLine K → Bool) (link : ℕ) (back : Bool) (s : Fabric K) → (let entry = entry_of cmp matching is_built (Step link back) s in takes_message entry ≡ false → fabric_after cmp matching (Step link back) entry s ≡ s)
+  unfolding entry_of fabric_after
+  takes_nothing is_built link back s = cases (first_cause (line_causes cmp matching is_built (line_spends_ids cmp matching (Step link back) s) (Step link back) s))
+    where
+      cases : (o : Option Refusal) → (let entry = entry_by cmp matching o (sorted_by_face (said_by_line cmp matching (Step link back) s)) in takes_message entry ≡ false → fabric_after cmp matching (Step link back) entry s ≡ s)
+      cases None = λ none_. never refl none_
+      cases (Some r) = λ none_. rw none_ refl
