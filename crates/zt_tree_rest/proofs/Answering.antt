@@ -1,6 +1,6 @@
 -- An ask that is answered a token owes that answer no more, and pays for it.
 use Rattle.std.proofs.Common.{◌≡◌, ℕ, ◌+◌, ◌≤◌, Bool, true, false, not, if◌then◌else◌, ◌&&◌, ◌||◌, ◌==◌, List, [], ◌∷◌, ◌++◌, map, filter, Option, Some, None, refl, sym, ap, ◌∙◌, subst, arith, le_trans, eq-eqb}
-use Rattle.std.proofs.lemmas.Bool.{and_parts, or_left, or_right, or_cases}
+use Rattle.std.proofs.lemmas.Bool.{and_parts, or_left, or_right}
 use Rattle.std.specs.Cmp.{IsTotalOrder}
 use Rattle.std.specs.List.{flat_map, list_any}
 use Rattle.std.specs.declared.cmp.Ordering.{Ordering}
@@ -17,10 +17,10 @@ use Rattle.zt_model.specs.Telling.{answer_to, answers_from, is_answered_by, was_
 use Rattle.zt_model.specs.Transcript.{Each}
 use Rattle.zt_model.specs.Wants.{asks_token}
 use Rattle.zt_laws.proofs.Keys.{among-filter, same_back}
-use Rattle.zt_laws.proofs.Lists.{any-append, by_test, each_append, each_both, each_weaker, map-map, map_same, each_always, of_cond}
+use Rattle.zt_laws.proofs.Lists.{any-append, by_test, each_append, each_weaker, of_cond}
 use Rattle.zt_tree_rest.proofs.Once.{some_out}
 use Rattle.zt_tree_rest.proofs.Prices.{Pays, answered_owes_less, left, message_price, owed}
-use Rattle.zt_tree_rest.proofs.Sums.{times, total, total-map, total_alike}
+use Rattle.zt_tree_rest.proofs.Sums.{times, total, total-map}
 
 -- what a member makes is among what all make
 pub each_part : {A B : Type 0} (make : A → List B) (xs : List A) → Each (λ x. (test : B → Bool) → list_any test (make x) ≡ true → list_any test (flat_map make xs) ≡ true) xs

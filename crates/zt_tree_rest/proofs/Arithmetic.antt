@@ -1,5 +1,5 @@
 -- The sums that the steps of messages come to.
-use Rattle.std.proofs.Common.{◌≡◌, ℕ, suc, ◌+◌, ◌*◌, ◌≤◌, List, [], ◌∷◌, length, map, arith, add-mul, mul_assoc, mul-le-mul_left, mul-le-mul, le_refl, refl, ap, ◌∙◌}
+use Rattle.std.proofs.Common.{◌≡◌, ℕ, ◌+◌, ◌*◌, ◌≤◌, arith, add-mul, mul_assoc, mul-le-mul, le_refl, ap, ◌∙◌}
 
 -- what an interest brings about is within what a message that rises may
 pub interest_fits : (tokens entities price down all up : ℕ) → price ≤ down → all ≡ 1 + down

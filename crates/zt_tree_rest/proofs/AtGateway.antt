@@ -1,22 +1,21 @@
 -- What a call of each message costs at a gateway of a sound fabric of trees.
-use Rattle.std.proofs.Common.{◌≡◌, ℕ, ◌+◌, ◌*◌, ◌≤◌, Bool, true, false, not, if◌then◌else◌, ◌&&◌, ◌||◌, ◌==◌, List, [], ◌∷◌, length, map, filter, Option, Some, None, refl, sym, ap, ◌∙◌, subst, arith, eqb-true, add-mul, ⊎_elim}
-use Rattle.std.proofs.lemmas.Bool.{or_cases, or_left, or_right}
+use Rattle.std.proofs.Common.{◌≡◌, ℕ, ◌+◌, ◌*◌, ◌≤◌, Bool, true, false, ◌==◌, List, [], ◌∷◌, length, map, filter, Some, refl, sym, ap, ◌∙◌, subst, arith, eqb-true, add-mul}
+use Rattle.std.proofs.lemmas.Bool.{or_left, or_right}
 use Rattle.std.specs.Cmp.{IsTotalOrder}
 use Rattle.std.specs.List.{list_any}
 use Rattle.std.specs.declared.cmp.Ordering.{Ordering}
 use Rattle.std.specs.declared.cmp.Ordering.TheVariants.{Equal}
-use Rattle.zt_region.specs.declared.region.WhatAmI.{WhatAmI}
 use Rattle.zt_region.specs.Region.{is_north}
 use Rattle.zt_model.specs.Lists.{first_where, is_among, same}
 use Rattle.zt_model.specs.Parts.{find_face, is_routed}
 use Rattle.zt_model.specs.Rows.{ById, Face, Rows}
 use Rattle.zt_model.specs.Strategy.{is_router_hat, strategy_of}
 use Rattle.zt_model.specs.Transcript.{Each, KeepsWhatItShould}
-use Rattle.zt_model.specs.Visible.{is_visible, keeps, visible_expressions}
+use Rattle.zt_model.specs.Visible.{is_visible, visible_expressions}
 use Rattle.zt_laws.specs.Order.{HasRowsInOrder}
 use Rattle.zt_laws.specs.Sound.{RiseFrom}
 use Rattle.zt_laws.proofs.Hearing.{find_each}
-use Rattle.zt_laws.proofs.Keys.{same_back, same_is, same_itself}
+use Rattle.zt_laws.proofs.Keys.{same_is, same_itself}
 use Rattle.zt_laws.proofs.Lists.{any_member, by_test, each_both, each_map, each_weaker}
 use Rattle.zt_laws.proofs.Visible.{among-visible_expressions}
 use Rattle.zt_kept.specs.Sound.{IsSound}
@@ -26,9 +25,8 @@ use Rattle.zt_tree_asks.specs.Tokens.{IsIn}
 use Rattle.zt_tree_rest.proofs.Calls.{NoRouters}
 use Rattle.zt_tree_rest.proofs.Directions.{LooksDown, down, up}
 use Rattle.zt_tree_rest.proofs.Frames.{Framed, Outline, outline, outlines_rise}
-use Rattle.zt_tree_rest.proofs.Interests.{entities_price, interest_most, up_price, visible_in}
+use Rattle.zt_tree_rest.proofs.Interests.{entities_price, up_price, visible_in}
 use Rattle.zt_tree_rest.proofs.Sums.{times, times_is, total}
-use Rattle.zt_tree_rest.proofs.Telling.{AreTokens}
 
 times_few : {A : Type 0} (n : ℕ) (xs : List A) → length xs ≤ 1 → times n xs ≤ n
 times_few n [] few = omega arith

@@ -1,31 +1,22 @@
 -- What each call of a message costs at a gateway of a tree.
-use Rattle.std.proofs.Common.{◌≡◌, ℕ, ◌+◌, ◌≤◌, Bool, true, false, not, if◌then◌else◌, ◌&&◌, ◌||◌, ◌==◌, List, [], ◌∷◌, ◌++◌, map, filter, length, Option, Some, None, refl, sym, ap, ◌∙◌, subst, arith, eqb-true}
-use Rattle.std.specs.Cmp.{IsTotalOrder}
-use Rattle.std.specs.List.{list_any}
+use Rattle.std.proofs.Common.{◌≡◌, ℕ, ◌+◌, ◌≤◌, Bool, true, false, if◌then◌else◌, ◌&&◌, ◌==◌, List, [], ◌∷◌, filter, refl, sym, ap, ◌∙◌, subst, arith}
 use Rattle.std.specs.declared.cmp.Ordering.{Ordering}
-use Rattle.std.specs.declared.cmp.Ordering.TheVariants.{Equal}
 use Rattle.zt_region.specs.declared.region.Region.{Region}
 use Rattle.zt_region.specs.declared.region.WhatAmI.{WhatAmI}
-use Rattle.zt_region.specs.Region.{is_north}
 use Rattle.zt_protocol.specs.declared.messages.Message.{Message}
 use Rattle.zt_model.specs.Hearing.{rows_heard}
-use Rattle.zt_model.specs.Lists.{has_id, is_among}
-use Rattle.zt_model.specs.Parts.{Part, Alter, Say, Sends, find_face, to_each, to_face, with_face}
-use Rattle.zt_model.specs.Routing.{ended, ending, finish, finishing, initial_finalised}
-use Rattle.zt_model.specs.Rows.{Face, RoutedRow, Rows}
+use Rattle.zt_model.specs.Parts.{Part, to_each, with_face}
+use Rattle.zt_model.specs.Rows.{Face, Rows}
 use Rattle.zt_model.specs.Strategy.{is_router_hat, strategy_of}
-use Rattle.zt_model.specs.Telling.{answering, declaring, is_told, registered, tell}
+use Rattle.zt_model.specs.Telling.{is_told, tell}
 use Rattle.zt_model.specs.Transcript.{Each}
 use Rattle.zt_model.specs.Trees.{hide_to, hiding, is_hidden, is_newly_shown, router_regions, show_to, showing, with_own_rows, without_own_rows}
 use Rattle.zt_model.specs.Visible.{shows}
 use Rattle.zt_laws.specs.Sound.{RiseFrom}
-use Rattle.zt_laws.proofs.Lists.{by_test, each_always, each_weaker, of_cond}
+use Rattle.zt_laws.proofs.Lists.{by_test, each_always, each_weaker}
 use Rattle.zt_laws.proofs.PartsOrder.{each_of_map}
-use Rattle.zt_kept.specs.Ran.{ran}
 use Rattle.zt_kept.proofs.CallsRun.{own_rows_leave}
-use Rattle.zt_tree_rest.proofs.Answering.{answer_pays}
-use Rattle.zt_tree_rest.proofs.Ending.{finish_pays}
-use Rattle.zt_tree_rest.proofs.Frames.{Cost, Framed, Outline, Owes, RunsWithin, frame_of, framed_face, framed_heard, outline, rise_outlines, runs_alter, runs_append, runs_more, runs_nothing, runs_say}
+use Rattle.zt_tree_rest.proofs.Frames.{Cost, Framed, Outline, Owes, RunsWithin, frame_of, outline, rise_outlines, runs_alter, runs_nothing, runs_say}
 use Rattle.zt_tree_rest.proofs.Prices.{Pays}
 use Rattle.zt_tree_rest.proofs.Sends.{each_pays, one_owes}
 use Rattle.zt_tree_rest.proofs.Sums.{total, total-map, total_less}

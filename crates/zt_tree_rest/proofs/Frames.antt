@@ -1,5 +1,5 @@
 -- What stays of a gateway whatever its faces hear: their numbers, regions and entities; and what parts of calls cost.
-use Rattle.std.proofs.Common.{◌≡◌, ℕ, ◌+◌, ◌≤◌, Bool, true, false, not, if◌then◌else◌, ◌==◌, List, [], ◌∷◌, ◌++◌, map, refl, sym, ap, ◌∙◌, subst, arith}
+use Rattle.std.proofs.Common.{◌≡◌, ℕ, ◌+◌, ◌≤◌, Bool, if◌then◌else◌, ◌==◌, List, [], ◌∷◌, ◌++◌, map, refl, ap, ◌∙◌, arith}
 use Rattle.std.specs.declared.cmp.Ordering.{Ordering}
 use Rattle.zt_region.specs.declared.region.Region.{Region}
 use Rattle.zt_region.specs.declared.region.WhatAmI.{WhatAmI}
@@ -9,10 +9,9 @@ use Rattle.zt_protocol.specs.declared.messages.QueryableInfo.{QueryableInfo}
 use Rattle.zt_model.specs.Hearing.{heard, heard_all, messages_for, rows_heard}
 use Rattle.zt_model.specs.Parts.{Part, Alter, Say, Sends, said_by, with_face}
 use Rattle.zt_model.specs.Rows.{Face, Rows}
-use Rattle.zt_model.specs.Transcript.{Each}
 use Rattle.zt_laws.specs.Sound.{RiseFrom}
 use Rattle.zt_laws.proofs.Hearing.{heard_all_leaves}
-use Rattle.zt_laws.proofs.Lists.{by_test, each_always, map-map, map_alike, of_cond}
+use Rattle.zt_laws.proofs.Lists.{each_always, map-map, map_alike, of_cond}
 use Rattle.zt_kept.specs.Ran.{ran}
 use Rattle.zt_kept.proofs.Running.{ran-append, said_by-append}
 use Rattle.zt_tree_rest.proofs.Sends.{cost, cost-append, owed_by}

@@ -1,5 +1,5 @@
 -- What interests and their ends cost at a gateway of a tree.
-use Rattle.std.proofs.Common.{◌≡◌, ℕ, ◌+◌, ◌≤◌, Bool, true, false, not, if◌then◌else◌, ◌&&◌, ◌||◌, ◌==◌, List, [], ◌∷◌, ◌++◌, map, filter, Option, Some, None, refl, sym, ap, ◌∙◌, subst, arith, eqb-true}
+use Rattle.std.proofs.Common.{◌≡◌, ℕ, ◌+◌, ◌≤◌, Bool, true, false, not, if◌then◌else◌, ◌==◌, List, [], ◌∷◌, map, filter, Option, Some, None, refl, sym, ap, subst, arith, eqb-true}
 use Rattle.std.specs.Cmp.{IsTotalOrder}
 use Rattle.std.specs.List.{flat_map}
 use Rattle.std.specs.declared.cmp.Ordering.{Ordering}
@@ -7,28 +7,28 @@ use Rattle.std.specs.declared.cmp.Ordering.TheVariants.{Equal}
 use Rattle.zt_region.specs.declared.region.Region.{Region}
 use Rattle.zt_region.specs.declared.region.WhatAmI.{WhatAmI}
 use Rattle.zt_region.specs.Region.{is_north, zid_eq}
-use Rattle.zt_protocol.specs.Interest.{is_current, is_future}
+use Rattle.zt_protocol.specs.Interest.{is_current}
 use Rattle.zt_protocol.specs.Plain.{Interest, InterestFinal}
 use Rattle.zt_protocol.specs.declared.interests.InterestMode.{InterestMode}
 use Rattle.zt_protocol.specs.declared.interests.InterestOptions.{InterestOptions}
 use Rattle.zt_protocol.specs.declared.messages.Message.{Message}
 use Rattle.zt_model.specs.Entities.{entities_for, numbered_by, with_numbers}
-use Rattle.zt_model.specs.Hearing.{heard_all, messages_for, rows_heard}
+use Rattle.zt_model.specs.Hearing.{rows_heard}
 use Rattle.zt_model.specs.Lists.{at_id, is_among}
-use Rattle.zt_model.specs.Parts.{Part, Alter, Say, find_face, to_each, to_face, with_face}
+use Rattle.zt_model.specs.Parts.{Part, find_face, to_each, to_face, with_face}
 use Rattle.zt_model.specs.Routing.{asked_as, end_upstream_to, final_of, final_of_both, finalising, route, route_to, sent_as, unheld, untell_to}
 use Rattle.zt_model.specs.Rows.{Ask, Face, InterestRow, Rows}
 use Rattle.zt_model.specs.Says.{answers_of, asking, finalising_held, parts_of, row_of}
 use Rattle.zt_model.specs.Transcript.{Each}
 use Rattle.zt_model.specs.Visible.{live_rows, rows_of_face, shows, visible_expressions}
 use Rattle.zt_laws.specs.Sound.{RiseFrom}
-use Rattle.zt_laws.proofs.Lists.{by_test, each_always, each_append, each_both, each_filter, each_map, each_passes, each_weaker, of_cond}
+use Rattle.zt_laws.proofs.Lists.{each_always, each_append, each_both, each_filter, each_map, each_passes, each_weaker, of_cond}
 use Rattle.zt_trees.proofs.Fresh.{each_in_order}
 use Rattle.zt_tree_asks.specs.Tokens.{IsIn}
 use Rattle.zt_tree_asks.proofs.Tokens.{heard_in}
 use Rattle.zt_tree_rest.proofs.Calls.{NoRouters, changed_owes, each_said, framed_rise, framed_total}
 use Rattle.zt_tree_rest.proofs.Ending.{end_upstream_pays, final_of_both_pays, final_pays}
-use Rattle.zt_tree_rest.proofs.Frames.{Cost, Framed, Outline, Owes, RunsWithin, face_frame, framed_face, framed_heard, outline, runs_alter, runs_append, runs_more, runs_nothing, runs_say}
+use Rattle.zt_tree_rest.proofs.Frames.{Cost, Framed, Outline, Owes, RunsWithin, face_frame, framed_face, framed_heard, outline, runs_alter, runs_more, runs_nothing, runs_say}
 use Rattle.zt_tree_rest.proofs.Prices.{Pays, left, total_put_if}
 use Rattle.zt_tree_rest.proofs.Sends.{one_pays}
 use Rattle.zt_tree_rest.proofs.Sums.{times, total, total_filter}

@@ -1,12 +1,11 @@
 -- A step brings about less than it takes away.
-use Rattle.std.proofs.Common.{◌≡◌, ◌≢◌, ℕ, ◌+◌, ◌*◌, ◌-◌, ◌≤◌, Bool, true, false, not, if◌then◌else◌, ◌==◌, List, [], ◌∷◌, length, map, Option, Some, None, refl, sym, ap, ◌∙◌, subst, arith}
+use Rattle.std.proofs.Common.{◌≡◌, ℕ, ◌+◌, ◌*◌, ◌-◌, ◌≤◌, Bool, true, false, not, if◌then◌else◌, ◌==◌, List, [], ◌∷◌, length, map, Option, Some, None, refl, sym, ap, ◌∙◌, subst, arith}
 use Rattle.std.specs.Cmp.{IsTotalOrder}
 use Rattle.std.specs.declared.cmp.Ordering.{Ordering}
 use Rattle.std.specs.declared.cmp.Ordering.TheVariants.{Equal}
 use Rattle.zt_region.specs.declared.region.WhatAmI.{WhatAmI}
 use Rattle.zt_region.specs.Region.{is_north}
 use Rattle.zt_protocol.specs.Plain.{PlainCall, DeclareToken, UndeclareToken, Interest, InterestFinal, DeclareFinal}
-use Rattle.zt_protocol.specs.declared.entries.Sent.{Sent}
 use Rattle.zt_protocol.specs.declared.interests.InterestMode.{InterestMode}
 use Rattle.zt_protocol.specs.declared.interests.InterestOptions.{InterestOptions}
 use Rattle.zt_protocol.specs.declared.messages.Message.{Message}
@@ -15,18 +14,17 @@ use Rattle.zt_model.specs.Fabric.{Fabric, Node, at_nth, number_of_place, printed
 use Rattle.zt_model.specs.Linking.{waiting_of}
 use Rattle.zt_model.specs.Lists.{is_among, nth}
 use Rattle.zt_model.specs.Parts.{Sends, find_face, is_routed}
-use Rattle.zt_model.specs.Rows.{Face, Rows}
+use Rattle.zt_model.specs.Rows.{Rows}
 use Rattle.zt_model.specs.Says.{parts_of, said}
-use Rattle.zt_model.specs.Transcript.{Each, FaceAt, face_numbered}
+use Rattle.zt_model.specs.Transcript.{FaceAt, face_numbered}
 use Rattle.zt_laws.specs.Order.{FabricIsInOrder}
 use Rattle.zt_laws.specs.Sound.{RiseFrom, opens_face, rows_after_call}
 use Rattle.zt_laws.proofs.Gateways.{prints_sorted}
 use Rattle.zt_laws.proofs.Lists.{by_test}
-use Rattle.zt_laws.proofs.LinesOrder.{gateway_in_order}
 use Rattle.zt_kept.specs.Ran.{ran}
 use Rattle.zt_kept.specs.Sound.{IsSound}
 use Rattle.zt_kept.proofs.CallsRun.{call_runs}
-use Rattle.zt_trees.specs.Facts.{IsForAbove, IsForBelow, IsTreeGateway, TreesAgree}
+use Rattle.zt_trees.specs.Facts.{IsTreeGateway, TreesAgree}
 use Rattle.zt_trees.specs.Joints.{are_joined}
 use Rattle.zt_trees.proofs.After.{after_call}
 use Rattle.zt_trees.proofs.Lasting.{printed_by, turned_by}
@@ -35,20 +33,19 @@ use Rattle.zt_trees.proofs.Members.{each_nth, number_is_its}
 use Rattle.zt_trees.proofs.Quiet.{joined_back}
 use Rattle.zt_trees.proofs.Stepping.{taken}
 use Rattle.zt_tree_asks.specs.Tokens.{IsIn}
-use Rattle.zt_tree_lines.proofs.Queues.{added}
-use Rattle.zt_tree_rest.specs.Steps.{ends_from, falls_from, most_answers, passes_on, rises_from, steps_left, steps_of}
+use Rattle.zt_tree_rest.specs.Steps.{ends_from, falls_from, most_answers, passes_on, rises_from, steps_left}
 use Rattle.zt_tree_rest.proofs.Arithmetic.{interest_fits, token_fits}
 use Rattle.zt_tree_rest.proofs.AtGateway.{Down, Entities, Up, down_member, entities_are, framed, live_rise, looks, os, outside, plain, rises, told_tokens, up_once}
 use Rattle.zt_tree_rest.proofs.Calls.{NoRouters}
 use Rattle.zt_tree_rest.proofs.Directions.{fallen_declare, fallen_undeclare, risen_declare, risen_undeclare}
-use Rattle.zt_tree_rest.proofs.Frames.{Cost, Frame, Framed, Outline, RunsWithin, frame_of, outline, runs_more}
+use Rattle.zt_tree_rest.proofs.Frames.{Frame, Framed, Outline, RunsWithin, frame_of, outline}
 use Rattle.zt_tree_rest.proofs.Interests.{end_runs, interest_most, interest_runs}
 use Rattle.zt_tree_rest.proofs.Queues.{numbers_added, numbers_of, numbers_taken, rise_by_numbers}
 use Rattle.zt_tree_rest.proofs.Sends.{cost, owed_by}
-use Rattle.zt_tree_rest.proofs.Since.{Since, Was, dues, dues_changed, end_price, face_was, left_is, node_was, price, price_at_most, frames, weight}
+use Rattle.zt_tree_rest.proofs.Since.{Since, Was, dues_changed, end_price, face_was, left_is, node_was, price, price_at_most, frames, weight}
 use Rattle.zt_tree_rest.proofs.Sums.{times, times_is, total}
 use Rattle.zt_tree_rest.proofs.Tokens.{finish_runs}
-use Rattle.zt_tree_rest.proofs.Waiting.{added_pays, printed as printed_weight, queues, sorted_total, taken_pays}
+use Rattle.zt_tree_rest.proofs.Waiting.{added_pays, printed as printed_weight, sorted_total, taken_pays}
 use Rattle.zt_tree_rest.proofs.Weights.{entities_by_faces, falls_by_faces, falls_to, rises_by_faces, rises_to}
 
 frames_changed : {K : Type 0} (n : ℕ) (change : Node K → Node K) (gs : List (Node K)) (node : Node K) → nth n gs ≡ Some node → frame_of (change node).rows ≡ frame_of node.rows → frames (at_nth n change gs) ≡ frames gs

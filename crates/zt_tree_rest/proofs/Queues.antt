@@ -1,14 +1,14 @@
 -- Every line leaves one queue for each end of an open link, and no other.
-use Rattle.std.proofs.Common.{◌≡◌, ℕ, ◌+◌, ◌-◌, ◌≤◌, ◌<◌, Bool, true, false, not, if◌then◌else◌, ◌&&◌, ◌||◌, ◌==◌, nat_lt, List, [], ◌∷◌, ◌++◌, length, map, filter, Option, Some, None, Ok, Err, refl, sym, ap, ◌∙◌, subst, arith, eq-eqb, eqb-true, ⊎_elim}
-use Rattle.std.proofs.lemmas.Bool.{and_from, and_parts, or_cases, or_left, or_right}
+use Rattle.std.proofs.Common.{◌≡◌, ℕ, ◌+◌, ◌-◌, ◌≤◌, ◌<◌, Bool, true, false, not, ◌&&◌, ◌||◌, ◌==◌, nat_lt, List, [], ◌∷◌, ◌++◌, length, map, filter, Option, Some, None, Ok, Err, refl, sym, ap, ◌∙◌, subst, arith, eq-eqb, eqb-true, ⊎_elim}
+use Rattle.std.proofs.lemmas.Bool.{or_cases, or_left, or_right}
 use Rattle.std.specs.List.{list_any}
 use Rattle.std.specs.declared.cmp.Ordering.{Ordering}
 use Rattle.zt_protocol.specs.Plain.{PlainEntry, PlainLine, Gateway, Session, Face as FaceLine, Link as LinkLine, Unlink, Step, Speak, Moment, SetTreesAt}
 use Rattle.zt_protocol.specs.Refusal.{number_of}
 use Rattle.zt_protocol.specs.declared.entries.Sent.{Sent}
 use Rattle.zt_protocol.specs.declared.messages.Message.{Message}
-use Rattle.zt_model.specs.Fabric.{CallAt, Fabric, Link, after_refusal, altered_at, altered_by_line, at_nth, both_ends, call_of, closed_ends, closing_call, fabric_after, is_linked_face, opened_at, opened_ends, opening_at, without_message}
-use Rattle.zt_model.specs.Linking.{LinkEnd, is_end_of, link_ends, sending_end, with_link, without_link}
+use Rattle.zt_model.specs.Fabric.{CallAt, Fabric, Link, altered_at, altered_by_line, at_nth, both_ends, call_of, closed_ends, closing_call, fabric_after, opened_at, opened_ends, opening_at, without_message}
+use Rattle.zt_model.specs.Linking.{LinkEnd, link_ends, sending_end, with_link, without_link}
 use Rattle.zt_model.specs.Lists.{nth, rest_of, without_id}
 use Rattle.zt_model.specs.Rows.{ById}
 use Rattle.zt_model.specs.Transcript.{Each}
@@ -85,8 +85,7 @@ module _ {K : Type 0} where
         rise = rise_last 0 a s.waiting (omega arith) (each_weaker (λ (row : ℕ × List (Message K)). row.0 ≤ length s.faces) (λ row. row.0 < a) (λ row le. omega arith) s.waiting within) stand.rise;
         ends =
             each_append (λ (row : ℕ × List (Message K)). IsEnd (s.links ++ new_ ∷ []) row.0) s.waiting ((a, []) ∷ (a + 1, []) ∷ [])
-            (each_weaker (λ (row : ℕ × List (Message K)). IsEnd s.links row.0) (λ row. IsEnd (s.links ++ new_ ∷ []) row.0) (λ row own. any-append (test row.0) s.links (new_ ∷ []) ∙ or_left (list_any (test row.0) s.links) (list_any (test row.0) (new_ ∷ [])) own) s.waiting stand.ends)
-            (
+            (each_weaker (λ (row : ℕ × List (Message K)). IsEnd s.links row.0) (λ row. IsEnd (s.links ++ new_ ∷ []) row.0) (λ row own. any-append (test row.0) s.links (new_ ∷ []) ∙ or_left (list_any (test row.0) s.links) (list_any (test row.0) (new_ ∷ [])) own) s.waiting stand.ends) (
               any-append (test a) s.links (new_ ∷ []) ∙ or_right (list_any (test a) s.links) (list_any (test a) (new_ ∷ [])) (or_left (true && ((a == a) || (a == a + 1))) false (or_left (a == a) (a == a + 1) (eq-eqb a a refl))),
               (any-append (test (a + 1)) s.links (new_ ∷ []) ∙ or_right (list_any (test (a + 1)) s.links) (list_any (test (a + 1)) (new_ ∷ [])) (or_left (true && ((a + 1 == a) || (a + 1 == a + 1))) false (or_right (a + 1 == a) (a + 1 == a + 1) (eq-eqb (a + 1) (a + 1) refl))), tt),
             );

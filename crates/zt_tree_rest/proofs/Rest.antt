@@ -1,40 +1,37 @@
 -- Steps that follow one another come to an end, and then nothing waits.
-use Rattle.std.proofs.Common.{◌≡◌, ◌≢◌, ℕ, zero, suc, ◌+◌, ◌*◌, ◌-◌, ◌≤◌, Bool, true, false, not, if◌then◌else◌, ◌&&◌, ◌||◌, ◌==◌, nat_lt, List, [], ◌∷◌, ◌++◌, length, map, filter, Option, Some, None, Ok, Err, is_some, is_none, refl, sym, ap, ◌∙◌, subst, arith, eq-eqb, eqb-true, ne_eqb, ⊎_elim, add-mul}
-use Rattle.std.proofs.lemmas.Bool.{and_from, and_parts, or_cases, or_left, or_right}
+use Rattle.std.proofs.Common.{◌≡◌, ◌≢◌, ℕ, ◌+◌, ◌*◌, ◌≤◌, Bool, true, false, if◌then◌else◌, ◌&&◌, ◌||◌, ◌==◌, List, [], ◌∷◌, ◌++◌, length, map, Option, Some, None, Err, refl, ap, ◌∙◌, subst, arith, add-mul}
+use Rattle.std.proofs.lemmas.Bool.{and_from, and_parts, or_left, or_right}
 use Rattle.std.specs.Cmp.{IsTotalOrder}
-use Rattle.std.specs.List.{flat_map, list_all, list_any, sum_by}
+use Rattle.std.specs.List.{flat_map, list_all, list_any}
 use Rattle.std.specs.declared.cmp.Ordering.{Ordering}
 use Rattle.std.specs.declared.cmp.Ordering.TheVariants.{Equal}
 use Rattle.zt_region.specs.Region.{is_north, zid_eq}
-use Rattle.zt_protocol.specs.Plain.{PlainEntry, PlainLine, Gateway, Session, Face as FaceLine, Link as LinkLine, Unlink, Step, Speak, Moment, SetTreesAt}
+use Rattle.zt_protocol.specs.Plain.{PlainLine, Gateway, Session, Face as FaceLine, Link as LinkLine, Unlink, Step, Speak, Moment, SetTreesAt}
 use Rattle.zt_protocol.specs.declared.errors.Refusal.TheVariants as refusal
 use Rattle.zt_protocol.specs.declared.messages.Message.{Message}
 use Rattle.zt_protocol.specs.declared.messages.Message.TheVariants as message
 use Rattle.zt_model.specs.Fabric.{Fabric, Link, Node, entries_from, entry_of, fabric_after, is_linked_face, number_of_place}
 use Rattle.zt_model.specs.Lists.{is_among, nth, same}
-use Rattle.zt_model.specs.Rows.{ById, Face, RoutedRow, Rows}
-use Rattle.zt_model.specs.Transcript.{Each, FaceAt, face_numbered}
-use Rattle.zt_model.specs.TreePromises.{are_links_empty}
+use Rattle.zt_model.specs.Rows.{ById, Face, RoutedRow}
+use Rattle.zt_model.specs.Transcript.{Each, FaceAt}
 use Rattle.zt_laws.specs.Order.{FabricIsInOrder}
-use Rattle.zt_laws.specs.Sound.{RiseFrom}
 use Rattle.zt_laws.proofs.Entries.{found_where}
 use Rattle.zt_laws.proofs.Hearing.{find_passes}
 use Rattle.zt_laws.proofs.Keys.{among-in_key_order, same_itself}
-use Rattle.zt_laws.proofs.Lists.{any-append, by_test, each_always, each_both, each_map, each_weaker, never}
+use Rattle.zt_laws.proofs.Lists.{any-append, by_test, each_both, each_weaker, never}
 use Rattle.zt_trees.specs.Facts.{IsTreeGateway, TreesAgree}
 use Rattle.zt_trees.specs.Joints.{are_joined, joins}
 use Rattle.zt_trees.proofs.Climbing.{any_found}
 use Rattle.zt_trees.proofs.Members.{is_there}
-use Rattle.zt_trees.proofs.Quiet.{joined_back}
 use Rattle.zt_tree_asks.specs.Tokens.{IsIn, TokenIn}
-use Rattle.zt_tree_asks.proofs.Everywhere.{Everywhere, Queues}
+use Rattle.zt_tree_asks.proofs.Everywhere.{Everywhere}
 use Rattle.zt_tree_rest.specs.Rest.{StepsFollow, TreesStand, fabric_after_all, messages_waiting}
-use Rattle.zt_tree_rest.specs.Steps.{QueuesStand, declared, ends_from, entities_at, falls_from, is_step, most_answers, most_steps, passes_on, rises_from, steps_left, steps_of, takes_message, tokens_of}
+use Rattle.zt_tree_rest.specs.Steps.{declared, ends_from, entities_at, falls_from, is_step, most_steps, passes_on, rises_from, steps_left, steps_of, takes_message, tokens_of}
 use Rattle.zt_tree_rest.proofs.Answering.{each_part}
 use Rattle.zt_tree_rest.proofs.Frames.{Outline, outline}
-use Rattle.zt_tree_rest.proofs.Since.{Since, dues, left_is, weight}
+use Rattle.zt_tree_rest.proofs.Since.{Since, left_is}
 use Rattle.zt_tree_rest.proofs.Stepped.{since_step, step_lessens}
-use Rattle.zt_tree_rest.proofs.Sums.{times, total, total_alike, total_is, total_less}
+use Rattle.zt_tree_rest.proofs.Sums.{total, total_is}
 use Rattle.zt_tree_rest.proofs.Waiting.{queues}
 use Rattle.zt_tree_rest.proofs.Weights.{falls_by_faces, falls_to, joins_other, rises_by_faces, rises_to}
 

@@ -1,14 +1,13 @@
 -- Where no step follows any more nothing waits, and all plain faces know their trees.
-use Rattle.std.proofs.Common.{◌≡◌, ◌≢◌, ◌⊎◌, inl, inr, ℕ, zero, suc, ◌+◌, ◌-◌, ◌≤◌, Bool, true, false, not, if◌then◌else◌, ◌&&◌, ◌||◌, ◌==◌, nat_lt, List, [], ◌∷◌, ◌++◌, length, map, Option, Some, None, Ok, Err, is_some, refl, sym, ap, ◌∙◌, subst, arith, eq-eqb, eqb-true, ne_eqb, ⊎_elim}
+use Rattle.std.proofs.Common.{◌≡◌, ◌≢◌, ◌⊎◌, ℕ, ◌+◌, ◌-◌, ◌≤◌, Bool, true, false, not, ◌&&◌, ◌||◌, ◌==◌, nat_lt, List, [], ◌∷◌, length, Option, Some, None, Err, is_some, refl, sym, ap, ◌∙◌, subst, arith, eq-eqb, eqb-true, ne_eqb, ⊎_elim}
 use Rattle.std.proofs.lemmas.Bool.{and_from, and_parts, or_cases}
 use Rattle.std.specs.Cmp.{IsTotalOrder}
-use Rattle.std.specs.List.{list_all, list_any, sum_by}
+use Rattle.std.specs.List.{list_all, list_any}
 use Rattle.std.specs.declared.cmp.Ordering.{Ordering}
 use Rattle.std.specs.declared.cmp.Ordering.TheVariants.{Equal}
-use Rattle.zt_region.specs.declared.region.Region.{Region}
 use Rattle.zt_region.specs.declared.region.WhatAmI.TheVariants.{Client}
 use Rattle.zt_region.specs.Region.{is_north, whatami_eq}
-use Rattle.zt_protocol.specs.Plain.{PlainCall, NewSession, NewTransport, DeclareToken, UndeclareToken, Interest, InterestFinal, DeclareFinal, CloseFace, Expire, SetTrees, SetEntities, PlainEntry, PlainLine, Step}
+use Rattle.zt_protocol.specs.Plain.{PlainCall, NewSession, NewTransport, DeclareToken, UndeclareToken, Interest, InterestFinal, DeclareFinal, CloseFace, Expire, SetTrees, SetEntities, PlainLine, Step}
 use Rattle.zt_protocol.specs.Refusal.{number_of}
 use Rattle.zt_protocol.specs.declared.errors.Refusal.{Refusal}
 use Rattle.zt_protocol.specs.declared.errors.Refusal.TheVariants as refusal
@@ -16,10 +15,10 @@ use Rattle.zt_protocol.specs.declared.messages.Message.{Message}
 use Rattle.zt_model.specs.Fabric.{CallAt, Fabric, Link, Node, built_causes, call_of, causes_of_call, empty_fabric, entries_from, entry_by, entry_of, fabric_after, is_linked_face, is_open_link, line_causes, line_spends_ids, number_of_place, said_by_line, sorted_by_face}
 use Rattle.zt_model.specs.Linking.{is_end_of, oldest, sending_end, waiting_of}
 use Rattle.zt_model.specs.Lists.{at_id, first_of, is_some_and, nth}
-use Rattle.zt_model.specs.Promises.{EachGateway, Turn, turns_from}
+use Rattle.zt_model.specs.Promises.{turns_from}
 use Rattle.zt_model.specs.Refusals.{Causes, call_causes, first_cause}
-use Rattle.zt_model.specs.Rows.{ById, Face, Rows}
-use Rattle.zt_model.specs.Transcript.{Each, FaceAt, face_numbered}
+use Rattle.zt_model.specs.Rows.{ById, Rows}
+use Rattle.zt_model.specs.Transcript.{Each}
 use Rattle.zt_model.specs.TreePromises.{IsTreeFabric, IsTreeTurn, LeadsUpByLink, ServesClients, are_links_empty, is_client_region}
 use Rattle.zt_laws.specs.Shown.{as_shown}
 use Rattle.zt_laws.specs.Sound.{HasFirstIds, RiseFrom}
@@ -38,7 +37,7 @@ use Rattle.zt_tree_rest.specs.Steps.{QueuesStand, most_steps, takes_message, tok
 use Rattle.zt_tree_rest.proofs.Frames.{Frame, Outline, frame_of, outline}
 use Rattle.zt_tree_rest.proofs.Queues.{queues_after}
 use Rattle.zt_tree_rest.proofs.Rest.{since_start, steps_end, steps_lessen}
-use Rattle.zt_tree_rest.proofs.Since.{Since, frames, node_was}
+use Rattle.zt_tree_rest.proofs.Since.{Since, node_was}
 use Rattle.zt_tree_rest.proofs.Sums.{total, total_is}
 
 -- ---- members by their numbers
@@ -184,8 +183,7 @@ module _ {K : Type 0} (cmp : K → K → Ordering) (matching : K → K → Bool)
         (λ m node at_.
         let n_is : m + 1 ≡ 1 + m = omega arith in
         let was = node_was cmp matching tokens s now since.framed (m + 1) node at_ in
-        let serves : ServesClients (m + 1) was.0 = each_gateway_nth ServesClients 1 (m + 1) (m + 1) s.gateways was.0 (omega arith) trees.clients was.1 in
-        (
+        let serves : ServesClients (m + 1) was.0 = each_gateway_nth ServesClients 1 (m + 1) (m + 1) s.gateways was.0 (omega arith) trees.clients was.1 in (
           ap (λ (f : Frame K). list_all is_client_region f.regions) was.2 ∙ serves.0,
           ap (λ (f : Frame K). f.refused) was.2 ∙ serves.1,
         ));

@@ -1,17 +1,17 @@
 -- What faces are sent together, and what they owe then.
-use Rattle.std.proofs.Common.{◌≡◌, ℕ, ◌+◌, ◌≤◌, Bool, true, false, not, if◌then◌else◌, ◌==◌, List, [], ◌∷◌, ◌++◌, map, Option, Some, None, refl, sym, ap, ◌∙◌, subst, arith, ne_eqb, eqb-true}
+use Rattle.std.proofs.Common.{◌≡◌, ℕ, ◌+◌, ◌≤◌, true, false, if◌then◌else◌, ◌==◌, List, [], ◌∷◌, ◌++◌, map, Some, None, refl, sym, ap, ◌∙◌, subst, arith, ne_eqb, eqb-true}
 use Rattle.std.specs.declared.cmp.Ordering.{Ordering}
 use Rattle.zt_protocol.specs.declared.messages.Message.{Message}
 use Rattle.zt_model.specs.Hearing.{heard_all, rows_heard}
 use Rattle.zt_model.specs.Lists.{first_where}
-use Rattle.zt_model.specs.Parts.{Sends, find_face, to_each, to_face, with_face}
+use Rattle.zt_model.specs.Parts.{Sends, to_each, to_face, with_face}
 use Rattle.zt_model.specs.Rows.{Face, Rows}
 use Rattle.zt_model.specs.Transcript.{Each}
 use Rattle.zt_laws.specs.Sound.{RiseFrom}
 use Rattle.zt_laws.proofs.Hearing.{rows_heard-to_each}
-use Rattle.zt_laws.proofs.Lists.{by_test, each_both, each_weaker, of_cond, rise_above}
+use Rattle.zt_laws.proofs.Lists.{by_test, each_weaker, rise_above}
 use Rattle.zt_tree_rest.proofs.Prices.{Pays, message_price, owed}
-use Rattle.zt_tree_rest.proofs.Sums.{total, total-append, total-map, total_alike, total_less, total_sum}
+use Rattle.zt_tree_rest.proofs.Sums.{total, total-append, total-map, total_less, total_sum}
 
 -- what counts for the face of one number alone
 pub one_alone : {K : Type 0} (n b low : ℕ) (fs : List (Face K)) → RiseFrom (λ f. f.number) low fs → total (λ f. if n == f.number then b else 0) fs ≤ b

@@ -1,20 +1,17 @@
 -- A fabric some steps after another: its links and the outlines of its faces are the same.
-use Rattle.std.proofs.Common.{◌≡◌, ℕ, ◌+◌, ◌*◌, ◌-◌, ◌≤◌, Bool, true, false, not, if◌then◌else◌, ◌==◌, List, [], ◌∷◌, length, map, filter, Option, Some, None, option_map, refl, sym, ap, ◌∙◌, subst, arith, ne_eqb, eqb-true}
-use Rattle.std.specs.Cmp.{IsTotalOrder}
+use Rattle.std.proofs.Common.{◌≡◌, ℕ, ◌+◌, ◌*◌, ◌-◌, ◌≤◌, Bool, true, not, ◌==◌, List, [], ◌∷◌, length, map, filter, Option, Some, None, option_map, refl, sym, ap, ◌∙◌, subst, arith, eqb-true}
 use Rattle.std.specs.List.{sum_by}
 use Rattle.std.specs.declared.cmp.Ordering.{Ordering}
-use Rattle.std.specs.declared.cmp.Ordering.TheVariants.{Equal}
 use Rattle.zt_protocol.specs.declared.messages.Message.{Message}
 use Rattle.zt_protocol.specs.declared.messages.Message.TheVariants as message
-use Rattle.zt_model.specs.Fabric.{Fabric, Link, Node, Place, at_nth, number_of_place}
+use Rattle.zt_model.specs.Fabric.{Fabric, Node, Place, at_nth, number_of_place}
 use Rattle.zt_model.specs.Lists.{first_where, is_among, nth}
 use Rattle.zt_model.specs.Parts.{find_face}
-use Rattle.zt_model.specs.Rows.{Ask, ById, Face, Rows}
-use Rattle.zt_model.specs.Transcript.{Each, FaceAt, face_numbered}
-use Rattle.zt_laws.specs.Order.{FabricIsInOrder}
-use Rattle.zt_laws.specs.Sound.{RiseFrom, is_placed}
+use Rattle.zt_model.specs.Rows.{Ask, ById, Face}
+use Rattle.zt_model.specs.Transcript.{FaceAt, face_numbered}
+use Rattle.zt_laws.specs.Sound.{is_placed}
 use Rattle.zt_laws.proofs.Entries.{nth_of_number}
-use Rattle.zt_laws.proofs.Lists.{by_test, each_always, of_cond}
+use Rattle.zt_laws.proofs.Lists.{by_test, each_always}
 use Rattle.zt_laws.proofs.Numbered.{nth_real}
 use Rattle.zt_kept.specs.Lines.{EachGatewayIs}
 use Rattle.zt_kept.specs.Sound.{IsSound}

@@ -1,5 +1,5 @@
 -- Each step that takes a message lessens the steps that are left, and what steps need is true after it.
-use Rattle.std.proofs.Common.{◌≡◌, ◌≢◌, ◌⊎◌, inl, inr, ℕ, ◌+◌, ◌*◌, ◌-◌, ◌≤◌, Bool, true, false, not, if◌then◌else◌, ◌==◌, nat_lt, List, [], ◌∷◌, ◌++◌, length, map, Option, Some, None, Ok, Err, is_some, refl, sym, ap, ◌∙◌, subst, arith, ⊎_elim}
+use Rattle.std.proofs.Common.{◌≡◌, ◌≢◌, ◌⊎◌, inl, inr, ℕ, Bool, true, false, not, nat_lt, List, [], ◌∷◌, map, Option, Some, None, Err, is_some, refl, sym, ap, ◌∙◌, subst, ⊎_elim}
 use Rattle.std.specs.Cmp.{IsTotalOrder}
 use Rattle.std.specs.declared.cmp.Ordering.{Ordering}
 use Rattle.std.specs.declared.cmp.Ordering.TheVariants.{Equal}
@@ -10,7 +10,7 @@ use Rattle.zt_protocol.specs.declared.errors.Refusal.{Refusal}
 use Rattle.zt_protocol.specs.declared.errors.Refusal.TheVariants as refusal
 use Rattle.zt_protocol.specs.declared.messages.Message.{Message}
 use Rattle.zt_protocol.specs.declared.messages.Message.TheVariants as message
-use Rattle.zt_model.specs.Fabric.{CallAt, Fabric, Link, Node, after_refusal, altered_by_line, built_causes, call_of, call_of_step, entry_by, entry_of, fabric_after, line_causes, line_spends_ids, printed_message, said_by_line, sorted_by_face, with_call_face, with_waiting, without_message}
+use Rattle.zt_model.specs.Fabric.{CallAt, Fabric, Link, Node, altered_by_line, built_causes, call_of, call_of_step, entry_by, entry_of, fabric_after, line_causes, line_spends_ids, printed_message, said_by_line, sorted_by_face, with_call_face, with_waiting, without_message}
 use Rattle.zt_model.specs.Linking.{call_of_message, oldest, sending_end, speaking_end, waiting_of}
 use Rattle.zt_model.specs.Lists.{is_among, is_some_and, nth}
 use Rattle.zt_model.specs.Parts.{find_face}
@@ -19,21 +19,20 @@ use Rattle.zt_model.specs.Rows.{ById, Rows}
 use Rattle.zt_model.specs.Says.{said}
 use Rattle.zt_model.specs.Transcript.{Each, FaceAt, face_numbered}
 use Rattle.zt_laws.specs.Order.{FabricIsInOrder}
-use Rattle.zt_laws.specs.Sound.{opens_face}
 use Rattle.zt_laws.proofs.Calls.{no_cause}
 use Rattle.zt_laws.proofs.Gateways.{after_hearing_nothing}
-use Rattle.zt_laws.proofs.Lists.{by_test, never, of_cond}
+use Rattle.zt_laws.proofs.Lists.{by_test, never}
 use Rattle.zt_kept.proofs.Sound.{sound_after_line}
-use Rattle.zt_trees.specs.Facts.{IsForAbove, IsForBelow, JointAgrees, TreesAgree}
+use Rattle.zt_trees.specs.Facts.{IsForAbove, IsForBelow, TreesAgree}
 use Rattle.zt_trees.specs.Joints.{are_joined}
 use Rattle.zt_trees.proofs.After.{after_call, joined_ends, some_oldest, step_is, with_nothing}
-use Rattle.zt_trees.proofs.Lasting.{IsLess, LeftByCalls, LineSaid, MessageSaid, printed_by, stand_after, turned_by}
+use Rattle.zt_trees.proofs.Lasting.{IsLess, LeftByCalls, MessageSaid, printed_by, stand_after}
 use Rattle.zt_trees.proofs.Quiet.{joined_back}
 use Rattle.zt_trees.proofs.Stepping.{taken}
 use Rattle.zt_tree_lines.proofs.Calls.{trees_after_call}
 use Rattle.zt_tree_asks.specs.Tokens.{CallIn, TokenIn}
 use Rattle.zt_tree_asks.proofs.Everywhere.{Everywhere, Queues, added_in, oldest_in, says_in, sends_in, sorted_in, taken_in, turned_in}
-use Rattle.zt_tree_rest.specs.Steps.{ends_from, takes_message}
+use Rattle.zt_tree_rest.specs.Steps.{takes_message}
 use Rattle.zt_tree_rest.proofs.OneStep.{Lessens, dropped, fallen_final, fallen_token, fallen_untoken, real_weight, risen_end, risen_interest, risen_token, risen_untoken}
 use Rattle.zt_tree_rest.proofs.Queues.{stand_by}
 use Rattle.zt_tree_rest.proofs.Since.{Since}
@@ -73,8 +72,10 @@ module _ {K : Type 0} (cmp : K → K → Ordering) (matching : K → K → Bool)
         let own : ends.one ≡ z = some_is (sym ends.one_is ∙ z_is) in
         let turned_ : is_north ends.two.face.region ≡ not (is_north z.face.region) = ends.one_leads_up ∙ ap (λ (x : FaceAt K). not (is_north x.face.region)) own in (
           z.face.next,
-          (λ north. let j = agree.joints q1 q0 z ends.two joined z_is ends.two_is north in (subst (Each (IsForBelow z.face.next)) is j.for_below).0,
-          λ south. let j = agree.joints q0 q1 ends.two z (joined_back s q1 q0 joined) ends.two_is z_is (turned_ ∙ ap not south) in (subst (Each IsForAbove) is j.for_above).0),
+          (
+            λ north. let j = agree.joints q1 q0 z ends.two joined z_is ends.two_is north in (subst (Each (IsForBelow z.face.next)) is j.for_below).0,
+            λ south. let j = agree.joints q0 q1 ends.two z (joined_back s q1 q0 joined) ends.two_is z_is (turned_ ∙ ap not south) in (subst (Each IsForAbove) is j.for_above).0,
+          ),
         )
 
     spoken : (m : Message K) (rest : List (Message K)) → waiting_of s q0 ≡ m ∷ rest → TokenIn IsToken m → (next : ℕ) → (is_north z.face.region ≡ true → IsForBelow next m) → (is_north z.face.region ≡ false → IsForAbove m) → Less (after (record s { waiting = taken q0 s.waiting }) (call_there m))

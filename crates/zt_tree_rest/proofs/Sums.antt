@@ -1,9 +1,9 @@
 -- Sums over lists.
-use Rattle.std.proofs.Common.{◌≡◌, ℕ, suc, ◌+◌, ◌*◌, ◌≤◌, Bool, true, false, not, if◌then◌else◌, List, [], ◌∷◌, ◌++◌, length, map, filter, refl, sym, ap, ◌∙◌, arith}
+use Rattle.std.proofs.Common.{◌≡◌, ℕ, ◌+◌, ◌*◌, ◌≤◌, Bool, List, [], ◌∷◌, ◌++◌, length, map, filter, refl, ap, ◌∙◌, arith}
 use Rattle.std.specs.List.{sum_by}
 use Rattle.std.proofs.lemmas.List.Sums.{sum_by-cons}
 use Rattle.zt_model.specs.Transcript.{Each}
-use Rattle.zt_laws.proofs.Lists.{by_test, of_cond}
+use Rattle.zt_laws.proofs.Lists.{of_cond}
 
 abbrev pub total : {A : Type 0} → (A → ℕ) → List A → ℕ
 total w [] = 0

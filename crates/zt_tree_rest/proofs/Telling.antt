@@ -1,8 +1,8 @@
 -- What telling, forgetting, sending interests up and answering them cost at a face.
-use Rattle.std.proofs.Common.{◌≡◌, ℕ, ◌+◌, ◌≤◌, Bool, true, false, not, if◌then◌else◌, ◌&&◌, ◌||◌, ◌==◌, List, [], ◌∷◌, ◌++◌, map, filter, Option, Some, None, refl, sym, ap, ◌∙◌, subst, arith, le_trans}
+use Rattle.std.proofs.Common.{◌≡◌, ℕ, ◌+◌, ◌≤◌, Bool, true, not, if◌then◌else◌, ◌&&◌, ◌||◌, List, [], ◌∷◌, ◌++◌, map, filter, Option, Some, None, refl, sym, ap, subst, arith, le_trans}
 use Rattle.std.proofs.lemmas.Bool.{and_parts}
 use Rattle.std.specs.Cmp.{IsTotalOrder}
-use Rattle.std.specs.List.{flat_map, list_any}
+use Rattle.std.specs.List.{flat_map}
 use Rattle.std.specs.Option.{option_to_list}
 use Rattle.std.specs.declared.cmp.Ordering.{Ordering}
 use Rattle.std.specs.declared.cmp.Ordering.TheVariants.{Less, Equal, Greater}
@@ -15,7 +15,7 @@ use Rattle.zt_protocol.specs.declared.messages.Message.{Message}
 use Rattle.zt_protocol.specs.declared.messages.Message.TheVariants as message
 use Rattle.zt_protocol.specs.declared.messages.QueryableInfo.{QueryableInfo}
 use Rattle.zt_model.specs.Entities.{aggregate_of, all_merged, entities_for, info_of, matching_queryables, matching_subscribers, queryable_of, queryables_for, shown_faces, subscriber_of, subscribers_for}
-use Rattle.zt_model.specs.Hearing.{heard_all, put_if}
+use Rattle.zt_model.specs.Hearing.{heard_all}
 use Rattle.zt_model.specs.Lists.{first_of, in_key_order, is_among, with_key}
 use Rattle.zt_model.specs.Parts.{is_routed, told_id}
 use Rattle.zt_model.specs.Routing.{is_target, is_target_of, route_to, untell_to}
@@ -25,10 +25,9 @@ use Rattle.zt_model.specs.Transcript.{Each}
 use Rattle.zt_model.specs.Visible.{is_visible, live_rows, shows, visible_expressions}
 use Rattle.zt_model.specs.Wants.{is_about, wants}
 use Rattle.zt_laws.proofs.Lists.{by_test, each_append, each_filter, of_cond}
-use Rattle.zt_laws.proofs.Visible.{any-flat_map}
 use Rattle.zt_trees.proofs.Fresh.{each_in_order}
 use Rattle.zt_tree_rest.proofs.Once.{in_order_within}
-use Rattle.zt_tree_rest.proofs.Prices.{IsMild, Pays, message_price, mild_pay, owed, total_put_if}
+use Rattle.zt_tree_rest.proofs.Prices.{IsMild, Pays, mild_pay, total_put_if}
 use Rattle.zt_tree_rest.proofs.Sums.{times, total, total-append, total_filter}
 
 -- ---- lengths
@@ -173,9 +172,9 @@ module _ {K : Type 0} (cmp : K → K → Ordering) (matching : K → K → Bool)
       (λ _. (
         each_flat_of IsMild each_info (λ e. each_map_of IsMild (queryable_of cmp g id e) (λ x. tt) (option_to_list (info_of cmp e found))) keys,
         (let one = one_each n each_info (λ e. by_info e (info_of cmp e found)) keys in
-        let two = in_order_times cmp n (map (λ (q : K × QueryableInfo). q.0) found) in
-        let three = times-map n (λ (q : K × QueryableInfo). q.0) found in
-        omega arith),
+            let two = in_order_times cmp n (map (λ (q : K × QueryableInfo). q.0) found) in
+            let three = times-map n (λ (q : K × QueryableInfo). q.0) found in
+            omega arith),
       ))
     where
       merged_few : (found : List (K × QueryableInfo)) (x : QueryableInfo) → all_merged (map (λ q. q.1) found) ≡ Some x → n ≤ times n found

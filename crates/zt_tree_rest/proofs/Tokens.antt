@@ -1,29 +1,26 @@
 -- What tokens that come and go, and finals, cost at a gateway of a tree.
-use Rattle.std.proofs.Common.{◌≡◌, ℕ, ◌+◌, ◌≤◌, Bool, true, false, not, if◌then◌else◌, ◌&&◌, ◌||◌, ◌==◌, List, [], ◌∷◌, ◌++◌, map, Option, Some, None, refl, sym, ap, ◌∙◌, subst, arith, eqb-true}
+use Rattle.std.proofs.Common.{◌≡◌, ℕ, ◌+◌, ◌≤◌, Bool, true, false, if◌then◌else◌, ◌||◌, ◌==◌, List, [], ◌∷◌, ◌++◌, Option, Some, None, refl, sym, ap, ◌∙◌, subst, arith}
 use Rattle.std.specs.Cmp.{IsTotalOrder}
-use Rattle.std.specs.List.{list_any}
 use Rattle.std.specs.declared.cmp.Ordering.{Ordering}
 use Rattle.std.specs.declared.cmp.Ordering.TheVariants.{Equal}
 use Rattle.zt_region.specs.declared.region.Region.{Region}
 use Rattle.zt_region.specs.declared.region.WhatAmI.{WhatAmI}
-use Rattle.zt_region.specs.Region.{is_north}
 use Rattle.zt_protocol.specs.Plain.{DeclareToken, UndeclareToken, DeclareFinal}
 use Rattle.zt_protocol.specs.declared.messages.Message.{Message}
 use Rattle.zt_protocol.specs.declared.messages.Message.TheVariants as message
 use Rattle.zt_model.specs.Hearing.{rows_heard}
-use Rattle.zt_model.specs.Lists.{at_id, has_id, is_among}
-use Rattle.zt_model.specs.Parts.{Part, Alter, Say, Sends, find_face, is_routed, to_each, told_id, with_face}
+use Rattle.zt_model.specs.Lists.{has_id, is_among}
+use Rattle.zt_model.specs.Parts.{Part, Alter, Say, find_face, is_routed, to_each, told_id, with_face}
 use Rattle.zt_model.specs.Routing.{ended, ending, finish_to, finishing, initial_finalised}
 use Rattle.zt_model.specs.Rows.{Face, Rows}
 use Rattle.zt_model.specs.Says.{declaring_of, hiding_undeclared, parts_of, undeclaring_of}
-use Rattle.zt_model.specs.Strategy.{is_client_hat, strategy_of}
 use Rattle.zt_model.specs.Telling.{answer_to, answering, declaring, forget_to, forget_untold, registered, registers, tell, undeclared, undeclaring, unregistered}
 use Rattle.zt_model.specs.Transcript.{Each}
 use Rattle.zt_model.specs.Trees.{hiding, showing, source_of}
-use Rattle.zt_model.specs.Visible.{is_visible, keeps, shows}
+use Rattle.zt_model.specs.Visible.{is_visible, keeps}
 use Rattle.zt_model.specs.Wants.{wants}
 use Rattle.zt_laws.specs.Sound.{RiseFrom}
-use Rattle.zt_laws.proofs.Lists.{by_test, each_always, each_weaker, of_cond}
+use Rattle.zt_laws.proofs.Lists.{by_test, each_always, of_cond}
 use Rattle.zt_laws.proofs.Told.{told_id_names}
 use Rattle.zt_kept.specs.Ran.{ran}
 use Rattle.zt_tree_rest.proofs.Answering.{answer_pays}
@@ -32,7 +29,6 @@ use Rattle.zt_tree_rest.proofs.Ending.{finish_pays}
 use Rattle.zt_tree_rest.proofs.Frames.{Cost, Framed, Outline, Owes, RunsWithin, face_frame, framed_face, framed_heard, outline, runs_alter, runs_append, runs_more, runs_nothing, runs_say}
 use Rattle.zt_tree_rest.proofs.Prices.{Pays}
 use Rattle.zt_tree_rest.proofs.Sums.{total}
-use Rattle.zt_tree_rest.proofs.Telling.{forget_pays, nothing_pays}
 
 module _ {K : Type 0} (cmp : K → K → Ordering) (matching : K → K → Bool) (tokens : List K) (price : ℕ → ℕ) (end_price : ℕ)
     (mode : WhatAmI) (os : List (Outline K)) (rises : RiseFrom (λ (o : Outline K). o.number) 1 os) (plain : NoRouters mode os) where

@@ -1,9 +1,9 @@
 -- What waits, weighed: a message is taken, and what is printed is added.
-use Rattle.std.proofs.Common.{◌≡◌, ℕ, zero, suc, ◌+◌, ◌-◌, ◌≤◌, Bool, true, false, if◌then◌else◌, ◌&&◌, ◌==◌, nat_le, List, [], ◌∷◌, ◌++◌, length, map, filter, Option, Some, None, refl, sym, ap, ◌∙◌, subst, arith, eq-eqb, eqb-true, ne_eqb}
+use Rattle.std.proofs.Common.{◌≡◌, ℕ, ◌+◌, ◌≤◌, true, false, if◌then◌else◌, ◌&&◌, ◌==◌, nat_le, List, [], ◌∷◌, Some, None, refl, ap, ◌∙◌, arith, eqb-true, ne_eqb}
 use Rattle.zt_protocol.specs.declared.entries.Sent.{Sent}
 use Rattle.zt_protocol.specs.declared.messages.Message.{Message}
 use Rattle.zt_model.specs.Fabric.{Place, number_from, printed_for, sorted_by_face, with_sent}
-use Rattle.zt_model.specs.Lists.{at_id, nth, rest_of}
+use Rattle.zt_model.specs.Lists.{at_id, rest_of}
 use Rattle.zt_model.specs.Rows.{ById}
 use Rattle.zt_model.specs.Transcript.{Each}
 use Rattle.zt_laws.specs.Sound.{RiseFrom, is_placed}

@@ -1,5 +1,5 @@
 -- How many steps messages come to, gateway by gateway of a fabric of trees.
-use Rattle.std.proofs.Common.{◌≡◌, ℕ, zero, suc, ◌+◌, ◌-◌, ◌*◌, ◌≤◌, ◌<◌, Bool, true, false, not, if◌then◌else◌, ◌&&◌, ◌||◌, ◌==◌, List, [], ◌∷◌, length, map, Option, Some, None, option_map, refl, sym, ap, ◌∙◌, subst, arith, eq-eqb, ⊎_elim}
+use Rattle.std.proofs.Common.{◌≡◌, ℕ, zero, suc, ◌+◌, ◌-◌, ◌*◌, ◌≤◌, ◌<◌, Bool, true, false, not, if◌then◌else◌, ◌&&◌, ◌==◌, List, [], ◌∷◌, length, map, Option, Some, None, option_map, refl, sym, ap, ◌∙◌, subst, arith, eq-eqb, ⊎_elim}
 use Rattle.std.proofs.lemmas.Bool.{and_from, and_parts, or_cases, or_left, or_right}
 use Rattle.std.specs.List.{list_any, sum_by}
 use Rattle.std.specs.Option.{option_to_list}
@@ -15,7 +15,7 @@ use Rattle.zt_laws.specs.Order.{FabricIsInOrder}
 use Rattle.zt_laws.specs.Sound.{is_placed}
 use Rattle.zt_laws.proofs.Entries.{found_where, nth_of_number}
 use Rattle.zt_laws.proofs.Hearing.{find_passes}
-use Rattle.zt_laws.proofs.Lists.{any_weaker, by_test, each_both, each_weaker, never, of_cond}
+use Rattle.zt_laws.proofs.Lists.{any_weaker, by_test, each_both, each_weaker, never}
 use Rattle.zt_laws.proofs.LinesOrder.{gateway_in_order}
 use Rattle.zt_laws.proofs.Numbered.{nth_real, nth_within}
 use Rattle.zt_laws.proofs.ToldFrom.{found_by_number}
@@ -24,7 +24,7 @@ use Rattle.zt_trees.specs.Joints.{are_joined, joins}
 use Rattle.zt_trees.proofs.Climbing.{any_found}
 use Rattle.zt_trees.proofs.Members.{is_there, numbered}
 use Rattle.zt_trees.proofs.Quiet.{joined_back}
-use Rattle.zt_tree_rest.specs.Steps.{beyond, ends_from, entities_at, faces_of, falls, falls_from, most_answers, passes_on, rises, rises_from}
+use Rattle.zt_tree_rest.specs.Steps.{beyond, entities_at, faces_of, falls, falls_from, most_answers, passes_on, rises, rises_from}
 use Rattle.zt_tree_rest.proofs.Frames.{Outline, outline}
 use Rattle.zt_tree_rest.proofs.Sums.{total, total-map, total_alike, total_is}
 
