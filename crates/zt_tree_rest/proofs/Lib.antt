@@ -20,3 +20,4 @@ pub mod Stepped
 pub mod Queues
 pub mod Rest
 pub mod Resting
+pub mod Below
