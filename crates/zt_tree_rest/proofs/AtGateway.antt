@@ -28,7 +28,7 @@ use Rattle.zt_tree_rest.proofs.Frames.{Framed, Outline, outline, outlines_rise}
 use Rattle.zt_tree_rest.proofs.Interests.{entities_price, up_price, visible_in}
 use Rattle.zt_tree_rest.proofs.Sums.{times, times_is, total}
 
-times_few : {A : Type 0} (n : ℕ) (xs : List A) → length xs ≤ 1 → times n xs ≤ n
+pub times_few : {A : Type 0} (n : ℕ) (xs : List A) → length xs ≤ 1 → times n xs ≤ n
 times_few n [] few = omega arith
 times_few n (x ∷ []) few = omega arith
 times_few n (x ∷ y ∷ xs) few = absurd (omega arith)

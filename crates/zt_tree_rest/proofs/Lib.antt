@@ -21,3 +21,4 @@ pub mod Queues
 pub mod Rest
 pub mod Resting
 pub mod Below
+pub mod Plainly

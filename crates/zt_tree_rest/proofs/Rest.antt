@@ -25,8 +25,8 @@ use Rattle.zt_trees.proofs.Climbing.{any_found}
 use Rattle.zt_trees.proofs.Members.{is_there}
 use Rattle.zt_tree_asks.specs.Tokens.{IsIn, TokenIn}
 use Rattle.zt_tree_asks.proofs.Everywhere.{Everywhere}
-use Rattle.zt_tree_rest.specs.Rest.{StepsFollow, TreesStand, fabric_after_all, messages_waiting}
-use Rattle.zt_tree_rest.specs.Steps.{declared, ends_from, entities_at, falls_from, is_step, most_steps, passes_on, rises_from, steps_left, steps_of, takes_message, tokens_of}
+use Rattle.zt_tree_rest.specs.Rest.{StepsFollow, TreesStand, fabric_after_all}
+use Rattle.zt_tree_rest.specs.Steps.{declared, ends_from, entities_at, falls_from, is_step, messages_waiting, most_steps, passes_on, rises_from, steps_left, steps_of, takes_message, tokens_of}
 use Rattle.zt_tree_rest.proofs.Answering.{each_part}
 use Rattle.zt_tree_rest.proofs.Frames.{Outline, outline}
 use Rattle.zt_tree_rest.proofs.Since.{Since, left_is}

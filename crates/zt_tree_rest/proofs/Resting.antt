@@ -32,8 +32,8 @@ use Rattle.zt_trees.proofs.Members.{each_gateway_nth}
 use Rattle.zt_trees.proofs.Start.{agree_at_first}
 use Rattle.zt_tree_lines.proofs.Lines.{trees_after_each}
 use Rattle.zt_tree_lines.proofs.Turns.{each_gateway_from, not_spent, tree_unshown}
-use Rattle.zt_tree_rest.specs.Rest.{AllKnowTheirTrees, IsAtRest, NoneFollows, StepsFollow, TreesStand, fabric_after_all, messages_waiting}
-use Rattle.zt_tree_rest.specs.Steps.{QueuesStand, most_steps, takes_message, tokens_of}
+use Rattle.zt_tree_rest.specs.Rest.{AllKnowTheirTrees, IsAtRest, NoneFollows, StepsFollow, TreesStand, fabric_after_all}
+use Rattle.zt_tree_rest.specs.Steps.{QueuesStand, messages_waiting, most_steps, takes_message, tokens_of}
 use Rattle.zt_tree_rest.proofs.Frames.{Frame, Outline, frame_of, outline}
 use Rattle.zt_tree_rest.proofs.Queues.{queues_after}
 use Rattle.zt_tree_rest.proofs.Rest.{since_start, steps_end, steps_lessen}

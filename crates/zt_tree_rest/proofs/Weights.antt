@@ -171,7 +171,7 @@ module _ {K : Type 0} (cmp : K → K → Ordering) (matching : K → K → Bool)
           let at_ : rank x.gateway ≡ rank n = ap rank here in
           ap (λ k. 0 + k) (more m (omega arith))
 
-  falls_suc : (levels n : ℕ) → falls (suc levels) s n ≡ 1 + sum_by (λ f. if is_north f.region then 0 else sum_by (falls levels s) (beyond s (number_of_place s n f.number))) (faces_of s n)
+  pub falls_suc : (levels n : ℕ) → falls (suc levels) s n ≡ 1 + sum_by (λ f. if is_north f.region then 0 else sum_by (falls levels s) (beyond s (number_of_place s n f.number))) (faces_of s n)
   unfolding falls
   falls_suc levels n = refl
 

@@ -1,5 +1,5 @@
 -- What a fabric of trees comes to where nothing but steps comes.
-use Rattle.std.specs.Prelude.{◌≡◌, ◌≢◌, ℕ, Bool, true, false, List, [], ◌∷◌, length, sum_by, Some, Err}
+use Rattle.std.specs.Prelude.{◌≡◌, ◌≢◌, ℕ, Bool, true, false, List, [], ◌∷◌, Some, Err}
 use Rattle.std.specs.List.{list_all}
 use Rattle.std.specs.declared.cmp.Ordering.{Ordering}
 use Rattle.zt_protocol.specs.Plain.{PlainLine, Step}
@@ -11,10 +11,6 @@ use Rattle.zt_kept.specs.Lines.{EachGatewayIs}
 use Rattle.zt_kept.specs.Sound.{IsSound}
 use Rattle.zt_trees.specs.Facts.{TreesAgree}
 use Rattle.zt_tree_rest.specs.Steps.{QueuesStand, is_step, takes_message}
-
--- how many messages wait on links
-abbrev pub messages_waiting : {K : Type 0} → Fabric K → ℕ
-messages_waiting s = sum_by (λ row. length row.1) s.waiting
 
 module _ {K : Type 0} (cmp : K → K → Ordering) (matching : K → K → Bool) where
   -- the fabric after the lines of a script

@@ -111,6 +111,37 @@ module _ {K : Type 0} (cmp : K → K → Ordering) where
   abbrev pub most_steps : Fabric K → ℕ
   most_steps s = steps_left (tokens_of s) s s
 
+-- ---- the same in plain numbers
+
+-- how many messages wait on links
+abbrev pub messages_waiting : {K : Type 0} → Fabric K → ℕ
+messages_waiting s = sum_by (λ row. length row.1) s.waiting
+
+-- what each face counts, over all gateways
+abbrev pub over_faces : {K : Type 0} → (Face K → ℕ) → Fabric K → ℕ
+over_faces count s = sum_by (λ (node : Node _). sum_by count node.rows.faces) s.gateways
+
+-- the interests that were sent up and aren't ended
+abbrev pub interests_sent : {K : Type 0} → Fabric K → ℕ
+interests_sent s = over_faces (λ f. length f.locals) s
+
+-- the asks that stand
+abbrev pub asks_standing : {K : Type 0} → Fabric K → ℕ
+asks_standing s = over_faces (λ f. length f.asks) s
+
+-- the subscribers and queryables of all faces
+abbrev pub all_entities : {K : Type 0} → Fabric K → ℕ
+all_entities s = over_faces (λ f. length f.subscribers + length f.queryables) s
+
+module _ {K : Type 0} (cmp : K → K → Ordering) where
+  -- the most that one message comes to
+  abbrev pub most_of_one : Fabric K → ℕ
+  most_of_one s = (3 * length (tokens_of cmp s) + all_entities s + 2) * length s.gateways * (length s.gateways + 1)
+
+  -- the most that all come to: what waits, the interests that can be ended, and the asks with their answers and finals
+  abbrev pub plain_most : Fabric K → ℕ
+  plain_most s = (messages_waiting s + interests_sent s + (length (tokens_of cmp s) + 1) * asks_standing s) * most_of_one s
+
 -- ---- steps
 
 abbrev pub is_step : {K : Type 0} → PlainLine K → Bool

@@ -11,8 +11,8 @@ ghost use Rattle.zt_model.specs.Promises.{turns_from};
 ghost use Rattle.zt_model.specs.Transcript.{Each};
 ghost use Rattle.zt_model.specs.TreePromises.{IsTreeFabric, IsTreeTurn, are_links_empty};
 ghost use Rattle.zt_laws.specs.Sound.{HasFirstIds};
-ghost use Rattle.zt_tree_rest.specs.Rest.{IsAtRest, NoneFollows, StepsFollow, TreesStand, fabric_after_all, messages_waiting};
-ghost use Rattle.zt_tree_rest.specs.Steps.{QueuesStand, most_steps, takes_message};
+ghost use Rattle.zt_tree_rest.specs.Rest.{IsAtRest, NoneFollows, StepsFollow, TreesStand, fabric_after_all};
+ghost use Rattle.zt_tree_rest.specs.Steps.{QueuesStand, messages_waiting, most_steps, takes_message};
 
 use zt_keys::Key;
 
