@@ -1,8 +1,8 @@
 -- A message that falls comes to no gateway twice: it comes to as many at the most as there are.
-use Rattle.std.proofs.Common.{◌≡◌, ◌≢◌, ◌⊎◌, inl, inr, ℕ, zero, suc, ◌+◌, ◌-◌, ◌≤◌, ◌<◌, Bool, true, false, not, if◌then◌else◌, ◌&&◌, ◌||◌, ◌==◌, List, [], ◌∷◌, ◌++◌, length, map, Option, Some, None, refl, sym, ap, ◌∙◌, subst, arith, eq-eqb, eqb-true, ne_eqb, le_trans, ⊎_elim}
+use Rattle.std.proofs.Common.{◌≡◌, ◌≢◌, ◌⊎◌, inl, inr, ℕ, zero, suc, ◌+◌, ◌≤◌, ◌<◌, Bool, true, false, not, if◌then◌else◌, ◌||◌, ◌==◌, List, [], ◌∷◌, ◌++◌, length, Option, Some, None, refl, sym, ap, ◌∙◌, subst, arith, eq-eqb, eqb-true, ⊎_elim}
 use Rattle.std.proofs.lemmas.Bool.{or_left, or_right}
 use Rattle.std.proofs.lemmas.Cmp.{nat_cmp_total, ranked}
-use Rattle.std.specs.List.{flat_map, list_any, sum_by}
+use Rattle.std.specs.List.{flat_map, sum_by}
 use Rattle.std.specs.Option.{option_to_list}
 use Rattle.std.specs.Ordering.{nat_cmp}
 use Rattle.std.specs.declared.cmp.Ordering.{Ordering}
@@ -16,7 +16,7 @@ use Rattle.zt_model.specs.Transcript.{Each, FaceAt, face_numbered}
 use Rattle.zt_laws.specs.Order.{FabricIsInOrder, KeysOnce}
 use Rattle.zt_laws.specs.Sound.{RiseFrom}
 use Rattle.zt_laws.proofs.Keys.{same_is, same_itself}
-use Rattle.zt_laws.proofs.Lists.{any-append, any_none, by_test, each_always, each_append, each_weaker, never, rise_above}
+use Rattle.zt_laws.proofs.Lists.{any-append, any_none, by_test, each_always, each_append, each_weaker, never}
 use Rattle.zt_laws.proofs.LinesOrder.{gateway_in_order}
 use Rattle.zt_laws.proofs.Numbered.{nth_real, nth_within}
 use Rattle.zt_trees.specs.Facts.{TreesAgree}
@@ -24,11 +24,11 @@ use Rattle.zt_trees.specs.Joints.{are_joined}
 use Rattle.zt_trees.proofs.Climbing.{IsUnder, Same, StepUp, Up, one_above, one_up}
 use Rattle.zt_trees.proofs.Members.{is_there}
 use Rattle.zt_trees.proofs.Quiet.{joined_back}
-use Rattle.zt_tree_rest.specs.Steps.{beyond, faces_of, falls, falls_from}
+use Rattle.zt_tree_rest.specs.Steps.{beyond, faces_of, steps_down, steps_down_from}
 use Rattle.zt_tree_rest.proofs.Once.{once_within}
 use Rattle.zt_tree_rest.proofs.Sums.{times, total, total_alike, total_is}
 use Rattle.zt_tree_rest.proofs.Telling.{times-flat_map}
-use Rattle.zt_tree_rest.proofs.Weights.{IsFound, Leads, down_ranks, faces_found, leads}
+use Rattle.zt_tree_rest.proofs.Weights.{IsFound, faces_found, leads}
 
 -- ---- numbers up to one
 
@@ -151,22 +151,22 @@ module _ {K : Type 0} (cmp : K → K → Ordering) (matching : K → K → Bool)
   part levels n f = if is_north f.region then [] else flat_map (below_list levels) (beyond s (number_of_place s n f.number))
 
   -- they are as many as a message comes to that falls
-  counted : (levels n : ℕ) → times 1 (below_list levels n) ≡ falls levels s n
-  unfolding below_list falls
+  counted : (levels n : ℕ) → times 1 (below_list levels n) ≡ steps_down levels s n
+  unfolding below_list steps_down
   counted zero n = refl
   counted (suc levels) n =
       let faces = times-flat_map 1 (part levels n) (faces_of s n) in
       let each = by_faces (counted levels) (faces_of s n) in
       omega arith
     where
-      by_gateways : ((n : ℕ) → times 1 (below_list levels n) ≡ falls levels s n) → (ms : List ℕ) → times 1 (flat_map (below_list levels) ms) ≡ sum_by (falls levels s) ms
-      by_gateways more ms = times-flat_map 1 (below_list levels) ms ∙ total_alike (λ m. times 1 (below_list levels m)) (falls levels s) ms (each_always (λ m. times 1 (below_list levels m) ≡ falls levels s m) more ms) ∙ sym (total_is (falls levels s) ms)
+      by_gateways : ((n : ℕ) → times 1 (below_list levels n) ≡ steps_down levels s n) → (ms : List ℕ) → times 1 (flat_map (below_list levels) ms) ≡ sum_by (steps_down levels s) ms
+      by_gateways more ms = times-flat_map 1 (below_list levels) ms ∙ total_alike (λ m. times 1 (below_list levels m)) (steps_down levels s) ms (each_always (λ m. times 1 (below_list levels m) ≡ steps_down levels s m) more ms) ∙ sym (total_is (steps_down levels s) ms)
 
-      by_faces : ((n : ℕ) → times 1 (below_list levels n) ≡ falls levels s n) → (fs : List (Face K)) → total (λ f. times 1 (part levels n f)) fs ≡ sum_by (λ f. if is_north f.region then 0 else sum_by (falls levels s) (beyond s (number_of_place s n f.number))) fs
+      by_faces : ((n : ℕ) → times 1 (below_list levels n) ≡ steps_down levels s n) → (fs : List (Face K)) → total (λ f. times 1 (part levels n f)) fs ≡ sum_by (λ f. if is_north f.region then 0 else sum_by (steps_down levels s) (beyond s (number_of_place s n f.number))) fs
       by_faces more fs =
-          total_alike (λ f. times 1 (part levels n f)) (λ f. if is_north f.region then 0 else sum_by (falls levels s) (beyond s (number_of_place s n f.number))) fs
-          (each_always (λ f. times 1 (part levels n f) ≡ (if is_north f.region then 0 else sum_by (falls levels s) (beyond s (number_of_place s n f.number)))) (λ f. by_test (is_north f.region) (λ up. rw up refl) (λ down. rw down (by_gateways more (beyond s (number_of_place s n f.number))))) fs)
-          ∙ sym (total_is (λ f. if is_north f.region then 0 else sum_by (falls levels s) (beyond s (number_of_place s n f.number))) fs)
+          total_alike (λ f. times 1 (part levels n f)) (λ f. if is_north f.region then 0 else sum_by (steps_down levels s) (beyond s (number_of_place s n f.number))) fs
+          (each_always (λ f. times 1 (part levels n f) ≡ (if is_north f.region then 0 else sum_by (steps_down levels s) (beyond s (number_of_place s n f.number)))) (λ f. by_test (is_north f.region) (λ up. rw up refl) (λ down. rw down (by_gateways more (beyond s (number_of_place s n f.number))))) fs)
+          ∙ sym (total_is (λ f. if is_north f.region then 0 else sum_by (steps_down levels s) (beyond s (number_of_place s n f.number))) fs)
 
   -- what is known of each of them
   pub record IsBelow (n m : ℕ) : Type 0 where
@@ -233,8 +233,7 @@ module _ {K : Type 0} (cmp : K → K → Ordering) (matching : K → K → Bool)
       all_parts node at_ smaller low (f ∷ fs) rises found =
           let one = one_part node at_ smaller f found.0 in
           let rest = all_parts node at_ smaller (f.number + 1) fs rises.1 found.1 in
-          let le : low ≤ f.number = rises.0 in
-          (
+          let le : low ≤ f.number = rises.0 in (
             once-append (part levels n f) (flat_map (part levels n) fs) one.0 rest.0
                 (each_weaker (InPart f) (λ m. is_among nat_cmp m (flat_map (part levels n) fs) ≡ false)
                 (λ m own.
@@ -264,7 +263,7 @@ module _ {K : Type 0} (cmp : K → K → Ordering) (matching : K → K → Bool)
           )
 
   -- So a message that falls comes to as many gateways at the most as there are.
-  pub falls_within : (n : ℕ) (node : Node K) → nth n s.gateways ≡ Some node → falls_from s n ≤ length s.gateways
+  pub falls_within : (n : ℕ) (node : Node K) → nth n s.gateways ≡ Some node → steps_down_from s n ≤ length s.gateways
   falls_within n node at_ =
       let h = length s.gateways in
       let list = below_list_once h n (nth_real n s.gateways node at_) (nth_within n s.gateways node at_) in

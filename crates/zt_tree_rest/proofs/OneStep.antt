@@ -33,7 +33,7 @@ use Rattle.zt_trees.proofs.Members.{each_nth, number_is_its}
 use Rattle.zt_trees.proofs.Quiet.{joined_back}
 use Rattle.zt_trees.proofs.Stepping.{taken}
 use Rattle.zt_tree_asks.specs.Tokens.{IsIn}
-use Rattle.zt_tree_rest.specs.Steps.{ends_from, falls_from, most_answers, passes_on, rises_from, steps_left}
+use Rattle.zt_tree_rest.specs.Steps.{steps_to_end, steps_down_from, most_answers, steps_beyond, steps_up_from, steps_left}
 use Rattle.zt_tree_rest.proofs.Arithmetic.{interest_fits, token_fits}
 use Rattle.zt_tree_rest.proofs.AtGateway.{Down, Entities, Up, down_member, entities_are, framed, live_rise, looks, os, outside, plain, rises, told_tokens, up_once}
 use Rattle.zt_tree_rest.proofs.Calls.{NoRouters}
@@ -177,14 +177,14 @@ module _ {K : Type 0} (cmp : K → K → Ordering) (matching : K → K → Bool)
     abbrev UP : ℕ
     UP = Up cmp matching tokens total_order equal_is_same node.rows sound_ tree_ in_ (Price j) (EndPrice j)
 
-    falls_are : falls_from s0 j ≡ 1 + DOWN
+    falls_are : steps_down_from s0 j ≡ 1 + DOWN
     falls_are = falls_by_faces cmp matching s0 fine0 agree0 T j outlines_.0 outlines_.1 ∙ ap (λ xs. 1 + total (λ (o : Outline K). if is_north o.region then 0 else Price j o.number) xs) (sym outlines_.2)
 
     entities_are_ : most_answers T s0 j ≡ 3 * T + Entities cmp matching tokens total_order equal_is_same node.rows sound_ tree_ in_ (Price j) (EndPrice j) + 2
     entities_are_ = ap (λ k. 3 * T + k + 2) (entities_by_faces cmp matching s0 fine0 agree0 j outlines_.0 outlines_.1 ∙ ap (λ xs. total (λ (o : Outline K). length o.subscribers + length o.queryables) xs) (sym outlines_.2))
 
-    rises_are : rises_from T s0 j ≡ (3 * T + Entities cmp matching tokens total_order equal_is_same node.rows sound_ tree_ in_ (Price j) (EndPrice j) + 2) * falls_from s0 j + UP
-    rises_are = rises_by_faces cmp matching s0 fine0 agree0 T j outlines_.0 outlines_.1 ∙ ap (λ k. most_answers T s0 j * falls_from s0 j + k) (ap (λ xs. total (λ (o : Outline K). if is_north o.region then Price j o.number else 0) xs) (sym outlines_.2)) ∙ ap (λ k. k * falls_from s0 j + UP) entities_are_
+    rises_are : steps_up_from T s0 j ≡ (3 * T + Entities cmp matching tokens total_order equal_is_same node.rows sound_ tree_ in_ (Price j) (EndPrice j) + 2) * steps_down_from s0 j + UP
+    rises_are = rises_by_faces cmp matching s0 fine0 agree0 T j outlines_.0 outlines_.1 ∙ ap (λ k. most_answers T s0 j * steps_down_from s0 j + k) (ap (λ xs. total (λ (o : Outline K). if is_north o.region then Price j o.number else 0) xs) (sym outlines_.2)) ∙ ap (λ k. k * steps_down_from s0 j + UP) entities_are_
 
     abbrev Then : PlainCall K → Type 0
     Then c = Lessens (after_call cmp matching total_order equal_is_same s fine agree (record s { waiting = taken q0 s.waiting }) (Some (record { gateway = j; rows = node.rows; call = c })))
@@ -212,15 +212,15 @@ module _ {K : Type 0} (cmp : K → K → Ordering) (matching : K → K → Bool)
 
     -- what a message weighs that ends no interest
     abbrev IsMildly : Type 0
-    IsMildly = Weight q0 m ≡ passes_on T s0 q0
+    IsMildly = Weight q0 m ≡ steps_beyond T s0 q0
 
     -- ---- what falls
 
     module _ (north : is_north z.face.region ≡ true) where
-      fallen_weight : passes_on T s0 q0 ≡ 1 + DOWN
+      fallen_weight : steps_beyond T s0 q0 ≡ 1 + DOWN
       fallen_weight =
           let south : is_north other.face.region ≡ false = turned_ ∙ ap not north in
-          falls_to cmp matching s0 fine0 agree0 T q0 q1 other was.face (joined_back s0 q1 q0 joined0) other_is was.is south ∙ ap (falls_from s0) was.gateway ∙ falls_are
+          falls_to cmp matching s0 fine0 agree0 T q0 q1 other was.face (joined_back s0 q1 q0 joined0) other_is was.is south ∙ ap (steps_down_from s0) was.gateway ∙ falls_are
 
       fallen : (c : PlainCall K) (still : opens_face c ≡ false) (most : ℕ) → IsMildly → most ≤ DOWN → RunsWithin cmp matching tokens (Price j) (EndPrice j) (parts_of cmp matching c node.rows) node.rows most → Then c
       fallen c still most mild less runs = let weighs = fallen_weight in then_ c still most runs (omega arith)
@@ -244,15 +244,15 @@ module _ {K : Type 0} (cmp : K → K → Ordering) (matching : K → K → Bool)
     -- ---- what rises
 
     module _ (south : is_north z.face.region ≡ false) where
-      risen_weight : passes_on T s0 q0 ≡ (3 * T + Entities cmp matching tokens total_order equal_is_same node.rows sound_ tree_ in_ (Price j) (EndPrice j) + 2) * falls_from s0 j + UP
+      risen_weight : steps_beyond T s0 q0 ≡ (3 * T + Entities cmp matching tokens total_order equal_is_same node.rows sound_ tree_ in_ (Price j) (EndPrice j) + 2) * steps_down_from s0 j + UP
       risen_weight =
           let north : is_north other.face.region ≡ true = turned_ ∙ ap not south in
-          rises_to cmp matching s0 fine0 agree0 T q0 q1 other was.face (joined_back s0 q1 q0 joined0) other_is was.is north ∙ ap (rises_from T s0) was.gateway ∙ rises_are
+          rises_to cmp matching s0 fine0 agree0 T q0 q1 other was.face (joined_back s0 q1 q0 joined0) other_is was.is north ∙ ap (steps_up_from T s0) was.gateway ∙ rises_are
 
       risen : (c : PlainCall K) (still : opens_face c ≡ false) → IsMildly → RunsWithin cmp matching tokens (Price j) (EndPrice j) (parts_of cmp matching c node.rows) node.rows (DOWN + UP) → Then c
       risen c still mild runs =
           let weighs = risen_weight in
-          let fits = token_fits T (Entities cmp matching tokens total_order equal_is_same node.rows sound_ tree_ in_ (Price j) (EndPrice j)) DOWN (falls_from s0 j) UP falls_are in
+          let fits = token_fits T (Entities cmp matching tokens total_order equal_is_same node.rows sound_ tree_ in_ (Price j) (EndPrice j)) DOWN (steps_down_from s0 j) UP falls_are in
           then_ c still (DOWN + UP) runs (omega arith)
 
       pub risen_token : (id n : ℕ) (e : K) (i : Option ℕ) → is_among cmp e tokens ≡ true → IsMildly → Then (DeclareToken z.face.number id e n i)
@@ -271,7 +271,7 @@ module _ {K : Type 0} (cmp : K → K → Ordering) (matching : K → K → Bool)
           let weighs = risen_weight in
           let entities = Entities cmp matching tokens total_order equal_is_same node.rows sound_ tree_ in_ (Price j) (EndPrice j) in
           let member = down_member cmp matching tokens total_order equal_is_same node.rows sound_ tree_ in_ (Price j) (EndPrice j) z.face.number z.face found south in
-          let fits = interest_fits T entities p DOWN (falls_from s0 j) UP member falls_are in
+          let fits = interest_fits T entities p DOWN (steps_down_from s0 j) UP member falls_are in
           let once = up_once cmp matching tokens total_order equal_is_same node.rows sound_ tree_ in_ (Price j) (EndPrice j) in
           let sum = entities_are cmp matching tokens total_order equal_is_same node.rows sound_ tree_ in_ (Price j) (EndPrice j) p in
           let count = times_is p tokens in
@@ -285,9 +285,9 @@ module _ {K : Type 0} (cmp : K → K → Ordering) (matching : K → K → Bool)
       risen_end id is =
           let p = Price j z.face.number in
           let down_was : is_north was.face.face.region ≡ false = region_was ∙ south in
-          let price_is : p ≡ falls_from s0 other.gateway = ap (passes_on T s0) its_number ∙ falls_to cmp matching s0 fine0 agree0 T q1 q0 was.face other joined0 was.is other_is down_was in
-          let weighs : Weight q0 m ≡ ends_from T s0 other.gateway = ap (Weight q0) is ∙ ap (λ (o : Option (FaceAt K)). (let n : ℕ = elim o [ None ↦ 0 | Some x ↦ ends_from T s0 x.gateway ] in n)) other_is in
-          let at_ : T * p ≡ T * falls_from s0 other.gateway = ap (λ k. T * k) price_is in
+          let price_is : p ≡ steps_down_from s0 other.gateway = ap (steps_beyond T s0) its_number ∙ falls_to cmp matching s0 fine0 agree0 T q1 q0 was.face other joined0 was.is other_is down_was in
+          let weighs : Weight q0 m ≡ steps_to_end T s0 other.gateway = ap (Weight q0) is ∙ ap (λ (o : Option (FaceAt K)). (let n : ℕ = elim o [ None ↦ 0 | Some x ↦ steps_to_end T s0 x.gateway ] in n)) other_is in
+          let at_ : T * p ≡ T * steps_down_from s0 other.gateway = ap (λ k. T * k) price_is in
           let count = times_is p tokens in
           then_ (InterestFinal z.face.number id) refl (times p tokens)
           (end_runs cmp matching tokens (Price j) (EndPrice j) Mode OS rises_ plain_ total_order equal_is_same z.face.number id z.face node.rows framed_ found (told_tokens cmp matching tokens total_order equal_is_same node.rows sound_ tree_ in_)) (omega arith)
@@ -297,12 +297,12 @@ module _ {K : Type 0} (cmp : K → K → Ordering) (matching : K → K → Bool)
     pub real_weight : 1 ≤ Weight q0 m
     real_weight = by_message m
       where
-        passes : 1 ≤ passes_on T s0 q0
+        passes : 1 ≤ steps_beyond T s0 q0
         passes =
             by_test (is_north z.face.region) (λ north. let is = fallen_weight north in omega arith)
             (λ south.
             let is = risen_weight south in
-            let fits = token_fits T (Entities cmp matching tokens total_order equal_is_same node.rows sound_ tree_ in_ (Price j) (EndPrice j)) DOWN (falls_from s0 j) UP falls_are in
+            let fits = token_fits T (Entities cmp matching tokens total_order equal_is_same node.rows sound_ tree_ in_ (Price j) (EndPrice j)) DOWN (steps_down_from s0 j) UP falls_are in
             omega arith)
 
         by_message : (x : Message K) → 1 ≤ Weight q0 x
@@ -313,5 +313,5 @@ module _ {K : Type 0} (cmp : K → K → Ordering) (matching : K → K → Bool)
         by_message (message.DeclareSubscriber id e interest) = passes
         by_message (message.DeclareQueryable id e info interest) = passes
         by_message (message.InterestFinal id) =
-            let weighs : Weight q0 (message.InterestFinal id) ≡ ends_from T s0 other.gateway = ap (λ (o : Option (FaceAt K)). (let n : ℕ = elim o [ None ↦ 0 | Some x ↦ ends_from T s0 x.gateway ] in n)) other_is in
+            let weighs : Weight q0 (message.InterestFinal id) ≡ steps_to_end T s0 other.gateway = ap (λ (o : Option (FaceAt K)). (let n : ℕ = elim o [ None ↦ 0 | Some x ↦ steps_to_end T s0 x.gateway ] in n)) other_is in
             omega arith

@@ -1,5 +1,5 @@
 -- The steps that are left, in plain numbers of messages, interests, asks, tokens, entities and gateways.
-use Rattle.std.proofs.Common.{◌≡◌, ℕ, zero, suc, ◌+◌, ◌*◌, ◌-◌, ◌≤◌, Bool, true, false, not, if◌then◌else◌, ◌==◌, List, [], ◌∷◌, length, map, filter, Option, Some, None, refl, sym, ap, ◌∙◌, subst, arith, le_trans, le_refl, add-mul, mul-add, mul_comm, mul_assoc, mul-le-mul, eqb-true}
+use Rattle.std.proofs.Common.{◌≡◌, ℕ, zero, suc, ◌+◌, ◌*◌, ◌-◌, ◌≤◌, Bool, not, if◌then◌else◌, ◌==◌, List, [], ◌∷◌, length, filter, Option, Some, None, refl, sym, ap, ◌∙◌, arith, le_refl, add-mul, mul-add, mul_comm, mul-le-mul}
 use Rattle.std.proofs.Common.{mul-one, one-mul, suc-mul}
 use Rattle.std.proofs.lemmas.List.Sums.{sum_by-cons}
 use Rattle.std.specs.List.{sum_by}
@@ -14,16 +14,14 @@ use Rattle.zt_model.specs.Lists.{is_among, nth}
 use Rattle.zt_model.specs.Rows.{Ask, ById, Face}
 use Rattle.zt_model.specs.Transcript.{Each, FaceAt, face_numbered}
 use Rattle.zt_laws.specs.Order.{FabricIsInOrder}
-use Rattle.zt_laws.proofs.Lists.{by_test, each_always, each_weaker}
+use Rattle.zt_laws.proofs.Lists.{by_test, each_always}
 use Rattle.zt_laws.proofs.Numbered.{nth_real, nth_within}
 use Rattle.zt_trees.specs.Facts.{IsTreeGateway, TreesAgree}
 use Rattle.zt_trees.proofs.Members.{each_nth, is_there}
-use Rattle.zt_tree_rest.specs.Rest.{TreesStand}
-use Rattle.zt_tree_rest.specs.Steps.{all_entities, asks_standing, beyond, ends_from, entities_at, faces_of, falls, falls_from, interests_sent, messages_waiting, most_answers, most_of_one, most_steps, over_faces, passes_on, plain_most, rises, rises_from, steps_due, steps_due_from, steps_left, steps_of, steps_of_queue, tokens_of, unanswered}
+use Rattle.zt_tree_rest.specs.Steps.{all_entities, asks_standing, beyond, steps_to_end, entities_at, faces_of, steps_down, steps_down_from, interests_sent, messages_waiting, most_answers, most_of_one, most_steps, steps_beyond, plain_most, steps_up, steps_up_from, steps_due, steps_due_from, steps_of, steps_of_queue, tokens_of, unanswered}
 use Rattle.zt_tree_rest.proofs.AtGateway.{times_few}
 use Rattle.zt_tree_rest.proofs.Below.{falls_within}
-use Rattle.zt_tree_rest.proofs.Sums.{times, times_is, total, total_filter, total_is, total_less}
-use Rattle.zt_tree_rest.proofs.Weights.{falls_suc}
+use Rattle.zt_tree_rest.proofs.Sums.{times, times_is, total, total_filter, total_is}
 
 -- ---- sums
 
@@ -71,15 +69,15 @@ module _ {K : Type 0} (cmp : K → K → Ordering) (matching : K → K → Bool)
 
   -- ---- at a gateway
 
-  falls_small : 1 ≤ G → (n : ℕ) → falls_from s n ≤ G
-  unfolding falls
+  falls_small : 1 ≤ G → (n : ℕ) → steps_down_from s n ≤ G
+  unfolding steps_down
   falls_small real n = by_node (nth n s.gateways) refl
     where
-      at_levels : (l : ℕ) → nth n s.gateways ≡ None → falls l s n ≡ 1
+      at_levels : (l : ℕ) → nth n s.gateways ≡ None → steps_down l s n ≡ 1
       at_levels zero none_ = refl
-      at_levels (suc l) none_ = ap (λ (o : Option (Node K)). (let fs : List (Face K) = elim o [ None ↦ [] | Some node ↦ node.rows.faces ] in 1 + sum_by (λ f. if is_north f.region then 0 else sum_by (falls l s) (beyond s (number_of_place s n f.number))) fs)) none_
+      at_levels (suc l) none_ = ap (λ (o : Option (Node K)). (let fs : List (Face K) = elim o [ None ↦ [] | Some node ↦ node.rows.faces ] in 1 + sum_by (λ f. if is_north f.region then 0 else sum_by (steps_down l s) (beyond s (number_of_place s n f.number))) fs)) none_
 
-      by_node : (o : Option (Node K)) → nth n s.gateways ≡ o → falls_from s n ≤ G
+      by_node : (o : Option (Node K)) → nth n s.gateways ≡ o → steps_down_from s n ≤ G
       by_node None none_ = let is = at_levels G none_ in omega arith
       by_node (Some node) at_ = falls_within cmp matching s fine agree n node at_
 
@@ -96,7 +94,7 @@ module _ {K : Type 0} (cmp : K → K → Ordering) (matching : K → K → Bool)
           let own = member_counts (λ (x : Node K). sum_by (λ (f : Face K). length f.subscribers + length f.queryables) x.rows.faces) n s.gateways node at_ in
           omega arith
 
-  answers_small : 1 ≤ G → (n : ℕ) → most_answers T s n * falls_from s n ≤ A * G
+  answers_small : 1 ≤ G → (n : ℕ) → most_answers T s n * steps_down_from s n ≤ A * G
   answers_small real n = let fewer = entities_small n in let less : most_answers T s n ≤ A = omega arith in mul-le-mul less (falls_small real n)
 
   -- ---- rising
@@ -127,12 +125,12 @@ module _ {K : Type 0} (cmp : K → K → Ordering) (matching : K → K → Bool)
       by_gateway None = omega arith
       by_gateway (Some n) = let own : w n ≤ most = h n in omega arith
 
-  rises_small : 1 ≤ G → (levels n : ℕ) → rises levels T s n ≤ levels * (A * G)
-  unfolding rises
+  rises_small : 1 ≤ G → (levels n : ℕ) → steps_up levels T s n ≤ levels * (A * G)
+  unfolding steps_up
   rises_small real zero n = omega arith
   rises_small real (suc levels) n =
       let here = answers_small real n in
-      let above = few_up n (levels * (A * G)) (λ f. sum_by (rises levels T s) (beyond s (number_of_place s n f.number))) (λ f. one_beyond (rises levels T s) (levels * (A * G)) (number_of_place s n f.number) (rises_small real levels)) in
+      let above = few_up n (levels * (A * G)) (λ f. sum_by (steps_up levels T s) (beyond s (number_of_place s n f.number))) (λ f. one_beyond (steps_up levels T s) (levels * (A * G)) (number_of_place s n f.number) (rises_small real levels)) in
       let sum : suc levels * (A * G) ≡ levels * (A * G) + A * G = suc-mul levels (A * G) in
       omega arith
 
@@ -146,37 +144,37 @@ module _ {K : Type 0} (cmp : K → K → Ordering) (matching : K → K → Bool)
       let sum : A * G * (G + 1) ≡ A * G * G + A * G = mul-add (A * G) G 1 ∙ ap (λ k. A * G * G + k) (mul-one (A * G)) in
       omega arith
 
-  falls_in_all : 1 ≤ G → (n : ℕ) → falls_from s n ≤ P
+  falls_in_all : 1 ≤ G → (n : ℕ) → steps_down_from s n ≤ P
   falls_in_all real n =
       let few = falls_small real n in
       let sum : A * G ≡ (3 * T + E + 1) * G + 1 * G = ap (λ k. k * G) (omega arith) ∙ add-mul (3 * T + E + 1) 1 G in
       let one : 1 * G ≡ G = omega arith in
-      whole (falls_from s n) (omega arith)
+      whole (steps_down_from s n) (omega arith)
 
-  rises_in_all : 1 ≤ G → (n : ℕ) → rises_from T s n ≤ P
+  rises_in_all : 1 ≤ G → (n : ℕ) → steps_up_from T s n ≤ P
   rises_in_all real n =
       let few = rises_small real (suc G) n in
       let turn : suc G * (A * G) ≡ A * G * (G + 1) = mul_comm (suc G) (A * G) ∙ ap (λ k. A * G * k) (omega arith) in
       omega arith
 
-  ends_in_all : 1 ≤ G → (n : ℕ) → ends_from T s n ≤ P
+  ends_in_all : 1 ≤ G → (n : ℕ) → steps_to_end T s n ≤ P
   ends_in_all real n =
-      let few : T * falls_from s n ≤ T * G = mul-le-mul (le_refl T) (falls_small real n) in
+      let few : T * steps_down_from s n ≤ T * G = mul-le-mul (le_refl T) (falls_small real n) in
       let sum : A * G ≡ (T + (2 * T + E + 2)) * G = ap (λ k. k * G) (omega arith) in
       let parts = add-mul T (2 * T + E + 2) G in
       let two : 1 ≤ 2 * T + E + 2 = omega arith in
       let more : 1 * 1 ≤ (2 * T + E + 2) * G = mul-le-mul two real in
-      whole (ends_from T s n) (omega arith)
+      whole (steps_to_end T s n) (omega arith)
 
-  passes_in_all : (k : ℕ) → passes_on T s k ≤ P
+  passes_in_all : (k : ℕ) → steps_beyond T s k ≤ P
   passes_in_all k = by_face (face_numbered s k) refl
     where
-      by_face : (o : Option (FaceAt K)) → face_numbered s k ≡ o → (let n : ℕ = elim o [ None ↦ 0 | Some x ↦ sum_by (λ n. if is_north x.face.region then rises_from T s n else falls_from s n) (beyond s k) ] in n) ≤ P
+      by_face : (o : Option (FaceAt K)) → face_numbered s k ≡ o → (let n : ℕ = elim o [ None ↦ 0 | Some x ↦ sum_by (λ n. if is_north x.face.region then steps_up_from T s n else steps_down_from s n) (beyond s k) ] in n) ≤ P
       by_face None is = omega arith
       by_face (Some x) is =
           let at_ = is_there s k x is in
           let real : 1 ≤ G = (let one = nth_real x.gateway s.gateways at_.node at_.node_is in let two = nth_within x.gateway s.gateways at_.node at_.node_is in omega arith) in
-          one_beyond (λ n. if is_north x.face.region then rises_from T s n else falls_from s n) P k
+          one_beyond (λ n. if is_north x.face.region then steps_up_from T s n else steps_down_from s n) P k
           (λ n. by_test (is_north x.face.region) (λ up. rw up (rises_in_all real n)) (λ down. rw down (falls_in_all real n)))
 
   steps_in_all : (k : ℕ) (m : Message K) → steps_of T s k m ≤ P
@@ -188,7 +186,7 @@ module _ {K : Type 0} (cmp : K → K → Ordering) (matching : K → K → Bool)
   steps_in_all k (message.DeclareQueryable id e info interest) = passes_in_all k
   steps_in_all k (message.InterestFinal id) = by_face (face_numbered s k) refl
     where
-      by_face : (o : Option (FaceAt K)) → face_numbered s k ≡ o → (let n : ℕ = elim o [ None ↦ 0 | Some x ↦ ends_from T s x.gateway ] in n) ≤ P
+      by_face : (o : Option (FaceAt K)) → face_numbered s k ≡ o → (let n : ℕ = elim o [ None ↦ 0 | Some x ↦ steps_to_end T s x.gateway ] in n) ≤ P
       by_face None is = omega arith
       by_face (Some x) is =
           let at_ = is_there s k x is in
@@ -220,8 +218,8 @@ module _ {K : Type 0} (cmp : K → K → Ordering) (matching : K → K → Bool)
 
   due_in_all : 1 ≤ G → (n : ℕ) (f : Face K) → steps_due cmp (tokens_of cmp s) s n f ≤ (length f.locals + (T + 1) * length f.asks) * P
   due_in_all real n f =
-      let ended : length f.locals * ends_from T s n ≤ length f.locals * P = mul-le-mul (le_refl (length f.locals)) (ends_in_all real n) in
-      let price = passes_on T s (number_of_place s n f.number) in
+      let ended : length f.locals * steps_to_end T s n ≤ length f.locals * P = mul-le-mul (le_refl (length f.locals)) (ends_in_all real n) in
+      let price = steps_beyond T s (number_of_place s n f.number) in
       let is = total_is (λ (row : ℕ × Ask K). (1 + unanswered cmp (tokens_of cmp s) row.1) * price) f.asks in
       let less = within_each (λ (row : ℕ × Ask K). (1 + unanswered cmp (tokens_of cmp s) row.1) * price) (λ row. T + 1) P f.asks
       (each_always (λ (row : ℕ × Ask K). (1 + unanswered cmp (tokens_of cmp s) row.1) * price ≤ (T + 1) * P) (λ row. let few = few_unanswered row.1 in let less_ : 1 + unanswered cmp (tokens_of cmp s) row.1 ≤ T + 1 = omega arith in mul-le-mul less_ (passes_in_all (number_of_place s n f.number))) f.asks) in

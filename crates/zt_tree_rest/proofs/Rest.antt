@@ -26,7 +26,7 @@ use Rattle.zt_trees.proofs.Members.{is_there}
 use Rattle.zt_tree_asks.specs.Tokens.{IsIn, TokenIn}
 use Rattle.zt_tree_asks.proofs.Everywhere.{Everywhere}
 use Rattle.zt_tree_rest.specs.Rest.{StepsFollow, TreesStand, fabric_after_all}
-use Rattle.zt_tree_rest.specs.Steps.{declared, ends_from, entities_at, falls_from, is_step, messages_waiting, most_steps, passes_on, rises_from, steps_left, steps_of, takes_message, tokens_of}
+use Rattle.zt_tree_rest.specs.Steps.{declared, steps_to_end, entities_at, steps_down_from, is_step, messages_waiting, most_steps, steps_beyond, steps_up_from, steps_left, steps_of, takes_message, tokens_of}
 use Rattle.zt_tree_rest.proofs.Answering.{each_part}
 use Rattle.zt_tree_rest.proofs.Frames.{Outline, outline}
 use Rattle.zt_tree_rest.proofs.Since.{Since, left_is}
@@ -109,17 +109,17 @@ module _ {K : Type 0} (cmp : K → K → Ordering) (matching : K → K → Bool)
       abbrev agree : TreesAgree cmp matching s
       agree = stand.agree
 
-      falls_real : (n : ℕ) (node : Node K) → nth n s.gateways ≡ Some node → 1 ≤ falls_from s n
+      falls_real : (n : ℕ) (node : Node K) → nth n s.gateways ≡ Some node → 1 ≤ steps_down_from s n
       falls_real n node at_ = let is = falls_by_faces cmp matching s fine agree 0 n node at_ in omega arith
 
       two_times : (a f u : ℕ) → 1 ≤ f → 1 ≤ (a + 2) * f + u
       two_times a f u real = let is = add-mul a 2 f in omega arith
 
-      rises_real : (n : ℕ) (node : Node K) → nth n s.gateways ≡ Some node → 1 ≤ rises_from (length tokens) s n
+      rises_real : (n : ℕ) (node : Node K) → nth n s.gateways ≡ Some node → 1 ≤ steps_up_from (length tokens) s n
       rises_real n node at_ =
           let is = rises_by_faces cmp matching s fine agree (length tokens) n node at_ in
           let real = falls_real n node at_ in
-          let more = two_times (3 * length tokens + entities_at s n) (falls_from s n) (total (λ (o : Outline K). if is_north o.region then passes_on (length tokens) s (number_of_place s n o.number) else 0) (map outline node.rows.faces)) real in
+          let more = two_times (3 * length tokens + entities_at s n) (steps_down_from s n) (total (λ (o : Outline K). if is_north o.region then steps_beyond (length tokens) s (number_of_place s n o.number) else 0) (map outline node.rows.faces)) real in
           omega arith
 
       -- an end of an open link is joined to another face
@@ -138,7 +138,7 @@ module _ {K : Type 0} (cmp : K → K → Ordering) (matching : K → K → Bool)
           end_ : (other : ℕ) × (are_joined s k other ≡ true)
           end_ = joined_end k linked
 
-          passes : 1 ≤ passes_on (length tokens) s k
+          passes : 1 ≤ steps_beyond (length tokens) s k
           passes =
               let ends = agree.links.meet k end_.0 end_.1 in
               let at_ = is_there s end_.0 ends.two ends.two_is in
@@ -155,7 +155,7 @@ module _ {K : Type 0} (cmp : K → K → Ordering) (matching : K → K → Bool)
           by_message (message.DeclareQueryable id e info interest) = passes
           by_message (message.InterestFinal id) =
               let ends = agree.links.meet k end_.0 end_.1 in
-              let is : steps_of (length tokens) s k (message.InterestFinal id) ≡ ends_from (length tokens) s ends.one.gateway = ap (λ (o : Option (FaceAt K)). (let n : ℕ = elim o [ None ↦ 0 | Some x ↦ ends_from (length tokens) s x.gateway ] in n)) ends.one_is in
+              let is : steps_of (length tokens) s k (message.InterestFinal id) ≡ steps_to_end (length tokens) s ends.one.gateway = ap (λ (o : Option (FaceAt K)). (let n : ℕ = elim o [ None ↦ 0 | Some x ↦ steps_to_end (length tokens) s x.gateway ] in n)) ends.one_is in
               omega arith
 
       -- so no more wait than there are steps left

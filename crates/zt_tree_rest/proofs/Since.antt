@@ -18,7 +18,7 @@ use Rattle.zt_kept.specs.Sound.{IsSound}
 use Rattle.zt_trees.specs.Facts.{TreesAgree}
 use Rattle.zt_trees.proofs.Members.{is_there, numbered}
 use Rattle.zt_tree_asks.proofs.Everywhere.{Everywhere}
-use Rattle.zt_tree_rest.specs.Steps.{QueuesStand, ends_from, passes_on, steps_due, steps_due_from, steps_left, steps_of, steps_of_queue, unanswered}
+use Rattle.zt_tree_rest.specs.Steps.{QueuesStand, steps_to_end, steps_beyond, steps_due, steps_due_from, steps_left, steps_of, steps_of_queue, unanswered}
 use Rattle.zt_tree_rest.proofs.Frames.{Frame, Outline, frame_of, outline}
 use Rattle.zt_tree_rest.proofs.Prices.{left, message_price, owed}
 use Rattle.zt_tree_rest.proofs.Sends.{owed_by}
@@ -102,10 +102,10 @@ module _ {K : Type 0} (cmp : K → K → Ordering) (matching : K → K → Bool)
   -- ---- what is left, as sums
 
   abbrev pub price : ℕ → ℕ → ℕ
-  price j k = passes_on (length tokens) s0 (number_of_place s0 j k)
+  price j k = steps_beyond (length tokens) s0 (number_of_place s0 j k)
 
   abbrev pub end_price : ℕ → ℕ
-  end_price j = ends_from (length tokens) s0 j
+  end_price j = steps_to_end (length tokens) s0 j
 
   abbrev pub weight : ℕ → Message K → ℕ
   weight k m = steps_of (length tokens) s0 k m
@@ -180,6 +180,6 @@ module _ {K : Type 0} (cmp : K → K → Ordering) (matching : K → K → Bool)
           sym at_.gateway_is ∙ ap (λ (p : Place). p.gateway) (some_is (sym at_.place_is ∙ place_)))
           (λ here. let bad : Some at_.place ≡ None = sym at_.place_is ∙ ap (λ i. nth i s0.faces) (no_number 1 j k s0.faces here) ∙ nth_zero s0.faces in cc)
 
-      by_face : (o : Option (FaceAt K)) → face_numbered s0 (number_of_place s0 j k) ≡ o → (let n : ℕ = elim o [ None ↦ 0 | Some x ↦ ends_from (length tokens) s0 x.gateway ] in n) ≤ ends_from (length tokens) s0 j
+      by_face : (o : Option (FaceAt K)) → face_numbered s0 (number_of_place s0 j k) ≡ o → (let n : ℕ = elim o [ None ↦ 0 | Some x ↦ steps_to_end (length tokens) s0 x.gateway ] in n) ≤ steps_to_end (length tokens) s0 j
       by_face None is = omega arith
-      by_face (Some x) is = let same_ : ends_from (length tokens) s0 x.gateway ≡ ends_from (length tokens) s0 j = ap (ends_from (length tokens) s0) (its_gateway x is) in omega arith
+      by_face (Some x) is = let same_ : steps_to_end (length tokens) s0 x.gateway ≡ steps_to_end (length tokens) s0 j = ap (steps_to_end (length tokens) s0) (its_gateway x is) in omega arith

@@ -24,7 +24,7 @@ use Rattle.zt_trees.specs.Joints.{are_joined, joins}
 use Rattle.zt_trees.proofs.Climbing.{any_found}
 use Rattle.zt_trees.proofs.Members.{is_there, numbered}
 use Rattle.zt_trees.proofs.Quiet.{joined_back}
-use Rattle.zt_tree_rest.specs.Steps.{beyond, entities_at, faces_of, falls, falls_from, most_answers, passes_on, rises, rises_from}
+use Rattle.zt_tree_rest.specs.Steps.{beyond, entities_at, faces_of, steps_down, steps_down_from, most_answers, steps_beyond, steps_up, steps_up_from}
 use Rattle.zt_tree_rest.proofs.Frames.{Outline, outline}
 use Rattle.zt_tree_rest.proofs.Sums.{total, total-map, total_alike, total_is}
 
@@ -132,10 +132,10 @@ module _ {K : Type 0} (cmp : K → K → Ordering) (matching : K → K → Bool)
   -- ---- falling
 
   -- more levels than there are below count nothing more
-  pub falls_more : (levels n : ℕ) → length s.gateways ≤ levels + rank n → falls (suc levels) s n ≡ falls levels s n
-  unfolding falls
+  pub falls_more : (levels n : ℕ) → length s.gateways ≤ levels + rank n → steps_down (suc levels) s n ≡ steps_down levels s n
+  unfolding steps_down
   falls_more zero n low =
-      let none_ = faces_alike (λ n f. if is_north f.region then 0 else sum_by (falls zero s) (beyond s (number_of_place s n f.number))) (λ n f. 0) n
+      let none_ = faces_alike (λ n f. if is_north f.region then 0 else sum_by (steps_down zero s) (beyond s (number_of_place s n f.number))) (λ n f. 0) n
       (λ x here found.
       by_test (is_north x.face.region) (λ up. rw up refl)
       (λ down. rw down (by_beyond x here found down (gateway_beyond s (number_of_place s n x.face.number)) refl))) in
@@ -149,7 +149,7 @@ module _ {K : Type 0} (cmp : K → K → Ordering) (matching : K → K → Bool)
           go [] = refl
           go (f ∷ fs) = let rest = go fs in omega arith
 
-      by_beyond : (x : FaceAt K) → x.gateway ≡ n → face_numbered s (number_of_place s n x.face.number) ≡ Some x → is_north x.face.region ≡ false → (o : Option ℕ) → gateway_beyond s (number_of_place s n x.face.number) ≡ o → sum_by (falls zero s) (option_to_list o) ≡ 0
+      by_beyond : (x : FaceAt K) → x.gateway ≡ n → face_numbered s (number_of_place s n x.face.number) ≡ Some x → is_north x.face.region ≡ false → (o : Option ℕ) → gateway_beyond s (number_of_place s n x.face.number) ≡ o → sum_by (steps_down zero s) (option_to_list o) ≡ 0
       by_beyond x here found down None is = refl
       by_beyond x here found down (Some m) is =
           let less = down_ranks (number_of_place s n x.face.number) x m found down is in
@@ -158,39 +158,39 @@ module _ {K : Type 0} (cmp : K → K → Ordering) (matching : K → K → Bool)
           absurd (omega arith)
   falls_more (suc levels) n low =
       ap (λ k. 1 + k)
-      (faces_alike (λ n f. if is_north f.region then 0 else sum_by (falls (suc levels) s) (beyond s (number_of_place s n f.number))) (λ n f. if is_north f.region then 0 else sum_by (falls levels s) (beyond s (number_of_place s n f.number))) n
+      (faces_alike (λ n f. if is_north f.region then 0 else sum_by (steps_down (suc levels) s) (beyond s (number_of_place s n f.number))) (λ n f. if is_north f.region then 0 else sum_by (steps_down levels s) (beyond s (number_of_place s n f.number))) n
       (λ x here found.
       by_test (is_north x.face.region) (λ up. rw up refl)
       (λ down. rw down (by_beyond x here found down (gateway_beyond s (number_of_place s n x.face.number)) refl (λ m more. falls_more levels m more)))))
     where
       by_beyond : (x : FaceAt K) → x.gateway ≡ n → face_numbered s (number_of_place s n x.face.number) ≡ Some x → is_north x.face.region ≡ false → (o : Option ℕ) → gateway_beyond s (number_of_place s n x.face.number) ≡ o
-          → ((m : ℕ) → length s.gateways ≤ levels + rank m → falls (suc levels) s m ≡ falls levels s m) → sum_by (falls (suc levels) s) (option_to_list o) ≡ sum_by (falls levels s) (option_to_list o)
+          → ((m : ℕ) → length s.gateways ≤ levels + rank m → steps_down (suc levels) s m ≡ steps_down levels s m) → sum_by (steps_down (suc levels) s) (option_to_list o) ≡ sum_by (steps_down levels s) (option_to_list o)
       by_beyond x here found down None is more = refl
       by_beyond x here found down (Some m) is more =
           let less = down_ranks (number_of_place s n x.face.number) x m found down is in
           let at_ : rank x.gateway ≡ rank n = ap rank here in
           ap (λ k. 0 + k) (more m (omega arith))
 
-  pub falls_suc : (levels n : ℕ) → falls (suc levels) s n ≡ 1 + sum_by (λ f. if is_north f.region then 0 else sum_by (falls levels s) (beyond s (number_of_place s n f.number))) (faces_of s n)
-  unfolding falls
+  pub falls_suc : (levels n : ℕ) → steps_down (suc levels) s n ≡ 1 + sum_by (λ f. if is_north f.region then 0 else sum_by (steps_down levels s) (beyond s (number_of_place s n f.number))) (faces_of s n)
+  unfolding steps_down
   falls_suc levels n = refl
 
   -- ---- rising
 
   -- more levels than there are above count nothing more
-  pub rises_more : (tokens levels n : ℕ) → rank n < levels → rises (suc levels) tokens s n ≡ rises levels tokens s n
-  unfolding rises
+  pub rises_more : (tokens levels n : ℕ) → rank n < levels → steps_up (suc levels) tokens s n ≡ steps_up levels tokens s n
+  unfolding steps_up
   rises_more tokens zero n low = absurd (omega arith)
   rises_more tokens (suc levels) n low =
-      ap (λ k. most_answers tokens s n * falls_from s n + k)
-      (faces_alike (λ n f. if is_north f.region then sum_by (rises (suc levels) tokens s) (beyond s (number_of_place s n f.number)) else 0) (λ n f. if is_north f.region then sum_by (rises levels tokens s) (beyond s (number_of_place s n f.number)) else 0) n
+      ap (λ k. most_answers tokens s n * steps_down_from s n + k)
+      (faces_alike (λ n f. if is_north f.region then sum_by (steps_up (suc levels) tokens s) (beyond s (number_of_place s n f.number)) else 0) (λ n f. if is_north f.region then sum_by (steps_up levels tokens s) (beyond s (number_of_place s n f.number)) else 0) n
       (λ x here found.
       by_test (is_north x.face.region)
       (λ up. rw up (by_beyond x here found up (gateway_beyond s (number_of_place s n x.face.number)) refl (λ m more. rises_more tokens levels m more)))
       (λ down. rw down refl)))
     where
       by_beyond : (x : FaceAt K) → x.gateway ≡ n → face_numbered s (number_of_place s n x.face.number) ≡ Some x → is_north x.face.region ≡ true → (o : Option ℕ) → gateway_beyond s (number_of_place s n x.face.number) ≡ o
-          → ((m : ℕ) → rank m < levels → rises (suc levels) tokens s m ≡ rises levels tokens s m) → sum_by (rises (suc levels) tokens s) (option_to_list o) ≡ sum_by (rises levels tokens s) (option_to_list o)
+          → ((m : ℕ) → rank m < levels → steps_up (suc levels) tokens s m ≡ steps_up levels tokens s m) → sum_by (steps_up (suc levels) tokens s) (option_to_list o) ≡ sum_by (steps_up levels tokens s) (option_to_list o)
       by_beyond x here found up None is more = refl
       by_beyond x here found up (Some m) is more =
           let less = up_ranks (number_of_place s n x.face.number) x m found up is in
@@ -201,7 +201,7 @@ module _ {K : Type 0} (cmp : K → K → Ordering) (matching : K → K → Bool)
 
   -- what a message for a face of a gateway comes to
   abbrev pub price_at : ℕ → ℕ → ℕ → ℕ
-  price_at tokens n k = passes_on tokens s (number_of_place s n k)
+  price_at tokens n k = steps_beyond tokens s (number_of_place s n k)
 
   abbrev pub down_price : (ℕ → ℕ) → Outline K → ℕ
   down_price price o = if is_north o.region then 0 else price o.number
@@ -209,8 +209,8 @@ module _ {K : Type 0} (cmp : K → K → Ordering) (matching : K → K → Bool)
   abbrev pub up_price : (ℕ → ℕ) → Outline K → ℕ
   up_price price o = if is_north o.region then price o.number else 0
 
-  price_is : (tokens k : ℕ) (x : FaceAt K) → face_numbered s k ≡ Some x → passes_on tokens s k ≡ sum_by (λ n. if is_north x.face.region then rises_from tokens s n else falls_from s n) (beyond s k)
-  price_is tokens k x found = ap (λ (o : Option (FaceAt K)). (let n : ℕ = elim o [ None ↦ 0 | Some y ↦ sum_by (λ n. if is_north y.face.region then rises_from tokens s n else falls_from s n) (beyond s k) ] in n)) found
+  price_is : (tokens k : ℕ) (x : FaceAt K) → face_numbered s k ≡ Some x → steps_beyond tokens s k ≡ sum_by (λ n. if is_north x.face.region then steps_up_from tokens s n else steps_down_from s n) (beyond s k)
+  price_is tokens k x found = ap (λ (o : Option (FaceAt K)). (let n : ℕ = elim o [ None ↦ 0 | Some y ↦ sum_by (λ n. if is_north y.face.region then steps_up_from tokens s n else steps_down_from s n) (beyond s k) ] in n)) found
 
   faces_are : (n : ℕ) (node : Node K) → nth n s.gateways ≡ Some node → faces_of s n ≡ node.rows.faces
   faces_are n node at_ = ap (λ (o : Option (Node K)). (let fs : List (Face K) = elim o [ None ↦ [] | Some x ↦ x.rows.faces ] in fs)) at_
@@ -218,46 +218,46 @@ module _ {K : Type 0} (cmp : K → K → Ordering) (matching : K → K → Bool)
   by_outlines : (w : Outline K → ℕ) (n : ℕ) (node : Node K) → nth n s.gateways ≡ Some node → sum_by (λ f. w (outline f)) (faces_of s n) ≡ total w (map outline node.rows.faces)
   by_outlines w n node at_ = ap (sum_by (λ f. w (outline f))) (faces_are n node at_) ∙ total_is (λ f. w (outline f)) node.rows.faces ∙ sym (total-map w outline node.rows.faces)
 
-  pub falls_by_faces : (tokens n : ℕ) (node : Node K) → nth n s.gateways ≡ Some node → falls_from s n ≡ 1 + total (down_price (price_at tokens n)) (map outline node.rows.faces)
+  pub falls_by_faces : (tokens n : ℕ) (node : Node K) → nth n s.gateways ≡ Some node → steps_down_from s n ≡ 1 + total (down_price (price_at tokens n)) (map outline node.rows.faces)
   falls_by_faces tokens n node at_ = by_levels (length s.gateways) refl
     where
       level : (x : FaceAt K) → x.gateway ≡ n → face_numbered s (number_of_place s n x.face.number) ≡ Some x → is_north x.face.region ≡ false → (levels : ℕ) → length s.gateways ≡ suc levels → (o : Option ℕ) → gateway_beyond s (number_of_place s n x.face.number) ≡ o
-          → sum_by (falls levels s) (option_to_list o) ≡ sum_by (falls_from s) (option_to_list o)
+          → sum_by (steps_down levels s) (option_to_list o) ≡ sum_by (steps_down_from s) (option_to_list o)
       level x here found down levels is None beyond_ = refl
       level x here found down levels is (Some m) beyond_ =
           let less = down_ranks (number_of_place s n x.face.number) x m found down beyond_ in
-          ap (λ k. 0 + k) (sym (falls_more levels m (omega arith)) ∙ ap (λ l. falls l s m) (sym is))
+          ap (λ k. 0 + k) (sym (falls_more levels m (omega arith)) ∙ ap (λ l. steps_down l s m) (sym is))
 
-      by_levels : (l : ℕ) → length s.gateways ≡ l → falls_from s n ≡ 1 + total (down_price (price_at tokens n)) (map outline node.rows.faces)
+      by_levels : (l : ℕ) → length s.gateways ≡ l → steps_down_from s n ≡ 1 + total (down_price (price_at tokens n)) (map outline node.rows.faces)
       by_levels zero is = let within = nth_within n s.gateways node at_ in let real = nth_real n s.gateways node at_ in absurd (omega arith)
       by_levels (suc levels) is =
-          ap (λ l. falls l s n) is ∙ falls_suc levels n
+          ap (λ l. steps_down l s n) is ∙ falls_suc levels n
           ∙ ap (λ k. 1 + k)
-          (faces_alike (λ n f. if is_north f.region then 0 else sum_by (falls levels s) (beyond s (number_of_place s n f.number))) (λ n f. down_price (price_at tokens n) (outline f)) n
+          (faces_alike (λ n f. if is_north f.region then 0 else sum_by (steps_down levels s) (beyond s (number_of_place s n f.number))) (λ n f. down_price (price_at tokens n) (outline f)) n
           (λ x here found.
           by_test (is_north x.face.region) (λ up. rw up refl)
           (λ down.
           let is_ = price_is tokens (number_of_place s n x.face.number) x found in
-          let fell : sum_by (λ m. if is_north x.face.region then rises_from tokens s m else falls_from s m) (beyond s (number_of_place s n x.face.number)) ≡ sum_by (falls_from s) (beyond s (number_of_place s n x.face.number)) = rw down refl in
+          let fell : sum_by (λ m. if is_north x.face.region then steps_up_from tokens s m else steps_down_from s m) (beyond s (number_of_place s n x.face.number)) ≡ sum_by (steps_down_from s) (beyond s (number_of_place s n x.face.number)) = rw down refl in
           rw down (level x here found down levels is (gateway_beyond s (number_of_place s n x.face.number)) refl ∙ sym fell ∙ sym is_)))
           ∙ by_outlines (down_price (price_at tokens n)) n node at_)
 
-  pub rises_by_faces : (tokens n : ℕ) (node : Node K) → nth n s.gateways ≡ Some node → rises_from tokens s n ≡ most_answers tokens s n * falls_from s n + total (up_price (price_at tokens n)) (map outline node.rows.faces)
-  unfolding rises
+  pub rises_by_faces : (tokens n : ℕ) (node : Node K) → nth n s.gateways ≡ Some node → steps_up_from tokens s n ≡ most_answers tokens s n * steps_down_from s n + total (up_price (price_at tokens n)) (map outline node.rows.faces)
+  unfolding steps_up
   rises_by_faces tokens n node at_ =
-      ap (λ k. most_answers tokens s n * falls_from s n + k)
-      (faces_alike (λ n f. if is_north f.region then sum_by (rises (length s.gateways) tokens s) (beyond s (number_of_place s n f.number)) else 0) (λ n f. up_price (price_at tokens n) (outline f)) n
+      ap (λ k. most_answers tokens s n * steps_down_from s n + k)
+      (faces_alike (λ n f. if is_north f.region then sum_by (steps_up (length s.gateways) tokens s) (beyond s (number_of_place s n f.number)) else 0) (λ n f. up_price (price_at tokens n) (outline f)) n
       (λ x here found.
       by_test (is_north x.face.region)
       (λ up.
       let is_ = price_is tokens (number_of_place s n x.face.number) x found in
-      let rose : sum_by (λ m. if is_north x.face.region then rises_from tokens s m else falls_from s m) (beyond s (number_of_place s n x.face.number)) ≡ sum_by (rises_from tokens s) (beyond s (number_of_place s n x.face.number)) = rw up refl in
+      let rose : sum_by (λ m. if is_north x.face.region then steps_up_from tokens s m else steps_down_from s m) (beyond s (number_of_place s n x.face.number)) ≡ sum_by (steps_up_from tokens s) (beyond s (number_of_place s n x.face.number)) = rw up refl in
       rw up (level x here found up (gateway_beyond s (number_of_place s n x.face.number)) refl ∙ sym rose ∙ sym is_))
       (λ down. rw down refl))
       ∙ by_outlines (up_price (price_at tokens n)) n node at_)
     where
       level : (x : FaceAt K) → x.gateway ≡ n → face_numbered s (number_of_place s n x.face.number) ≡ Some x → is_north x.face.region ≡ true → (o : Option ℕ) → gateway_beyond s (number_of_place s n x.face.number) ≡ o
-          → sum_by (rises (length s.gateways) tokens s) (option_to_list o) ≡ sum_by (rises_from tokens s) (option_to_list o)
+          → sum_by (steps_up (length s.gateways) tokens s) (option_to_list o) ≡ sum_by (steps_up_from tokens s) (option_to_list o)
       level x here found up None beyond_ = refl
       level x here found up (Some m) beyond_ =
           let less = up_ranks (number_of_place s n x.face.number) x m found up beyond_ in
@@ -270,12 +270,12 @@ module _ {K : Type 0} (cmp : K → K → Ordering) (matching : K → K → Bool)
   -- ---- at a joint
 
   -- what falls to a gateway, and what rises to one
-  pub falls_to : (tokens a b : ℕ) (x y : FaceAt K) → are_joined s a b ≡ true → face_numbered s a ≡ Some x → face_numbered s b ≡ Some y → is_north x.face.region ≡ false → passes_on tokens s a ≡ falls_from s y.gateway
+  pub falls_to : (tokens a b : ℕ) (x y : FaceAt K) → are_joined s a b ≡ true → face_numbered s a ≡ Some x → face_numbered s b ≡ Some y → is_north x.face.region ≡ false → steps_beyond tokens s a ≡ steps_down_from s y.gateway
   falls_to tokens a b x y joined x_is y_is down =
-      price_is tokens a x x_is ∙ ap (λ (o : Option ℕ). sum_by (λ n. if is_north x.face.region then rises_from tokens s n else falls_from s n) (option_to_list o)) (beyond_is a b y joined y_is)
+      price_is tokens a x x_is ∙ ap (λ (o : Option ℕ). sum_by (λ n. if is_north x.face.region then steps_up_from tokens s n else steps_down_from s n) (option_to_list o)) (beyond_is a b y joined y_is)
       ∙ rw down (omega arith)
 
-  pub rises_to : (tokens a b : ℕ) (x y : FaceAt K) → are_joined s a b ≡ true → face_numbered s a ≡ Some x → face_numbered s b ≡ Some y → is_north x.face.region ≡ true → passes_on tokens s a ≡ rises_from tokens s y.gateway
+  pub rises_to : (tokens a b : ℕ) (x y : FaceAt K) → are_joined s a b ≡ true → face_numbered s a ≡ Some x → face_numbered s b ≡ Some y → is_north x.face.region ≡ true → steps_beyond tokens s a ≡ steps_up_from tokens s y.gateway
   rises_to tokens a b x y joined x_is y_is up =
-      price_is tokens a x x_is ∙ ap (λ (o : Option ℕ). sum_by (λ n. if is_north x.face.region then rises_from tokens s n else falls_from s n) (option_to_list o)) (beyond_is a b y joined y_is)
+      price_is tokens a x x_is ∙ ap (λ (o : Option ℕ). sum_by (λ n. if is_north x.face.region then steps_up_from tokens s n else steps_down_from s n) (option_to_list o)) (beyond_is a b y joined y_is)
       ∙ rw up (omega arith)

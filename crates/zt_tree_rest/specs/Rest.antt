@@ -12,6 +12,10 @@ use Rattle.zt_kept.specs.Sound.{IsSound}
 use Rattle.zt_trees.specs.Facts.{TreesAgree}
 use Rattle.zt_tree_rest.specs.Steps.{QueuesStand, is_step, takes_message}
 
+-- steps are built lines
+abbrev pub AreBuilt : {K : Type 0} → (PlainLine K → Bool) → Type 0
+AreBuilt is_built = (link : ℕ) (back : Bool) → is_built (Step link back) ≡ true
+
 module _ {K : Type 0} (cmp : K → K → Ordering) (matching : K → K → Bool) where
   -- the fabric after the lines of a script
   abbrev pub fabric_after_all : (PlainLine K → Bool) → List (PlainLine K) → Fabric K → Fabric K

@@ -1,6 +1,9 @@
--- How many steps can follow one another in a fabric of trees where nothing but steps comes. A message that falls comes to
--- each gateway below at most once. One that rises is passed on at each gateway above, and brings about messages that
--- fall there. An interest that was sent up is ended once. An ask that stands is answered each token once, and finished once.
+-- How many steps can follow one another in a fabric of trees where nothing but steps comes. A step takes a message, and
+-- what it brings about goes on away from where that came. What falls to a gateway falls on to each gateway below, once.
+-- What rises goes on to the gateway above, once, and at each gateway on its way messages fall because of it. Beside what
+-- waits, an interest that was sent up can be ended, once, and an ask be answered each token, and finished, once.
+--     most_steps     counted along the links
+--     plain_most     a bound of it in plain numbers: messages, interests, asks, tokens, entities and gateways
 use Rattle.std.specs.Prelude.{◌≡◌, ℕ, zero, suc, Bool, true, false, nat_lt, Ok, Err, ◌+◌, ◌*◌, not, if◌then◌else◌, List, [], ◌∷◌, ◌++◌, length, sum_by, None, Some, map, filter}
 use Rattle.std.specs.List.{flat_map}
 use Rattle.std.specs.Option.{option_to_list}
@@ -26,52 +29,54 @@ faces_of s n = elim (nth n s.gateways) [ None ↦ [] | Some node ↦ node.rows.f
 abbrev pub beyond : {K : Type 0} → Fabric K → ℕ → List ℕ
 beyond s k = option_to_list (gateway_beyond s k)
 
--- How many steps a message that falls to a gateway comes to: one there, and as many as it comes to at each gateway
--- below, down so many levels.
-unfoldable pub falls : {K : Type 0} → ℕ → Fabric K → ℕ → ℕ
-falls zero s n = 1
-falls (suc levels) s n = 1 + sum_by (λ f. if is_north f.region then 0 else sum_by (falls levels s) (beyond s (number_of_place s n f.number))) (faces_of s n)
+-- How many steps a message comes to that falls to a gateway: one there, and as many as it comes to at each gateway below,
+-- so many levels down.
+unfoldable pub steps_down : {K : Type 0} → ℕ → Fabric K → ℕ → ℕ
+steps_down zero s n = 1
+steps_down (suc levels) s n = 1 + sum_by (λ f. if is_north f.region then 0 else sum_by (steps_down levels s) (beyond s (number_of_place s n f.number))) (faces_of s n)
 
--- down to the last: as many as there are gateways from this one down
-abbrev pub falls_from : {K : Type 0} → Fabric K → ℕ → ℕ
-falls_from s n = falls (length s.gateways) s n
+-- down to the last
+abbrev pub steps_down_from : {K : Type 0} → Fabric K → ℕ → ℕ
+steps_down_from s n = steps_down (length s.gateways) s n
 
 -- the entities of a gateway's faces
 abbrev pub entities_at : {K : Type 0} → Fabric K → ℕ → ℕ
 entities_at s n = sum_by (λ f. length f.subscribers + length f.queryables) (faces_of s n)
 
--- the most that falls at a gateway because of a message from below, where there are so many tokens
+-- The most that falls to gateways below because of one message that rises to this one, where there are so many tokens:
+-- an interest is answered entities, tokens and its final.
 abbrev pub most_answers : {K : Type 0} → ℕ → Fabric K → ℕ → ℕ
 most_answers tokens s n = 3 * tokens + entities_at s n + 2
 
--- How many steps a message that rises to a gateway comes to: those that fall there, and as many as it comes to above, up
--- so many levels.
-unfoldable pub rises : {K : Type 0} → ℕ → ℕ → Fabric K → ℕ → ℕ
-rises zero tokens s n = 0
-rises (suc levels) tokens s n =
-    most_answers tokens s n * falls_from s n
-    + sum_by (λ f. if is_north f.region then sum_by (rises levels tokens s) (beyond s (number_of_place s n f.number)) else 0) (faces_of s n)
+-- How many steps a message comes to that rises to a gateway: what falls because of it, and as many as it comes to at the
+-- gateway above, so many levels up.
+unfoldable pub steps_up : {K : Type 0} → ℕ → ℕ → Fabric K → ℕ → ℕ
+steps_up zero tokens s n = 0
+steps_up (suc levels) tokens s n =
+    most_answers tokens s n * steps_down_from s n
+    + sum_by (λ f. if is_north f.region then sum_by (steps_up levels tokens s) (beyond s (number_of_place s n f.number)) else 0) (faces_of s n)
 
 -- up to the first
-abbrev pub rises_from : {K : Type 0} → ℕ → Fabric K → ℕ → ℕ
-rises_from tokens s n = rises (suc (length s.gateways)) tokens s n
+abbrev pub steps_up_from : {K : Type 0} → ℕ → Fabric K → ℕ → ℕ
+steps_up_from tokens s n = steps_up (suc (length s.gateways)) tokens s n
 
--- How many steps the end of an interest comes to that a gateway has sent up: there each token can be untold.
-abbrev pub ends_from : {K : Type 0} → ℕ → Fabric K → ℕ → ℕ
-ends_from tokens s n = 1 + tokens * falls_from s n
+-- How many steps the end of an interest comes to that a gateway sent up: above, its face can be untold each token.
+abbrev pub steps_to_end : {K : Type 0} → ℕ → Fabric K → ℕ → ℕ
+steps_to_end tokens s n = 1 + tokens * steps_down_from s n
 
 -- ---- what messages, interests and asks come to
 
--- how many steps a message for a face comes to, when it is spoken at the other end
-abbrev pub passes_on : {K : Type 0} → ℕ → Fabric K → ℕ → ℕ
-passes_on tokens s k =
-    elim (face_numbered s k) [ None ↦ 0 | Some x ↦ sum_by (λ n. if is_north x.face.region then rises_from tokens s n else falls_from s n) (beyond s k) ]
+-- how many steps a message for a face comes to, once it is spoken at the other end
+abbrev pub steps_beyond : {K : Type 0} → ℕ → Fabric K → ℕ → ℕ
+steps_beyond tokens s k =
+    elim (face_numbered s k) [ None ↦ 0 | Some x ↦ sum_by (λ n. if is_north x.face.region then steps_up_from tokens s n else steps_down_from s n) (beyond s k) ]
 
+-- the end of an interest is no more than that, whatever is above
 abbrev pub steps_of : {K : Type 0} → ℕ → Fabric K → ℕ → Message K → ℕ
-steps_of tokens s k (InterestFinal id) = elim (face_numbered s k) [ None ↦ 0 | Some x ↦ ends_from tokens s x.gateway ]
-steps_of tokens s k m = passes_on tokens s k
+steps_of tokens s k (InterestFinal id) = elim (face_numbered s k) [ None ↦ 0 | Some x ↦ steps_to_end tokens s x.gateway ]
+steps_of tokens s k m = steps_beyond tokens s k
 
--- of all that waits for a face
+-- all that waits for a face comes to so many
 abbrev pub steps_of_queue : {K : Type 0} → ℕ → Fabric K → ℕ × List (Message K) → ℕ
 steps_of_queue tokens s row = sum_by (steps_of tokens s row.0) row.1
 
@@ -95,15 +100,15 @@ module _ {K : Type 0} (cmp : K → K → Ordering) where
   -- each ask be answered the other tokens, and finished.
   abbrev pub steps_due : List K → Fabric K → ℕ → Face K → ℕ
   steps_due tokens s n f =
-      length f.locals * ends_from (length tokens) s n
-      + sum_by (λ row. (1 + unanswered tokens row.1) * passes_on (length tokens) s (number_of_place s n f.number)) f.asks
+      length f.locals * steps_to_end (length tokens) s n
+      + sum_by (λ row. (1 + unanswered tokens row.1) * steps_beyond (length tokens) s (number_of_place s n f.number)) f.asks
 
-  -- of gateways, from the n-th on
+  -- those of gateways, counted from the n-th on
   abbrev pub steps_due_from : List K → Fabric K → ℕ → List (Node K) → ℕ
   steps_due_from tokens s n [] = 0
   steps_due_from tokens s n (node ∷ nodes) = sum_by (steps_due tokens s n) node.rows.faces + steps_due_from tokens s (n + 1) nodes
 
-  -- how many steps can follow in a fabric, by the tokens, links and faces of an earlier one
+  -- how many steps are left in a fabric, counted by the tokens and links of an earlier one
   abbrev pub steps_left : List K → Fabric K → Fabric K → ℕ
   steps_left tokens s now = sum_by (steps_of_queue (length tokens) s) now.waiting + steps_due_from tokens s 1 now.gateways
 
