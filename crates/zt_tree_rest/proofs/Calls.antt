@@ -19,7 +19,7 @@ use Rattle.zt_kept.proofs.CallsRun.{own_rows_leave}
 use Rattle.zt_tree_rest.proofs.Frames.{Cost, Framed, Outline, Owes, RunsWithin, frame_of, outline, rise_outlines, runs_alter, runs_nothing, runs_say}
 use Rattle.zt_tree_rest.proofs.Prices.{Pays}
 use Rattle.zt_tree_rest.proofs.Sends.{each_pays, one_owes}
-use Rattle.zt_tree_rest.proofs.Sums.{total, total-map, total_less}
+use Rattle.zt_tree_rest.proofs.Sums.{total, total-map, total_less, total_none}
 use Rattle.zt_tree_rest.proofs.Telling.{nothing_pays, tell_pays}
 
 -- a sum over faces is one over their outlines
@@ -52,11 +52,7 @@ module _ {K : Type 0} (cmp : K → K → Ordering) (matching : K → K → Bool)
   -- none is sent anything
   none_said : (rule : Face K → List (Message K)) (g : Rows K) → Frame g → Each (λ f. Pays cmp tokens price end_price g.moment f 0 (rule f)) g.faces
       → Cost cmp matching tokens price end_price (to_each rule g.faces) + Owes cmp matching tokens price end_price (rows_heard cmp (to_each rule g.faces) g) ≤ Owes cmp matching tokens price end_price g + 0
-  none_said rule g framed pays = let less = each_said rule (λ f. 0) g framed pays in let zero_ = nothing g.faces in omega arith
-    where
-      nothing : (fs : List (Face K)) → total (λ (h : Face K). 0) fs ≡ 0
-      nothing [] = refl
-      nothing (h ∷ hs) = let rest = nothing hs in omega arith
+  none_said rule g framed pays = let less = each_said rule (λ f. 0) g framed pays in let zero_ = total_none g.faces in omega arith
 
   -- ---- router regions, of which there are none
 

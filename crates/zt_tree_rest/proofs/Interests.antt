@@ -31,7 +31,7 @@ use Rattle.zt_tree_rest.proofs.Ending.{end_upstream_pays, final_of_both_pays, fi
 use Rattle.zt_tree_rest.proofs.Frames.{Cost, Framed, Outline, Owes, RunsWithin, face_frame, framed_face, framed_heard, outline, runs_alter, runs_more, runs_nothing, runs_say}
 use Rattle.zt_tree_rest.proofs.Prices.{Pays, left, total_put_if}
 use Rattle.zt_tree_rest.proofs.Sends.{one_pays}
-use Rattle.zt_tree_rest.proofs.Sums.{times, total, total_filter}
+use Rattle.zt_tree_rest.proofs.Sums.{times, total, total_filter, total_none}
 use Rattle.zt_tree_rest.proofs.Telling.{AreTokens, answers_pay, entities_pay, entity_price, route_pays, untell_pays}
 
 each_member_flat : {A B : Type 0} (P : B → Type 0) (make : A → List B) (xs : List A) → Each (λ x. Each P (make x)) xs → Each P (flat_map make xs)
@@ -190,16 +190,12 @@ module _ {K : Type 0} (cmp : K → K → Ordering) (matching : K → K → Bool)
           let ends =
           each_said cmp matching tokens price end_price mode os rises plain (end_upstream_to cmp matching g3 interest) (λ k. 0) g3 framed3
           (each_always (λ (k : Face K). Pays cmp tokens price end_price g3.moment k 0 (end_upstream_to cmp matching g3 interest k)) (λ k. end_upstream_pays cmp matching tokens price end_price g3.moment g3 interest k) g3.faces) in
-          let zero_ = no_sum g3.faces in
+          let zero_ = total_none g3.faces in
           runs_more cmp matching tokens price end_price _ g (0 + (times p tokens + (0 + (0 + 0)))) (times p tokens) (omega arith)
           (runs_alter cmp matching tokens price end_price (with_face n (unheld id)) _ g 0 _ unheld_ (face_frame n (unheld id) (λ k. refl) g)
           (runs_say cmp matching tokens price end_price (to_face n (untell_to cmp matching)) _ g1 (times p tokens) _ untells
           (runs_say cmp matching tokens price end_price (to_face n (final_of_both id interest)) _ g2 0 _ finished
           (runs_say cmp matching tokens price end_price (λ h. to_each (end_upstream_to cmp matching h interest) h.faces) [] g3 0 0 (omega arith) (runs_nothing cmp matching tokens price end_price _)))))
-        where
-          no_sum : (fs : List (Face K)) → total (λ (h : Face K). 0) fs ≡ 0
-          no_sum [] = refl
-          no_sum (h ∷ hs) = let rest = no_sum hs in omega arith
 
       by_held : (o : Option (InterestRow K)) → Runs (let ps : List (Part K) = elim o [ None ↦ [] | Some interest ↦ finalising cmp matching n id interest ] in ps) g (times (price n) tokens)
       by_held None = runs_more cmp matching tokens price end_price [] g 0 (times (price n) tokens) (omega arith) (runs_nothing cmp matching tokens price end_price g)

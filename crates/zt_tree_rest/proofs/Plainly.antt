@@ -46,11 +46,6 @@ times_one : {A : Type 0} (xs : List A) → times 1 xs ≡ length xs
 times_one [] = refl
 times_one (x ∷ xs) = let rest = times_one xs in omega arith
 
--- ---- products
-
-less_times : (a b c d : ℕ) → a ≤ b → c ≤ d → a * c ≤ b * d
-less_times a b c d one two = mul-le-mul one two
-
 module _ {K : Type 0} (cmp : K → K → Ordering) (matching : K → K → Bool) (s : Fabric K) (fine : FabricIsInOrder cmp matching s) (agree : TreesAgree cmp matching s) where
   abbrev T : ℕ
   T = length (tokens_of cmp s)
@@ -135,9 +130,6 @@ module _ {K : Type 0} (cmp : K → K → Ordering) (matching : K → K → Bool)
       omega arith
 
   -- ---- one message
-
-  product : P ≡ A * G * (G + 1)
-  product = refl
 
   whole : (x : ℕ) → x ≤ A * G → x ≤ P
   whole x less =

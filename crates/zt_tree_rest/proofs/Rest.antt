@@ -54,10 +54,6 @@ module _ {K : Type 0} (cmp : K → K → Ordering) (matching : K → K → Bool)
     is_token : (e : K) → is_among cmp e (all_live ++ all_waiting) ≡ true → IsToken e
     is_token e there = among-in_key_order cmp total_order e (all_live ++ all_waiting) ∙ there
 
-    each_itself : (es : List K) → Each (λ e. is_among cmp e es ≡ true) es
-    each_itself [] = tt
-    each_itself (e ∷ es) = (or_left (same cmp e e) _ (same_itself cmp total_order e), each_weaker (λ x. is_among cmp x es ≡ true) (λ x. is_among cmp x (e ∷ es) ≡ true) (λ x there. or_right (same cmp x e) _ there) es (each_itself es))
-
     each_row : (rows : ById K) → Each (λ row. is_among cmp row.1 (map (λ r. r.1) rows) ≡ true) rows
     each_row [] = tt
     each_row (row ∷ rows) = (or_left (same cmp row.1 row.1) _ (same_itself cmp total_order row.1), each_weaker (λ (r : ℕ × K). is_among cmp r.1 (map (λ r. r.1) rows) ≡ true) (λ r. is_among cmp r.1 (map (λ r. r.1) (row ∷ rows)) ≡ true) (λ r there. or_right (same cmp r.1 row.1) _ there) rows (each_row rows))

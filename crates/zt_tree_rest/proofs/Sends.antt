@@ -11,7 +11,7 @@ use Rattle.zt_laws.specs.Sound.{RiseFrom}
 use Rattle.zt_laws.proofs.Hearing.{rows_heard-to_each}
 use Rattle.zt_laws.proofs.Lists.{by_test, each_weaker, rise_above}
 use Rattle.zt_tree_rest.proofs.Prices.{Pays, message_price, owed}
-use Rattle.zt_tree_rest.proofs.Sums.{total, total-append, total-map, total_less, total_sum}
+use Rattle.zt_tree_rest.proofs.Sums.{total, total-append, total-map, total_less, total_none, total_sum}
 
 -- what counts for the face of one number alone
 pub one_alone : {K : Type 0} (n b low : ℕ) (fs : List (Face K)) → RiseFrom (λ f. f.number) low fs → total (λ f. if n == f.number then b else 0) fs ≤ b
@@ -23,13 +23,9 @@ one_alone {K} n b low (f ∷ fs) rises =
     let none_ : total (λ (h : Face K). if n == h.number then b else 0) fs ≤ total (λ (h : Face K). 0) fs =
     total_less (λ (h : Face K). if n == h.number then b else 0) (λ h. 0) fs
     (each_weaker (λ (h : Face K). f.number + 1 ≤ h.number) (λ (h : Face K). (if n == h.number then b else 0) ≤ 0) (λ h above. let apart : (n == h.number) ≡ false = ne_eqb n h.number (λ e. omega arith) in rw apart (omega arith)) fs (rise_above (λ (h : Face K). h.number) (f.number + 1) fs rises.1)) in
-    let zero_ = nothing fs in
+    let zero_ = total_none fs in
     rw here (omega arith))
     (λ here. let rest = one_alone n b (f.number + 1) fs rises.1 in rw here (omega arith))
-  where
-    nothing : (fs : List (Face K)) → total (λ (h : Face K). 0) fs ≡ 0
-    nothing [] = refl
-    nothing (h ∷ hs) = let rest = nothing hs in omega arith
 
 -- one face is sent what a rule gives for it: each is, of which others are sent nothing
 pub to_face_is : {K : Type 0} (n low : ℕ) (rule : Face K → List (Message K)) (g : Rows K) → RiseFrom (λ f. f.number) low g.faces → to_face n rule g ≡ to_each (λ f. if n == f.number then rule f else []) g.faces

@@ -39,6 +39,10 @@ total_filter {A} w p (x ∷ xs) =
     let rest = total_filter w p xs in
     of_cond (λ (ys : List A). total w ys ≤ total w (x ∷ xs)) (p x) (x ∷ filter p xs) (filter p xs) (λ _. omega arith) (λ _. omega arith)
 
+pub total_none : {A : Type 0} (xs : List A) → total (λ _. 0) xs ≡ 0
+total_none [] = refl
+total_none (x ∷ xs) = let rest = total_none xs in omega arith
+
 -- the same for each member
 abbrev pub times : {A : Type 0} → ℕ → List A → ℕ
 times n xs = total (λ _. n) xs

@@ -28,7 +28,7 @@ use Rattle.zt_tree_rest.proofs.Calls.{NoRouters, changed_owes, each_said, framed
 use Rattle.zt_tree_rest.proofs.Ending.{finish_pays}
 use Rattle.zt_tree_rest.proofs.Frames.{Cost, Framed, Outline, Owes, RunsWithin, face_frame, framed_face, framed_heard, outline, runs_alter, runs_append, runs_more, runs_nothing, runs_say}
 use Rattle.zt_tree_rest.proofs.Prices.{Pays}
-use Rattle.zt_tree_rest.proofs.Sums.{total}
+use Rattle.zt_tree_rest.proofs.Sums.{total, total_none}
 
 module _ {K : Type 0} (cmp : K → K → Ordering) (matching : K → K → Bool) (tokens : List K) (price : ℕ → ℕ) (end_price : ℕ)
     (mode : WhatAmI) (os : List (Outline K)) (rises : RiseFrom (λ (o : Outline K). o.number) 1 os) (plain : NoRouters mode os) where
@@ -38,16 +38,12 @@ module _ {K : Type 0} (cmp : K → K → Ordering) (matching : K → K → Bool)
   abbrev Frame : Rows K → Type 0
   Frame g = Framed mode os g
 
-  no_sum : (fs : List (Face K)) → total (λ (h : Face K). 0) fs ≡ 0
-  no_sum [] = refl
-  no_sum (h ∷ hs) = let rest = no_sum hs in omega arith
-
   -- what is said owes nothing more
   free_said : (rule : Face K → List (Message K)) (g : Rows K) → Frame g → ((f : Face K) → Pays cmp tokens price end_price g.moment f 0 (rule f))
       → Cost cmp matching tokens price end_price (to_each rule g.faces) + Owes cmp matching tokens price end_price (rows_heard cmp (to_each rule g.faces) g) ≤ Owes cmp matching tokens price end_price g + 0
   free_said rule g framed pays =
       let less = each_said cmp matching tokens price end_price mode os rises plain rule (λ f. 0) g framed (each_always (λ f. Pays cmp tokens price end_price g.moment f 0 (rule f)) pays g.faces) in
-      let zero_ = no_sum g.faces in
+      let zero_ = total_none g.faces in
       omega arith
 
   -- a change of a face that owes nothing more
@@ -101,11 +97,6 @@ module _ {K : Type 0} (cmp : K → K → Ordering) (matching : K → K → Bool)
       (rw outside (runs_more cmp matching tokens price end_price _ g (0 + most) most (omega arith) (runs_append cmp matching tokens price end_price (answering cmp matching n interest e f) _ g 0 most answers.0 second)))
 
   -- ---- a token is undeclared
-
-  -- what forgetting an expression costs at a face, once the token is gone
-  abbrev pub Forgets : (Outline K → ℕ) → ℕ → ℕ → Region → Rows K → Type 0
-  Forgets most n id source g =
-      (e : K) → Each (λ h. Pays cmp tokens price end_price g.moment h (most (outline h)) (forget_to cmp matching (with_face n (unregistered id) g) source e h)) (with_face n (unregistered id) g).faces
 
   pub undeclare_runs : (most : Outline K → ℕ) (n id node : ℕ) (given : Option K) (f : Face K) (g : Rows K) → Frame g → find_face n g ≡ Some f → is_routed g f ≡ false
       → ((e : K) → undeclared cmp matching id given f ≡ Some e → Each (λ h. Pays cmp tokens price end_price g.moment h (most (outline h)) (forget_to cmp matching (with_face n (unregistered id) g) f.region e h)) (with_face n (unregistered id) g).faces)

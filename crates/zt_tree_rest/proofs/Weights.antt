@@ -1,5 +1,5 @@
 -- How many steps messages come to, gateway by gateway of a fabric of trees.
-use Rattle.std.proofs.Common.{◌≡◌, ℕ, zero, suc, ◌+◌, ◌-◌, ◌*◌, ◌≤◌, ◌<◌, Bool, true, false, not, if◌then◌else◌, ◌&&◌, ◌==◌, List, [], ◌∷◌, length, map, Option, Some, None, option_map, refl, sym, ap, ◌∙◌, subst, arith, eq-eqb, ⊎_elim}
+use Rattle.std.proofs.Common.{◌≡◌, ℕ, zero, suc, ◌+◌, ◌-◌, ◌*◌, ◌≤◌, ◌<◌, Bool, true, false, not, if◌then◌else◌, ◌&&◌, ◌==◌, List, [], length, map, Option, Some, None, option_map, refl, sym, ap, ◌∙◌, subst, arith, eq-eqb, ⊎_elim}
 use Rattle.std.proofs.lemmas.Bool.{and_from, and_parts, or_cases, or_left, or_right}
 use Rattle.std.specs.List.{list_any, sum_by}
 use Rattle.std.specs.Option.{option_to_list}
@@ -26,7 +26,7 @@ use Rattle.zt_trees.proofs.Members.{is_there, numbered}
 use Rattle.zt_trees.proofs.Quiet.{joined_back}
 use Rattle.zt_tree_rest.specs.Steps.{beyond, entities_at, faces_of, steps_down, steps_down_from, most_answers, steps_beyond, steps_up, steps_up_from}
 use Rattle.zt_tree_rest.proofs.Frames.{Outline, outline}
-use Rattle.zt_tree_rest.proofs.Sums.{total, total-map, total_alike, total_is}
+use Rattle.zt_tree_rest.proofs.Sums.{total, total-map, total_alike, total_is, total_none}
 
 some_is : {A : Type 0} {u v : A} → Some u ≡ Some v → u ≡ v
 some_is h = cc
@@ -139,16 +139,9 @@ module _ {K : Type 0} (cmp : K → K → Ordering) (matching : K → K → Bool)
       (λ x here found.
       by_test (is_north x.face.region) (λ up. rw up refl)
       (λ down. rw down (by_beyond x here found down (gateway_beyond s (number_of_place s n x.face.number)) refl))) in
-      let zero_ = no_sum (faces_of s n) in
+      let zero_ = total_is (λ (f : Face K). 0) (faces_of s n) ∙ total_none (faces_of s n) in
       omega arith
     where
-      no_sum : (fs : List (Face K)) → sum_by (λ f. 0) fs ≡ 0
-      no_sum fs = total_is (λ f. 0) fs ∙ go fs
-        where
-          go : (fs : List (Face K)) → total (λ f. 0) fs ≡ 0
-          go [] = refl
-          go (f ∷ fs) = let rest = go fs in omega arith
-
       by_beyond : (x : FaceAt K) → x.gateway ≡ n → face_numbered s (number_of_place s n x.face.number) ≡ Some x → is_north x.face.region ≡ false → (o : Option ℕ) → gateway_beyond s (number_of_place s n x.face.number) ≡ o → sum_by (steps_down zero s) (option_to_list o) ≡ 0
       by_beyond x here found down None is = refl
       by_beyond x here found down (Some m) is =
