@@ -29,7 +29,7 @@ use Rattle.zt_tree_rest.proofs.Telling.{forget_pays, nothing_pays}
 use Rattle.zt_tree_rest.proofs.Tokens.{declare_runs, forgets_nothing, undeclare_runs}
 
 -- a face to the north isn't shown what stands there
-north_hides : (own source : Region) → is_north own ≡ true → is_north source ≡ true → shows own source ≡ false
+pub north_hides : (own source : Region) → is_north own ≡ true → is_north source ≡ true → shows own source ≡ false
 north_hides own source up there =
     let own_is : own ≡ North = region_eq-same own North up in
     let source_is : source ≡ North = region_eq-same source North there in

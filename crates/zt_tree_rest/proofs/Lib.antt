@@ -22,3 +22,4 @@ pub mod Rest
 pub mod Resting
 pub mod Below
 pub mod Plainly
+pub mod Ways
