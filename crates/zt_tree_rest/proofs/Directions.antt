@@ -67,7 +67,7 @@ module _ {K : Type 0} (cmp : K → K → Ordering) (matching : K → K → Bool)
     pub holds_nothing : is_north h.region ≡ true → h.held ≡ []
     pub sees_what_it_keeps : is_north h.region ≡ true → (e : K) → keeps cmp h e ≡ true → is_visible cmp g h.region e ≡ true
 
-  still_seen : (n id : ℕ) (given : Option K) (f : Face K) (g : Rows K) (own : Region) (e : K) → Framed mode os g → RiseFrom (λ row. row.0) 0 f.live → find_face n g ≡ Some f → is_north f.region ≡ true → is_north own ≡ true → undeclared cmp matching id given f ≡ Some e → is_visible cmp g own e ≡ true → is_visible cmp (with_face n (unregistered id) g) own e ≡ true
+  pub still_seen : (n id : ℕ) (given : Option K) (f : Face K) (g : Rows K) (own : Region) (e : K) → Framed mode os g → RiseFrom (λ row. row.0) 0 f.live → find_face n g ≡ Some f → is_north f.region ≡ true → is_north own ≡ true → undeclared cmp matching id given f ≡ Some e → is_visible cmp g own e ≡ true → is_visible cmp (with_face n (unregistered id) g) own e ≡ true
   unfolding is_visible
   still_seen n id given f g own e framed live_rises found north own_north about seen =
       let test = λ (row : Region × K). same cmp e row.1 && shows own row.0 in
@@ -83,7 +83,7 @@ module _ {K : Type 0} (cmp : K → K → Ordering) (matching : K → K → Bool)
       only None at_ is = each_weaker (λ (row : ℕ × K). (id == row.0) ≡ false) (λ row. (id == row.0) ≡ true → row.1 ≡ e) (λ row miss here. never here miss) f.live (at_none id f.live at_)
       only (Some x) at_ is = let same_ : x ≡ e = cc in at_only id 0 f.live e live_rises (at_ ∙ ap Some same_)
 
-  wants_nothing : (h : Face K) (e : K) → h.held ≡ [] → wants matching h e ≡ false
+  pub wants_nothing : (h : Face K) (e : K) → h.held ≡ [] → wants matching h e ≡ false
   unfolding wants
   wants_nothing h e none_ = rw none_ refl
 

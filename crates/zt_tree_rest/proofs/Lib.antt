@@ -23,3 +23,4 @@ pub mod Resting
 pub mod Below
 pub mod Plainly
 pub mod Ways
+pub mod Away

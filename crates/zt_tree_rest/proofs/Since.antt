@@ -66,7 +66,7 @@ module _ {K : Type 0} (cmp : K → K → Ordering) (matching : K → K → Bool)
       by_node None is e = let bad : Some (frame_of node.rows) ≡ None = e ∙ ap (option_map (λ (x : Node K). frame_of x.rows)) is in cc
       by_node (Some node0) is e = (node0, is, some_is (e ∙ ap (option_map (λ (x : Node K). frame_of x.rows)) is))
 
-  found_outline : (n : ℕ) (fs : List (Face K)) → option_map outline (first_where (λ (f : Face K). n == f.number) fs) ≡ first_where (λ (o : Outline K). n == o.number) (map outline fs)
+  pub found_outline : (n : ℕ) (fs : List (Face K)) → option_map outline (first_where (λ (f : Face K). n == f.number) fs) ≡ first_where (λ (o : Outline K). n == o.number) (map outline fs)
   found_outline n [] = refl
   found_outline n (f ∷ fs) = by_test (n == f.number) (λ here. rw here refl) (λ here. rw here (found_outline n fs))
 

@@ -1,44 +1,37 @@
 -- What comes from above makes nothing go up, and what comes from below makes at most one message go up that ends no interest.
-use Rattle.std.proofs.Common.{◌≡◌, ℕ, ◌+◌, ◌≤◌, Bool, true, false, not, if◌then◌else◌, ◌&&◌, ◌||◌, ◌==◌, List, [], ◌∷◌, ◌++◌, length, map, filter, Option, Some, None, option_map, refl, sym, ap, ◌∙◌, subst, arith, eq-eqb, eqb-true, ne_eqb}
-use Rattle.std.specs.Cmp.{IsTotalOrder}
-use Rattle.std.specs.List.{flat_map, list_any}
+use Rattle.std.proofs.Common.{◌≡◌, ℕ, ◌+◌, ◌≤◌, Bool, true, false, if◌then◌else◌, ◌&&◌, ◌==◌, List, [], ◌∷◌, ◌++◌, map, filter, Option, Some, None, refl, sym, ap, ◌∙◌, subst, arith, eq-eqb, ne_eqb}
 use Rattle.std.specs.declared.cmp.Ordering.{Ordering}
-use Rattle.std.specs.declared.cmp.Ordering.TheVariants.{Equal}
 use Rattle.zt_region.specs.declared.region.Region.{Region}
 use Rattle.zt_region.specs.declared.region.WhatAmI.{WhatAmI}
 use Rattle.zt_region.specs.Region.{is_north}
-use Rattle.zt_protocol.specs.Plain.{PlainCall, NewSession, NewTransport, DeclareToken, UndeclareToken, Interest, InterestFinal, DeclareFinal, CloseFace, Expire, SetTrees, SetEntities}
+use Rattle.zt_protocol.specs.Plain.{DeclareToken, UndeclareToken, DeclareFinal}
 use Rattle.zt_protocol.specs.declared.messages.Message.{Message}
-use Rattle.zt_protocol.specs.declared.messages.Message.TheVariants as message
 use Rattle.zt_model.specs.Hearing.{rows_heard}
-use Rattle.zt_model.specs.Lists.{at_id, first_where, has_id, is_some_and}
+use Rattle.zt_model.specs.Lists.{first_where, has_id, is_some_and}
 use Rattle.zt_model.specs.Parts.{Part, Alter, Say, Sends, find_face, is_routed, said_by, to_each, with_face}
-use Rattle.zt_model.specs.Routing.{ended, ending, finish_to, finishing, initial_finalised, is_finished_by}
+use Rattle.zt_model.specs.Routing.{ended, ending, finish_to, finishing, initial_finalised}
 use Rattle.zt_model.specs.Rows.{Face, Rows}
 use Rattle.zt_model.specs.Says.{declaring_of, hiding_undeclared, parts_of, said, undeclaring_of}
 use Rattle.zt_model.specs.Strategy.{is_router_hat, strategy_of}
 use Rattle.zt_model.specs.Telling.{answer_to, answering, declaring, forget_to, is_told, registered, registers, tell, tell_to, undeclared, undeclaring, unregistered}
 use Rattle.zt_model.specs.Transcript.{Each}
 use Rattle.zt_model.specs.Trees.{hide_to, hiding, is_hidden, is_newly_shown, router_regions, show_to, showing, source_of, with_own_rows, without_own_rows}
-use Rattle.zt_model.specs.Visible.{is_visible, keeps, shows}
+use Rattle.zt_model.specs.Visible.{shows}
 use Rattle.zt_laws.specs.Sound.{RiseFrom}
 use Rattle.zt_laws.proofs.Lists.{by_test, each_always, each_append, each_map, each_weaker, of_cond, rise_above}
-use Rattle.zt_kept.specs.Sound.{IsSound}
 use Rattle.zt_kept.specs.Ran.{ran}
 use Rattle.zt_kept.proofs.CallsRun.{own_rows_leave}
 use Rattle.zt_kept.proofs.Running.{ran-append, said_by-append}
-use Rattle.zt_trees.specs.Facts.{IsTreeFace, IsTreeGateway}
-use Rattle.zt_tree_rest.specs.Ways.{ComesFromAbove, is_for_above}
 use Rattle.zt_tree_rest.proofs.Calls.{NoRouters, framed_each}
 use Rattle.zt_tree_rest.proofs.Directions.{north_hides}
-use Rattle.zt_tree_rest.proofs.Frames.{Frame, Framed, Outline, frame_of, framed_face, framed_heard, outline}
+use Rattle.zt_tree_rest.proofs.Frames.{Frame, Framed, Outline, frame_of, framed_face, framed_heard}
 
 -- a face of these outlines leads up
-abbrev leads_up_at : {K : Type 0} → List (Outline K) → ℕ → Bool
+abbrev pub leads_up_at : {K : Type 0} → List (Outline K) → ℕ → Bool
 leads_up_at os k = is_some_and (first_where (λ (o : Outline _). k == o.number) os) (λ o. is_north o.region)
 
 -- each outline is the one of its number
-each_own : {K : Type 0} (low : ℕ) (os : List (Outline K)) → RiseFrom (λ (o : Outline K). o.number) low os → Each (λ o. leads_up_at os o.number ≡ is_north o.region) os
+pub each_own : {K : Type 0} (low : ℕ) (os : List (Outline K)) → RiseFrom (λ (o : Outline K). o.number) low os → Each (λ o. leads_up_at os o.number ≡ is_north o.region) os
 each_own low [] rises = tt
 each_own {K} low (o ∷ os) rises = (
   rw (eq-eqb o.number o.number refl) refl,
@@ -54,7 +47,7 @@ each_own {K} low (o ∷ os) rises = (
 
 module _ {K : Type 0} (cmp : K → K → Ordering) (matching : K → K → Bool) (mode : WhatAmI) (os : List (Outline K)) (rises : RiseFrom (λ (o : Outline K). o.number) 1 os) (plain : NoRouters mode os) where
   -- none of these messages goes up
-  abbrev NoneUp : Sends K → Type 0
+  abbrev pub NoneUp : Sends K → Type 0
   NoneUp ms = Each (λ m. leads_up_at os m.0 ≡ false) ms
 
   -- so it is of what parts say, and the frame stays
@@ -123,7 +116,7 @@ module _ {K : Type 0} (cmp : K → K → Ordering) (matching : K → K → Bool)
       (down_alter (without_own_rows cmp source e) [] h (down_nothing (without_own_rows cmp source e h) (record { mode_is = framed_h.mode_is; faces_are = framed_h.faces_are })))
 
   -- faces that lead up ask nothing
-  abbrev AskNothing : Rows K → Type 0
+  abbrev pub AskNothing : Rows K → Type 0
   AskNothing g = Each (λ (f : Face K). is_north f.region ≡ true → f.asks ≡ []) g.faces
 
   answer_none : (n id : ℕ) (e : K) (f : Face K) → f.asks ≡ [] → answer_to cmp matching n id e f ≡ []

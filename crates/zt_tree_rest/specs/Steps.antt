@@ -71,7 +71,7 @@ abbrev pub steps_beyond : {K : Type 0} → ℕ → Fabric K → ℕ → ℕ
 steps_beyond tokens s k =
     elim (face_numbered s k) [ None ↦ 0 | Some x ↦ sum_by (λ n. if is_north x.face.region then steps_up_from tokens s n else steps_down_from s n) (beyond s k) ]
 
--- the end of an interest is no more than that, whatever is above
+-- a message that waits for a face: the end of an interest goes on up only where an interest there ends with it
 abbrev pub steps_of : {K : Type 0} → ℕ → Fabric K → ℕ → Message K → ℕ
 steps_of tokens s k (InterestFinal id) = elim (face_numbered s k) [ None ↦ 0 | Some x ↦ steps_to_end tokens s x.gateway ]
 steps_of tokens s k m = steps_beyond tokens s k

@@ -1,5 +1,5 @@
 -- Which way messages go on at a gateway of a tree.
-use Rattle.std.specs.Prelude.{◌≡◌, ℕ, Bool, true, false, not, ◌&&◌, List, length, filter}
+use Rattle.std.specs.Prelude.{◌≡◌, ℕ, Bool, true, false, not, ◌&&◌, length, filter}
 use Rattle.zt_region.specs.Region.{is_north}
 use Rattle.zt_protocol.specs.Plain.{PlainCall, DeclareToken, UndeclareToken, Interest, DeclareFinal}
 use Rattle.zt_protocol.specs.declared.messages.Message.{Message}

@@ -1,20 +1,41 @@
 //! Trees of client gateways come to rest: theorems over the definitions of `zt_model`, each the contract of a function
 //! that does nothing. `specs/Steps.antt` says how many steps can follow one another at the most, and `specs/Rest.antt`
-//! what is true of trees where no step follows any more.
+//! what is true of trees where no step follows any more;
+//! `specs/Ways.antt` has the words for which way messages go on.
 #![tactic(auto)]
 
-ghost use Rattle.std.specs.Prelude.{◌≡◌, ◌≢◌, ◌⊎◌, ◌+◌, ◌≤◌, ℕ, Bool, true, false, List, length, Err};
-ghost use Rattle.zt_protocol.specs.Plain.{PlainLine, Step};
+ghost use Rattle.std.specs.Prelude.{◌≡◌, ◌≢◌, ◌⊎◌, ◌+◌, ◌≤◌, ℕ, Bool, true, false, List, length, Some, Err};
+ghost use Rattle.zt_region.specs.Region.{is_north};
+ghost use Rattle.zt_protocol.specs.Plain.{PlainCall, PlainLine, Step};
 ghost use Rattle.zt_protocol.specs.declared.errors.Refusal.TheVariants.{IdsSpent};
 ghost use Rattle.zt_model.specs.Fabric.{Fabric, empty_fabric, entries_from, entry_of, fabric_after};
+ghost use Rattle.zt_model.specs.Parts.{find_face};
 ghost use Rattle.zt_model.specs.Promises.{turns_from};
+ghost use Rattle.zt_model.specs.Rows.{Face, Rows};
+ghost use Rattle.zt_model.specs.Says.{said};
 ghost use Rattle.zt_model.specs.Transcript.{Each};
 ghost use Rattle.zt_model.specs.TreePromises.{IsTreeFabric, IsTreeTurn, are_links_empty};
 ghost use Rattle.zt_laws.specs.Sound.{HasFirstIds};
+ghost use Rattle.zt_kept.specs.Sound.{IsSound};
+ghost use Rattle.zt_trees.specs.Facts.{IsTreeGateway};
 ghost use Rattle.zt_tree_rest.specs.Rest.{AreBuilt, IsAtRest, NoneFollows, StepsFollow, TreesStand, fabric_after_all};
 ghost use Rattle.zt_tree_rest.specs.Steps.{QueuesStand, messages_waiting, most_steps, plain_most, takes_message};
+ghost use Rattle.zt_tree_rest.specs.Ways.{ComesFromAbove, ComesFromBelow, going_up, is_for_above};
 
 use zt_keys::Key;
+
+/// Messages go on away from where they came, at a sound gateway of a tree. What a gateway above sends makes nothing go up
+/// again. What a gateway below sends makes at most one message go up, beside ends of interests.
+pub fn messages_go_on_away<K: Key>()
+    ensures above { (g : Rows K) (n : ℕ) (f : Face K) (c : PlainCall K)
+        → IsSound K.cmp K.matching g → IsTreeGateway K.cmp K.matching g
+        → find_face n g ≡ Some f → is_north f.region ≡ true → ComesFromAbove n c
+        → Each (λ m. is_for_above g m ≡ false) (said K.cmp K.matching c g) }
+    ensures below { (g : Rows K) (n : ℕ) (f : Face K) (c : PlainCall K)
+        → IsSound K.cmp K.matching g → IsTreeGateway K.cmp K.matching g
+        → find_face n g ≡ Some f → is_north f.region ≡ false → ComesFromBelow n c
+        → going_up g (said K.cmp K.matching c g) ≤ 1 }
+{}
 
 /// What fabrics of trees have at first, every line leaves, be it accepted or refused, where the fabric after it is still
 /// one of trees and the line wasn't refused for want of ids.
