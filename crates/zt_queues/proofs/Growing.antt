@@ -1,5 +1,5 @@
 -- What waits at places while messages are added and taken.
-use Rattle.std.proofs.Common.{◌≡◌, ℕ, zero, suc, ◌+◌, ◌-◌, ◌<◌, ◌≤◌, ◌==◌, ◌⊎◌, inl, inr, cond, false, true, List, [], ◌∷◌, ◌++◌, length, map, take, set, get_or, Option, Some, None, option_map, refl, sym, ap, ◌∙◌, arith, ne_eqb, eq-eqb, append_assoc, add-one, Result, Ok, Err, OnOk, OnErr}
+use Rattle.std.proofs.Common.{◌≡◌, ℕ, zero, suc, ◌+◌, ◌-◌, ◌<◌, ◌≤◌, ◌==◌, ◌⊎◌, inl, inr, cond, false, true, List, [], ◌∷◌, ◌++◌, length, map, take, set, get_or, Option, Some, None, option_map, refl, sym, ap, ◌∙◌, arith, ne_eqb, eq-eqb, eqb-true, append_assoc, add-one, Result, Ok, Err, OnOk, OnErr}
 use Rattle.std.proofs.Math.Seq.{take-append_seam, take-suc}
 use Rattle.std.proofs.lemmas.List.{append-nil, length-append}
 use Rattle.zt_protocol.specs.declared.entries.Sent.{Sent}
@@ -8,7 +8,8 @@ use Rattle.zt_model.specs.Fabric.{printed_for}
 use Rattle.zt_model.specs.Lists.{at_id, first_of, rest_of, without_id}
 use Rattle.std.specs.Option.{option_and_then}
 use Rattle.zt_laws.proofs.Ends.{printed_for-append}
-use Rattle.zt_queues.specs.Waiting.{Queued, first_waiting, grown_from, waiting_from, with_printed, without_first}
+use Rattle.zt_laws.proofs.Lists.{by_test}
+use Rattle.zt_queues.specs.Waiting.{Queued, first_waiting, grown_from, waiting_from, with_printed, without_first, without_taken}
 
 -- a number outside a range is outside what is left of it, and isn't the first
 abbrev pub IsOut : ℕ → ℕ → ℕ → Type 0
@@ -247,3 +248,69 @@ module _ {K : Type 0} where
   grown_more ms m at qs lt read =
       let more : take (at + 1) ms ≡ take at ms ++ m ∷ [] = rw add-one (take-suc ms at m lt ∙ ap (λ x. take at ms ++ x ∷ []) (sym read)) in
       ap (λ xs. grown_from 1 xs qs) more ∙ grown-append 1 (take at ms) (m ∷ []) qs
+
+  -- ---- a message is taken before others are added, or behind them
+
+  -- where nothing waits nothing is taken
+  pub none_taken : (face i : ℕ) (qs : Queued K) → first_waiting face (waiting_from i qs) ≡ None → without_first face (waiting_from i qs) ≡ waiting_from i qs
+  none_taken face i [] none = refl
+  none_taken face i (None ∷ qs) none = none_taken face (i + 1) qs none
+  none_taken face i (Some ms ∷ qs) none =
+      by_test (face == i)
+      (λ here.
+      let empty : first_of ms ≡ None = rw here at none in
+      let past : (face == i) ≡ true = here in
+      let is : face ≡ i = eqb-true face i here in
+      rw here (ap (λ (ns : List (Message K)). (i, ns) ∷ without_first face (waiting_from (i + 1) qs)) (rest_of_none ms empty) ∙ ap (λ rest. (i, ms) ∷ rest) (taken_out face (i + 1) qs (inl (omega arith)))))
+      (λ past. rw past (ap (λ rest. (i, ms) ∷ rest) (none_taken face (i + 1) qs (rw past at none))))
+    where
+      rest_of_none : (ms : List (Message K)) → first_of ms ≡ None → rest_of ms ≡ ms
+      rest_of_none [] none = refl
+      rest_of_none (m ∷ ms) none = cc
+
+  -- where a message waits it is the same before others are added
+  pub first_taken : (face i : ℕ) (qs : Queued K) (sent : List (Sent K)) (m : Message K) → first_waiting face (waiting_from i qs) ≡ Some m
+      → without_first face (with_printed sent (waiting_from i qs)) ≡ with_printed sent (without_first face (waiting_from i qs))
+  first_taken face i [] sent m first = refl
+  first_taken face i (None ∷ qs) sent m first = first_taken face (i + 1) qs sent m first
+  first_taken face i (Some ms ∷ qs) sent m first =
+      by_test (face == i)
+      (λ here.
+      let some : first_of ms ≡ Some m = rw here at first in
+      let is : face ≡ i = eqb-true face i here in
+      let out : without_first face (waiting_from (i + 1) qs) ≡ waiting_from (i + 1) qs = taken_out face (i + 1) qs (inl (omega arith)) in
+      let grown : without_first face (with_printed sent (waiting_from (i + 1) qs)) ≡ with_printed sent (waiting_from (i + 1) qs) =
+      ap (without_first face) (sym (waiting_grown (i + 1) sent qs)) ∙ taken_out face (i + 1) (grown_from (i + 1) sent qs) (inl (omega arith)) ∙ waiting_grown (i + 1) sent qs in
+      rw here
+      (ap (λ (ns : List (Message K)). (i, ns) ∷ without_first face (with_printed sent (waiting_from (i + 1) qs))) (rest_of_some ms (printed_for i sent) m some)
+      ∙ ap (λ rest. (i, rest_of ms ++ printed_for i sent) ∷ rest) (grown ∙ ap (with_printed sent) (sym out))))
+      (λ past. rw past (ap (λ rest. (i, ms ++ printed_for i sent) ∷ rest) (first_taken face (i + 1) qs sent m (rw past at first))))
+    where
+      rest_of_some : (ms ns : List (Message K)) (m : Message K) → first_of ms ≡ Some m → rest_of (ms ++ ns) ≡ rest_of ms ++ ns
+      rest_of_some [] ns m first = cc
+      rest_of_some (x ∷ ms) ns m first = refl
+
+  pub taken_where_none : (taken : Option ℕ) (face : ℕ) (qs : Queued K) → taken ≡ Some face → None ≡ first_waiting face (waiting_from 1 qs) → (sent : List (Sent K))
+      → with_printed sent (waiting_from 1 qs) ≡ with_printed sent (without_taken taken (waiting_from 1 qs))
+  taken_where_none taken face qs is none sent = ap (with_printed sent) (sym (none_taken face 1 qs (sym none)) ∙ ap (λ t. without_taken t (waiting_from 1 qs)) (sym is))
+
+  pub taken_where_some : (taken : Option ℕ) (face : ℕ) (qs : Queued K) (m : Message K) → taken ≡ Some face → Some m ≡ first_waiting face (waiting_from 1 qs) → (sent : List (Sent K))
+      → without_first face (with_printed sent (waiting_from 1 qs)) ≡ with_printed sent (without_taken taken (waiting_from 1 qs))
+  taken_where_some taken face qs m is some sent = first_taken face 1 qs sent m (sym some) ∙ ap (λ t. with_printed sent (without_taken t (waiting_from 1 qs))) (sym is)
+
+  -- the last place goes
+  pub waiting_popped : (i : ℕ) (qs : Queued K) → waiting_from i (take (length qs - 1) qs) ≡ without_id (i + length qs - 1) (waiting_from i qs)
+  waiting_popped i [] = refl
+  waiting_popped i (None ∷ []) = refl
+  waiting_popped i (Some ms ∷ []) = let here : (i + 1 - 1 == i) ≡ true = eq-eqb (i + 1 - 1) i (omega arith) in rw here refl
+  waiting_popped i (q ∷ r ∷ qs) =
+      let less : suc (suc (length qs)) - 1 ≡ suc (suc (length qs) - 1) = omega arith in
+      let last : i + suc (suc (length qs)) - 1 ≡ i + 1 + suc (length qs) - 1 = omega arith in
+      rw (less, last) (cases q (waiting_popped (i + 1) (r ∷ qs)))
+    where
+      cases : (q : Option (List (Message K))) → waiting_from (i + 1) (take (suc (length qs) - 1) (r ∷ qs)) ≡ without_id (i + 1 + suc (length qs) - 1) (waiting_from (i + 1) (r ∷ qs))
+          → waiting_from i (q ∷ take (suc (length qs) - 1) (r ∷ qs)) ≡ without_id (i + 1 + suc (length qs) - 1) (waiting_from i (q ∷ r ∷ qs))
+      cases None rest = rest
+      cases (Some ms) rest =
+          let past : (i + 1 + suc (length qs) - 1 == i) ≡ false = ne_eqb (i + 1 + suc (length qs) - 1) i (omega arith) in
+          rw past (ap (λ others. (i, ms) ∷ others) rest)

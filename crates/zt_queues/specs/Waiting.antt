@@ -29,6 +29,11 @@ with_printed ms rows = map (λ row. (row.0, row.1 ++ printed_for row.0 ms)) rows
 abbrev pub without_first : {K : Type 0} → ℕ → ById (List (Message K)) → ById (List (Message K))
 without_first face rows = map (λ row. if face == row.0 then (row.0, rest_of row.1) else row) rows
 
+-- the oldest message of a face's is taken, where one is named
+abbrev pub without_taken : {K : Type 0} → Option ℕ → ById (List (Message K)) → ById (List (Message K))
+without_taken None rows = rows
+without_taken (Some face) rows = without_first face rows
+
 -- the oldest message of a face's
 abbrev pub first_waiting : {K : Type 0} → ℕ → ById (List (Message K)) → Option (Message K)
 first_waiting face rows = first_of (elim (at_id face rows) [ None ↦ [] | Some ms ↦ ms ])

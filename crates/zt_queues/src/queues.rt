@@ -1,11 +1,11 @@
 // What waits at the places of faces.
-ghost use Rattle.std.specs.Prelude.{◌≡◌, ◌++◌, ◌+◌, ◌<◌, ◌⊎◌, [], ◌∷◌, Some, None, OnErr, OnOk, IfSome, IfNone, length, if◌then◌else◌};
+ghost use Rattle.std.specs.Prelude.{◌≡◌, ◌++◌, ◌+◌, ◌<◌, ◌⊎◌, [], ◌∷◌, Some, None, OnErr, OnOk, IfSome, IfNone, length, take, ◌-◌, if◌then◌else◌};
 ghost use Rattle.std.specs.Option.{option_copied};
 ghost use Rattle.zt_model.specs.Lists.{without_id};
 ghost use Rattle.std.specs.Prelude.{List, Option};
 ghost use Rattle.zt_protocol.specs.declared.entries.Sent.{Sent as SentValue};
 ghost use Rattle.zt_protocol.specs.declared.messages.Message.{Message as MessageValue};
-ghost use Rattle.zt_queues.specs.Waiting.{Queued, first_waiting, grown_from, waiting_from, with_printed, without_first};
+ghost use Rattle.zt_queues.specs.Waiting.{Queued, first_waiting, grown_from, waiting_from, with_printed, without_first, without_taken};
 
 use crate::queue::Queue;
 use std::alloc::Global;
@@ -155,8 +155,7 @@ impl<K: Key> Queues<K> {
 
     /// The last place goes again, with what waits there.
     pub fn pop(&mut self)
-        ensures { (before : Queued K) (queue : Option (List (MessageValue K)))
-            → self.old ≡ before ++ queue ∷ [] → self.new ≡ before }
+        ensures { self.new ≡ take (length self.old - 1) self.old }
     {
         let _ = self.queues.pop();
     }
@@ -184,6 +183,49 @@ impl<K: Key> Queues<K> {
         ensures places { length self.new ≡ length self.old }
     {
         drop_first(&mut self.queues, face);
+    }
+
+    /// The oldest message that waits at a place goes, where one is named, and then messages wait, each where
+    /// its face ends an open link. The only error is want of memory, and then nothing is changed.
+    pub fn take_and_add(
+        &mut self,
+        alloc: Global,
+        taken: Option<u32>,
+        sent: &[Sent<K>],
+    ) -> Result<(), Memory>
+        ensures ok { OnOk result (waiting_from 1 self.new
+            ≡ with_printed sent.now (without_taken taken (waiting_from 1 self.old))) }
+        ensures places { length self.new ≡ length self.old }
+        ensures err { OnErr result (self.new ≡ self.old) }
+    {
+        let waits = self.if_waiting(taken);
+        self.add(alloc, sent)?;
+        self.drop_taken(waits);
+        Ok(())
+    }
+
+    // The place, where a message waits there.
+    fn if_waiting(&self, taken: Option<u32>) -> Option<u32>
+        ensures { (sent : List (SentValue K)) → without_taken result (with_printed sent (waiting_from 1 self.now))
+            ≡ with_printed sent (without_taken taken (waiting_from 1 self.now)) }
+    {
+        match taken {
+            None => None,
+            Some(face) => match self.first(face) {
+                None => None,
+                Some(_) => Some(face),
+            },
+        }
+    }
+
+    // The oldest message that waits at a place goes, where one is named.
+    fn drop_taken(&mut self, taken: Option<u32>)
+        ensures waits { waiting_from 1 self.new ≡ without_taken taken (waiting_from 1 self.old) }
+        ensures places { length self.new ≡ length self.old }
+    {
+        if let Some(face) = taken {
+            self.drop_first(face);
+        }
     }
 
     /// A place ends no link any more, and what waits there goes.
