@@ -6,12 +6,13 @@ use crate::queues::copy_messages;
 use crate::state::{FabricState, LinkState, NodeState, PlaceState, QueueState};
 use std::alloc::Global;
 use zt_keys::{Key, Memory};
+use zt_twins::TwinState;
 
 fn copy_node<K: Key>(alloc: Global, node: &NodeState<K>) -> Result<NodeState<K>, Memory>
     ensures { IfOk result (λ copy. copy ≡ node.now) }
 {
     Ok(NodeState {
-        rows: node.rows.copy(alloc)?,
+        twin: TwinState::new(node.rows().copy(alloc)?),
         south: copy_south(alloc, &node.south)?,
         name: copy_name(alloc, &node.name)?,
     })

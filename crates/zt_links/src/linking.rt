@@ -35,8 +35,8 @@ fn peer_of<K: Key>(alloc: Global, node: &NodeState<K>) -> Result<TransportPeer, 
     ensures { IfOk result (λ peer. plain_peer peer ≡ peer_of node.now) }
 {
     Ok(TransportPeer {
-        zid: node.rows.zid(),
-        whatami: node.rows.mode(),
+        zid: node.rows().zid(),
+        whatami: node.rows().mode(),
         links: Vec::new(alloc),
         region_name: copy_name(alloc, &node.name)?,
     })
@@ -107,8 +107,8 @@ pub(crate) fn end_call<K: Key>(
 {
     match answer {
         Ok((region, remote_bound)) => Some(Call::NewTransport {
-            zid: other.rows.zid(),
-            whatami: other.rows.mode(),
+            zid: other.rows().zid(),
+            whatami: other.rows().mode(),
             region: *region,
             remote_bound: *remote_bound,
             first,

@@ -3,7 +3,6 @@ ghost use Rattle.std.specs.Prelude.{◌≡◌, ◌+◌, ◌<◌, true, false, []
 ghost use Rattle.zt_model.specs.Fabric.{after_hearing, altered_at, call_at, opened_at, said_at, sorted_by_face, with_place, with_waiting};
 ghost use Rattle.zt_model.specs.Lists.{nth};
 ghost use Rattle.zt_model.specs.Places.{Node};
-ghost use Rattle.zt_model.specs.Says.{said};
 ghost use Rattle.zt_protocol.specs.Plain.{plain_call};
 ghost use Rattle.zt_laws.specs.Order.{FabricIsInOrder};
 ghost use Rattle.zt_laws.specs.Sound.{opens_face, rows_after_call};
@@ -16,49 +15,15 @@ use crate::queues::queues_after;
 use crate::sorting::sort_by_face;
 use crate::state::FabricState;
 use std::alloc::Global;
-use zt_calls::carry_out;
 use zt_keys::{Key, Memory};
-use zt_protocol::{Call, Message, Sent};
+use zt_protocol::{Call, Sent};
 use zt_state::GatewayState;
-
-/// A gateway after a call, and what the call says.
-#[derive(Drop)]
-struct Called<K: Key> {
-    rows: GatewayState<K>,
-    sends: Vec<(u32, Message<K>)>,
-}
 
 /// A gateway after a call, and what the call says as it is printed.
 #[derive(Drop)]
 pub(crate) struct Prepared<K: Key> {
     pub(crate) rows: GatewayState<K>,
     pub(crate) printed: Vec<Sent<K>>,
-}
-
-fn opens_face<K: Key>(call: &Call<K>) -> bool
-    ensures { result ≡ opens_face (plain_call call.now) }
-{
-    matches!(call, Call::NewSession { .. } | Call::NewTransport { .. })
-}
-
-/// Carries out a call on a copy of its gateway.
-fn call_on_copy<K: Key>(
-    alloc: Global,
-    g: &GatewayState<K>,
-    call: &Call<K>,
-) -> Result<Called<K>, Memory>
-    ensures rows { IfOk result (λ called. called.rows
-        ≡ rows_after_call K.cmp K.matching (plain_call call.now) g.now) }
-    ensures sends { IfOk result (λ called. called.sends.items
-        ≡ said K.cmp K.matching (plain_call call.now) g.now) }
-{
-    // A face has a place, and there are fewer places than numbers: this is never so.
-    if opens_face(call) && g.made() == u32::MAX {
-        return Err(Memory);
-    }
-    let mut rows = g.copy(alloc)?;
-    let sends = carry_out(alloc, &mut rows, call)?;
-    Ok(Called { rows, sends })
 }
 
 /// The oldest message of a face's link is taken. After want of memory nothing is changed.
@@ -78,25 +43,26 @@ pub(crate) fn take_message<K: Key>(
     Ok(())
 }
 
-/// Carries out a call on a copy of the gateway of a number.
+/// Carries out a call beside the gateway of a number, and nothing is changed.
 pub(crate) fn prepare<K: Key>(
     alloc: Global,
-    s: &FabricState<K>,
+    s: &mut FabricState<K>,
     at: usize,
     gateway: u32,
     call: &Call<K>,
 ) -> Result<Prepared<K>, Memory>
-    requires within { at < length s.now.gateways }
+    requires within { at < length s.old.gateways }
     requires counted { gateway ≡ at + 1 }
-    ensures rows { IfOk result (λ prepared. (node : Node K) → nth gateway s.now.gateways ≡ Some node
+    ensures rows { IfOk result (λ prepared. (node : Node K) → nth gateway s.old.gateways ≡ Some node
         → prepared.rows ≡ rows_after_call K.cmp K.matching (plain_call call.now) node.rows) }
     ensures printed { IfOk result (λ prepared. prepared.printed.items
-        ≡ said_at K.cmp K.matching s.now (call_at s.now gateway (plain_call call.now))) }
+        ≡ said_at K.cmp K.matching s.old (call_at s.old gateway (plain_call call.now))) }
+    ensures same { s.new ≡ s.old }
 {
-    let called = call_on_copy(alloc, s.gateways()[at].rows(), call)?;
-    let printed = print_all(alloc, s.places(), gateway, called.sends)?;
+    let ahead = s.prepare_at(alloc, at, call)?;
+    let printed = print_all(alloc, s.places(), gateway, ahead.said)?;
     Ok(Prepared {
-        rows: called.rows,
+        rows: ahead.state,
         printed,
     })
 }
@@ -121,7 +87,7 @@ pub(crate) fn carry_at<K: Key>(
     let prepared = prepare(alloc, s, at, gateway, call)?;
     let sent = sort_by_face(alloc, prepared.printed)?;
     let waiting = queues_after(alloc, s.waiting(), taken, sent.as_slice())?;
-    let _ = s.put_rows(at, prepared.rows);
+    s.commit_at(alloc, at, prepared.rows, call);
     s.put_waiting(waiting);
     Ok(sent)
 }

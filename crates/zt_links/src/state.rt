@@ -1,22 +1,25 @@
 // What a fabric keeps: gateways, the places of their faces, links, and what waits on them.
-ghost use Rattle.std.specs.Prelude.{◌≡◌, ◌+◌, ◌<◌, ◌++◌, [], ◌∷◌, false, true, Some, length, vec_len, OnOk, OnErr};
+ghost use Rattle.std.specs.Prelude.{◌≡◌, ◌+◌, ◌<◌, ◌++◌, [], ◌∷◌, false, true, Some, length, vec_len, IfOk, OnOk, OnErr};
 ghost use Rattle.zt_model.specs.Fabric.{at_nth, empty_fabric, with_gateway, with_rows};
 ghost use Rattle.zt_model.specs.Lists.{nth};
 ghost use Rattle.zt_region.specs.South.{plain_south as plain_south_of};
 ghost use Rattle.zt_model.specs.Places.{Fabric as FabricValue, Node, Place};
+ghost use Rattle.zt_model.specs.Says.{said};
+ghost use Rattle.zt_protocol.specs.Plain.{plain_call};
+ghost use Rattle.zt_laws.specs.Sound.{rows_after_call};
 
 use std::alloc::Global;
 use std::marker::Model;
-use std::mem;
 use zt_keys::{Key, Memory};
-use zt_protocol::Message;
+use zt_protocol::{Call, Message};
 use zt_region::SouthConf;
 use zt_state::GatewayState;
+use zt_twins::{Ahead, TwinState};
 
 /// A gateway with what its links are made by: its configuration of the south, and its name.
 #[derive(Drop)]
 pub(crate) struct NodeState<K: Key> {
-    pub(crate) rows: GatewayState<K>,
+    pub(crate) twin: TwinState<K>,
     pub(crate) south: SouthConf,
     pub(crate) name: Option<String>,
 }
@@ -28,7 +31,7 @@ impl<K: Key> Model for NodeState<K> {
 
     ghost Value = { Node K };
 
-    ghost view = { λ n. record { rows = n.rows; south = plain_south n.south; name = option_map string_bytes n.name } };
+    ghost view = { λ n. record { rows = n.twin; south = plain_south n.south; name = option_map string_bytes n.name } };
 }
 
 impl<K: Key> NodeState<K> {
@@ -36,7 +39,7 @@ impl<K: Key> NodeState<K> {
     pub(crate) fn rows(&self) -> &GatewayState<K>
         ensures { result.now ≡ self.now.rows }
     {
-        &self.rows
+        self.twin.state()
     }
 
     /// The configuration of the south.
@@ -158,6 +161,39 @@ impl<K: Key> FabricState<K> {
         self.waiting.as_slice()
     }
 
+    /// Carries a call out beside a gateway, which is unchanged.
+    pub(crate) fn prepare_at(
+        &mut self,
+        alloc: Global,
+        at: usize,
+        call: &Call<K>,
+    ) -> Result<Ahead<K>, Memory>
+        requires { at < length self.old.gateways }
+        ensures state { IfOk result (λ ahead. (node : Node K) → nth (at + 1) self.old.gateways ≡ Some node
+            → ahead.state ≡ rows_after_call K.cmp K.matching (plain_call call.now) node.rows) }
+        ensures said { IfOk result (λ ahead. (node : Node K) → nth (at + 1) self.old.gateways ≡ Some node
+            → ahead.said.items ≡ said K.cmp K.matching (plain_call call.now) node.rows) }
+        ensures same { self.new ≡ self.old }
+    {
+        prepare_in(alloc, &mut self.gateways, at, call)
+    }
+
+    /// A gateway keeps the rows that a call leaves which was carried out beside it.
+    pub(crate) fn commit_at(
+        &mut self,
+        alloc: Global,
+        at: usize,
+        rows: GatewayState<K>,
+        call: &Call<K>,
+    )
+        requires within { at < length self.old.gateways }
+        requires after { (node : Node K) → nth (at + 1) self.old.gateways ≡ Some node
+            → rows ≡ rows_after_call K.cmp K.matching (plain_call call.now) node.rows }
+        ensures { self.new ≡ with_rows (at + 1) (λ _. rows) self.old }
+    {
+        commit_in(alloc, &mut self.gateways, at, rows, call);
+    }
+
     /// A gateway's rows are replaced; answers the former ones.
     pub(crate) fn put_rows(&mut self, at: usize, rows: GatewayState<K>) -> GatewayState<K>
         requires { at < length self.old.gateways }
@@ -229,6 +265,39 @@ impl<K: Key> FabricState<K> {
     }
 }
 
+fn prepare_in<K: Key>(
+    alloc: Global,
+    gateways: &mut Vec<NodeState<K>>,
+    at: usize,
+    call: &Call<K>,
+) -> Result<Ahead<K>, Memory>
+    requires { at < vec_len gateways.old }
+    ensures state { IfOk result (λ ahead. (node : Node K) → nth (at + 1) gateways.old.items ≡ Some node
+        → ahead.state ≡ rows_after_call K.cmp K.matching (plain_call call.now) node.rows) }
+    ensures said { IfOk result (λ ahead. (node : Node K) → nth (at + 1) gateways.old.items ≡ Some node
+        → ahead.said.items ≡ said K.cmp K.matching (plain_call call.now) node.rows) }
+    ensures same { gateways.new.items ≡ gateways.old.items }
+{
+    let node = &mut gateways[at];
+    node.twin.prepare(alloc, call)
+}
+
+fn commit_in<K: Key>(
+    alloc: Global,
+    gateways: &mut Vec<NodeState<K>>,
+    at: usize,
+    rows: GatewayState<K>,
+    call: &Call<K>,
+)
+    requires within { at < vec_len gateways.old }
+    requires after { (node : Node K) → nth (at + 1) gateways.old.items ≡ Some node
+        → rows ≡ rows_after_call K.cmp K.matching (plain_call call.now) node.rows }
+    ensures { gateways.new.items ≡ at_nth (at + 1) (λ node. record node { rows = rows }) gateways.old.items }
+{
+    let node = &mut gateways[at];
+    node.twin.commit(alloc, rows, call);
+}
+
 fn put_rows_at<K: Key>(
     gateways: &mut Vec<NodeState<K>>,
     at: usize,
@@ -239,7 +308,7 @@ fn put_rows_at<K: Key>(
     ensures former { (node : Node K) → nth (at + 1) gateways.old.items ≡ Some node → result ≡ node.rows }
 {
     let node = &mut gateways[at];
-    mem::replace(&mut node.rows, rows)
+    node.twin.put(rows)
 }
 
 fn shut_link_at(links: &mut Vec<LinkState>, at: usize)

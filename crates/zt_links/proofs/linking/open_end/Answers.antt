@@ -44,7 +44,8 @@ returns-in_ok-prepared-in-Some-clause-does g c =
     let there = member_there n c.in-Some.at s.gateways c.gateways-in-Some.result.now item.result c.in-Some.ensures.counted c.gateways-in-Some.ensures within item.is in
     let placed : c.push_place.new.self ≡ with_place n s = c.in_ok-push_place-in-Some.ensures.ok ∙ placed_next n item.result s c.in_ok-face-in-Some.face there (c.in_ok-face-in-Some.ensures ∙ ap (λ rows. rows.made + 1) c.rows.ensures) in
     let still : nth n c.push_place.new.self.gateways ≡ Some item.result = ap (λ (t : Fabric _). nth n t.gateways) placed ∙ there in
-    let put : c.put_rows.new.self ≡ with_rows n (λ _. prepared.prepared.rows) c.push_place.new.self = rw c.in-Some.ensures.counted c.put_rows.ensures.put in
+    let put : c.put_rows.new.self ≡ with_rows n (λ _. prepared.prepared.rows) c.push_place.new.self =
+    (rw c.in-Some.ensures.counted c.put_rows.ensures.put) ∙ ap (with_rows n (λ _. prepared.prepared.rows)) prepared.ensures.same in
     put
     ∙ ap (with_rows n (λ _. prepared.prepared.rows)) placed
     ∙ end_opened cmp matching g.met.K.Ord.total n item.result call s prepared.prepared.rows there c.requires.opens c.requires.order (prepared.ensures.rows item.result still)

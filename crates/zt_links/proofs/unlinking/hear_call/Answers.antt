@@ -19,7 +19,8 @@ returns-in_ok-prepared-in-Some-clause-does g c =
     let n = c.args.gateway in
     let prepared = c.in_ok-prepared-in-Some in
     let member = some_member n c.in-Some.at s.gateways c.in-Some.ensures.counted (rw c.gateways.ensures at c.in-Some.ensures.within) in
-    let put : c.put_rows.new.self ≡ with_rows n (λ _. prepared.prepared.rows) s = rw c.in-Some.ensures.counted c.put_rows.ensures.put in
+    let put : c.put_rows.new.self ≡ with_rows n (λ _. prepared.prepared.rows) s =
+    (rw c.in-Some.ensures.counted c.put_rows.ensures.put) ∙ ap (with_rows n (λ _. prepared.prepared.rows)) prepared.ensures.same in
     put
     ∙ ap (λ gateways. record s { gateways = gateways })
     (rows_put g.K.Ord.cmp g.K.Key.matching g.met.K.Ord.total n member.0 (plain_call c.args.call.now) s prepared.prepared.rows member.1 (prepared.ensures.rows member.0 member.1))
