@@ -11,7 +11,6 @@ ghost use Rattle.zt_links.specs.Lines.{carried, made_at, said_sorted, taken_by};
 use crate::calls::CallMade;
 use crate::places::place_of_number;
 use crate::printing::print_all;
-use crate::queues::queues_after;
 use crate::sorting::sort_by_face;
 use crate::state::FabricState;
 use std::alloc::Global;
@@ -26,21 +25,13 @@ pub(crate) struct Prepared<K: Key> {
     pub(crate) printed: Vec<Sent<K>>,
 }
 
-/// The oldest message of a face's link is taken. After want of memory nothing is changed.
-pub(crate) fn take_message<K: Key>(
-    alloc: Global,
-    s: &mut FabricState<K>,
-    taken: Option<u32>,
-) -> Result<(), Memory>
-    ensures ok { OnOk result (s.new ≡ taken_by taken s.old) }
-    ensures err { OnErr result (s.new ≡ s.old) }
+/// The oldest message of a face's link is taken, where one is named.
+pub(crate) fn take_message<K: Key>(s: &mut FabricState<K>, taken: Option<u32>)
+    ensures { s.new ≡ taken_by taken s.old }
 {
-    if taken.is_some() {
-        let nothing = Vec::new(alloc);
-        let waiting = queues_after(alloc, s.waiting(), taken, nothing.as_slice())?;
-        s.put_waiting(waiting);
+    if let Some(face) = taken {
+        s.take_waiting(face);
     }
-    Ok(())
 }
 
 /// Carries out a call beside the gateway of a number, and nothing is changed.
@@ -86,9 +77,8 @@ pub(crate) fn carry_at<K: Key>(
 {
     let prepared = prepare(alloc, s, at, gateway, call)?;
     let sent = sort_by_face(alloc, prepared.printed)?;
-    let waiting = queues_after(alloc, s.waiting(), taken, sent.as_slice())?;
+    s.turn_waiting(alloc, taken, sent.as_slice())?;
     s.commit_at(alloc, at, prepared.rows, call);
-    s.put_waiting(waiting);
     Ok(sent)
 }
 
@@ -110,12 +100,12 @@ pub(crate) fn make_call<K: Key>(
     ensures err { OnErr result (s.new ≡ s.old) }
 {
     let Some(made) = made else {
-        take_message(alloc, s, taken)?;
+        take_message(s, taken);
         return Ok(Vec::new(alloc));
     };
     match place_of_number(s.gateways(), made.gateway) {
         None => {
-            take_message(alloc, s, taken)?;
+            take_message(s, taken);
             Ok(Vec::new(alloc))
         }
         Some(at) => carry_at(alloc, s, taken, at, made.gateway, &made.call),
@@ -147,7 +137,7 @@ fn open_at<K: Key>(
     ensures err { OnErr result (s.new ≡ s.old) }
 {
     let face = next_face(s.gateways()[at].rows())?;
-    s.push_place(gateway, face)?;
+    s.push_place(alloc, gateway, face)?;
     match carry_at(alloc, s, None, at, gateway, call) {
         Ok(sent) => Ok(sent),
         Err(error) => {

@@ -1,7 +1,7 @@
 use Rattle.std.proofs.Common.{◌≡◌, None}
 use Rattle.zt_model.specs.Lists.{nth}
 use Rattle.zt_links.proofs.Closings.{unlink_nothing_does, unlink_nothing_says}
-use Rattle.zt_links.proofs.unlinking.unlink_draft.Goals as goal
+use Rattle.zt_links.proofs.unlinking.unlink.Goals as goal
 
 pub returns-in-None-clause-says : goal.returns-in-None-clause-says
 returns-in-None-clause-says g c =
