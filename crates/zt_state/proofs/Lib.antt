@@ -1,5 +1,4 @@
 mod Heard
-mod Keyed
 mod Numbered
 pub mod OwnRows
 mod Regions

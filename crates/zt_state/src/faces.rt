@@ -5,10 +5,9 @@ ghost use Rattle.zt_model.specs.Parts.{with_face};
 ghost use Rattle.zt_model.specs.Routing.{ended, initial_finalised, unheld};
 ghost use Rattle.zt_model.specs.Telling.{unregistered};
 
-use crate::face::FaceState;
 use crate::gateway::GatewayState;
-use crate::rows::drop_id;
 use crate::walk::{FaceChange, change_face};
+use zt_face::FaceState;
 use zt_keys::Key;
 use zt_protocol::{InterestId, TokenId};
 
@@ -21,7 +20,7 @@ impl<K: Key> FaceChange<K> for Unregister {
     ghost changed = { λ c. unregistered c.0 };
 
     fn change(&self, f: &mut FaceState<K>) {
-        drop_id(&mut f.live, self.0);
+        f.unregister(self.0);
     }
 }
 
@@ -34,7 +33,7 @@ impl<K: Key> FaceChange<K> for Unhold {
     ghost changed = { λ c. unheld c.0 };
 
     fn change(&self, f: &mut FaceState<K>) {
-        drop_id(&mut f.held, self.0);
+        f.unhold(self.0);
     }
 }
 
@@ -47,7 +46,7 @@ impl<K: Key> FaceChange<K> for EndPending {
     ghost changed = { λ c. ended c.0 };
 
     fn change(&self, f: &mut FaceState<K>) {
-        drop_id(&mut f.pendings, self.0);
+        f.end_pending(self.0);
     }
 }
 
@@ -60,9 +59,7 @@ impl<K: Key> FaceChange<K> for FinaliseInitial {
     ghost changed = { λ c. initial_finalised c.0 };
 
     fn change(&self, f: &mut FaceState<K>) {
-        if self.0 == 0 && f.initial.is_some() {
-            f.initial = Some(true);
-        }
+        f.finalise_initial(self.0);
     }
 }
 
@@ -75,7 +72,7 @@ impl<K: Key> FaceChange<K> for DropAsks {
     ghost changed = { λ _. without_asks };
 
     fn change(&self, f: &mut FaceState<K>) {
-        f.asks.clear();
+        f.drop_asks();
     }
 }
 
@@ -83,7 +80,7 @@ impl<K: Key> FaceChange<K> for DropAsks {
 fn is_other<K: Key>(f: &FaceState<K>, number: u32) -> bool
     ensures { result ≡ not (number == f.now.number) }
 {
-    number != f.number
+    number != f.number()
 }
 
 // The face of the number goes.

@@ -3,9 +3,9 @@ ghost use Rattle.std.specs.Prelude.{◌≡◌, [], IfOk};
 ghost use Rattle.zt_model.specs.Fabric.{new_rows};
 ghost use Rattle.zt_protocol.specs.Plain.{trees_of};
 
-use crate::face::FaceState;
 use std::alloc::Global;
 use std::marker::Model;
+use zt_face::FaceState;
 use zt_keys::{Key, Memory};
 use zt_protocol::TreeTable;
 use zt_region::{Admission, Region, WhatAmI, Zid};

@@ -4,17 +4,13 @@
 
 mod asking;
 mod copying;
-mod face;
 mod faces;
 mod gateway;
 mod hearing;
-mod interest;
 mod numbers;
 mod opening;
 mod routed;
-mod rows;
 mod walk;
 
-pub use face::{AskState, FaceState, PendingInterest};
 pub use gateway::{GatewayState, KeptTable, RoutedToken};
-pub use interest::RemoteInterest;
+pub use zt_face::{AskState, FaceState, PendingInterest, RemoteInterest};

@@ -4,12 +4,10 @@ ghost use Rattle.zt_model.specs.Entities.{entity_expressions, numbered_with, wit
 ghost use Rattle.zt_model.specs.Lists.{is_among};
 ghost use Rattle.zt_model.specs.Parts.{with_face};
 
-use crate::copying::{copy_keys, copy_queryables};
-use crate::face::FaceState;
 use crate::gateway::GatewayState;
-use crate::hearing::is_among;
 use crate::walk::{FaceAddition, add_to_face};
 use std::alloc::Global;
+use zt_face::{FaceState, is_among};
 use zt_keys::{Key, Memory};
 use zt_protocol::QueryableInfo;
 
@@ -67,23 +65,6 @@ fn number_entities<K: Key>(
 {
     number_keys(alloc, known, subscribers)?;
     number_queryables(alloc, known, queryables)
-}
-
-impl<K: Key> FaceState<K> {
-    // The face's entities are replaced. The only error is want of memory.
-    fn set_entities(
-        &mut self,
-        alloc: Global,
-        subscribers: &[K],
-        queryables: &[(K, QueryableInfo)],
-    ) -> Result<(), Memory>
-        ensures { OnOk result (self.new
-            ≡ record self.old { subscribers = subscribers.now; queryables = queryables.now }) }
-    {
-        self.subscribers = copy_keys(alloc, subscribers)?;
-        self.queryables = copy_queryables(alloc, queryables)?;
-        Ok(())
-    }
 }
 
 // The entities that a face is to have.

@@ -3,9 +3,9 @@ ghost use Rattle.std.specs.Prelude.{◌≡◌, ◌<◌, ◌+◌, ◌^◌, OnOk};
 ghost use Rattle.zt_model.specs.Parts.{opened_session};
 ghost use Rattle.zt_model.specs.Routing.{initial_of, opened};
 
-use crate::face::FaceState;
 use crate::gateway::GatewayState;
 use std::alloc::Global;
+use zt_face::FaceState;
 use zt_keys::{Key, Memory};
 use zt_region::{Bound, Region, WhatAmI, Zid};
 

@@ -1,8 +1,8 @@
 // Going over the faces with a change of one.
 ghost use Rattle.std.specs.Prelude.{◌≡◌, ◌==◌, if◌then◌else◌, map, OnOk};
 
-use crate::face::FaceState;
 use std::alloc::Global;
+use zt_face::FaceState;
 use zt_keys::{Key, Memory};
 
 // A change of a face that takes no memory.
@@ -35,7 +35,7 @@ fn change_numbered<K: Key, C: FaceChange<K>>(f: &mut FaceState<K>, number: u32, 
     ensures { f.new
         ≡ (if number == f.old.number then C.changed change.now f.old else f.old) }
 {
-    if number == f.number {
+    if number == f.number() {
         change.change(f);
     }
 }
@@ -78,7 +78,7 @@ fn add_numbered<K: Key, C: FaceAddition<K>>(
     ensures { OnOk result (f.new
         ≡ (if number == f.old.number then C.added addition.now f.old else f.old)) }
 {
-    if number == f.number {
+    if number == f.number() {
         addition.add(alloc, f)?;
     }
     Ok(())

@@ -1,5 +1,5 @@
 use Rattle.std.proofs.Common.{◌≡◌, take}
-use Rattle.zt_state.proofs.copying.copy_all.Given as goal
+use Rattle.zt_face.proofs.copying.copy_all.Given as goal
 
 -- those so far are copied
 abbrev pub invariant-loop-value : goal.invariant-loop-value

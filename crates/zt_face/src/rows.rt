@@ -42,7 +42,7 @@ fn place_of<Q: Ord, A>(rows: &[(Q, A)], key: &Q) -> Result<usize, usize>
 
 /// Puts a value under a key, in place of the one that stands there, if any. The only error is want
 /// of memory.
-pub(crate) fn put_row<Q: Ord + Drop, A: Drop>(
+pub fn put_row<Q: Ord + Drop, A: Drop>(
     rows: &mut Vec<(Q, A)>,
     key: Q,
     value: A,

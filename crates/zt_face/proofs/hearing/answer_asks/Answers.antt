@@ -1,8 +1,8 @@
 use Rattle.std.proofs.Common.{◌<◌, ◌≤◌, length, arith}
 use Rattle.std.proofs.lemmas.List.Edits.{map_over_more}
 use Rattle.zt_model.specs.Hearing.{with_answer}
-use Rattle.zt_state.proofs.Walks.{map_over_done}
-use Rattle.zt_state.proofs.hearing.answer_asks.Goals as goal
+use Rattle.zt_face.proofs.Walks.{map_over_done}
+use Rattle.zt_face.proofs.hearing.answer_asks.Goals as goal
 
 pub loop-row-preserved : goal.loop-row-preserved
 loop-row-preserved g c =

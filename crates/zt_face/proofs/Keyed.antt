@@ -5,7 +5,7 @@ use Rattle.std.proofs.lemmas.List.{get_or_read, length-take-le, take-append-drop
 use Rattle.std.specs.FinMap.Entries.{put}
 use Rattle.std.specs.declared.cmp.Ordering.{Ordering}
 use Rattle.std.specs.declared.cmp.Ordering.TheVariants.{Equal}
-use Rattle.zt_state.proofs.Walks.{drop_item}
+use Rattle.zt_face.proofs.Walks.{drop_item}
 
 -- the row at an equal key keeps its key and gets the value
 pub put_there : {Q A : Type 0} (cmp : Q → Q → Ordering) (key : Q) (value : A) (rows : List (Q × A)) (i : ℕ) (row other : Q × A)

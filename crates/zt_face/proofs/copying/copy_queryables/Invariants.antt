@@ -1,5 +1,5 @@
 use Rattle.std.proofs.Common.{◌≡◌, take}
-use Rattle.zt_state.proofs.copying.copy_queryables.Given as goal
+use Rattle.zt_face.proofs.copying.copy_queryables.Given as goal
 
 -- those so far are copied
 abbrev pub invariant-loop-queryable : goal.invariant-loop-queryable

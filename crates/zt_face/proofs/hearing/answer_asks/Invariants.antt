@@ -1,6 +1,6 @@
 use Rattle.std.proofs.Common.{◌≡◌, ◌++◌, drop, take, map}
 use Rattle.zt_model.specs.Hearing.{with_answer}
-use Rattle.zt_state.proofs.hearing.answer_asks.Given as goal
+use Rattle.zt_face.proofs.hearing.answer_asks.Given as goal
 
 -- those passed are answered, the others aren't
 abbrev pub invariant-loop-row : goal.invariant-loop-row

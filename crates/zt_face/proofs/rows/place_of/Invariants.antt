@@ -1,6 +1,6 @@
 use Rattle.std.proofs.Common.{◌≡◌, ◌++◌, drop, take}
 use Rattle.std.specs.FinMap.Entries.{put}
-use Rattle.zt_state.proofs.rows.place_of.Given as goal
+use Rattle.zt_face.proofs.rows.place_of.Given as goal
 
 -- the key's place is behind those so far
 abbrev pub invariant-loop-place : goal.invariant-loop-place

@@ -1,6 +1,6 @@
 use Rattle.std.proofs.Common.{◌<◌, arith, length, sym}
-use Rattle.zt_state.proofs.Keyed.{put_there}
-use Rattle.zt_state.proofs.rows.place_of.Goals as goal
+use Rattle.zt_face.proofs.Keyed.{put_there}
+use Rattle.zt_face.proofs.rows.place_of.Goals as goal
 
 pub returns-in-Equal-clause-there : goal.returns-in-Equal-clause-there
 returns-in-Equal-clause-there g c value row =
