@@ -1,2 +1,3 @@
-mod Keyed
-mod Walks
+mod Answered
+mod ById
+mod Told

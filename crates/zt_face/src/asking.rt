@@ -7,7 +7,7 @@ ghost use Rattle.zt_model.specs.Telling.{registered};
 
 use crate::face::{AskState, FaceState};
 use crate::interest::RemoteInterest;
-use crate::rows::put_row;
+use crate::rows::RowsById;
 use std::alloc::Global;
 use zt_keys::{Key, Memory};
 use zt_protocol::{InterestId, TokenId};
@@ -15,15 +15,15 @@ use zt_protocol::{InterestId, TokenId};
 // Holds an interest that asks for what comes later. The only error is want of memory.
 fn put_held<K: Key>(
     alloc: Global,
-    held: &mut Vec<(u32, RemoteInterest<K>)>,
+    held: &mut RowsById<RemoteInterest<K>>,
     id: u32,
     interest: &RemoteInterest<K>,
 ) -> Result<(), Memory>
-    ensures { OnOk result (held.new.items
-        ≡ put_if (is_future interest.now.mode) id interest.now held.old.items) }
+    ensures { OnOk result (held.new
+        ≡ put_if (is_future interest.now.mode) id interest.now held.old) }
 {
     if interest.mode().is_future() {
-        put_row(held, id, interest.copy(alloc)?)?;
+        held.put(id, interest.copy(alloc)?)?;
     }
     Ok(())
 }
@@ -31,20 +31,20 @@ fn put_held<K: Key>(
 // Asks by an interest that asks for what is there now. The only error is want of memory.
 fn put_ask<K: Key>(
     alloc: Global,
-    asks: &mut Vec<(u32, AskState<K>)>,
+    asks: &mut RowsById<AskState<K>>,
     id: u32,
     interest: &RemoteInterest<K>,
     pendings: &[(u32, u32)],
 ) -> Result<(), Memory>
-    ensures { OnOk result (asks.new.items
+    ensures { OnOk result (asks.new
         ≡ put_if (is_current interest.now.mode) id
         (record { interest = interest.now; pendings = pendings.now; answered = [] })
-        asks.old.items) }
+        asks.old) }
 {
     if interest.mode().is_current() {
         let interest = interest.copy(alloc)?;
         let pendings = pendings.to_vec(alloc)?;
-        put_row(asks, id, AskState::new(alloc, interest, pendings))?;
+        asks.put(id, AskState::new(alloc, interest, pendings))?;
     }
     Ok(())
 }
@@ -54,7 +54,7 @@ impl<K: Key> FaceState<K> {
     pub fn register(&mut self, alloc: Global, id: TokenId, expr: &K) -> Result<(), Memory>
         ensures { OnOk result (self.new ≡ registered id expr.now self.old) }
     {
-        put_row(&mut self.live, id, expr.copy(alloc)?)
+        self.live.put(id, expr.copy(alloc)?)
     }
 
     /// The face holds an interest that asks for what comes later, and asks one that asks for what is

@@ -3,6 +3,7 @@ ghost use Rattle.std.specs.Prelude.{◌≡◌, IfOk};
 
 use crate::face::{AskState, FaceState, PendingInterest};
 use crate::interest::RemoteInterest;
+use crate::rows::RowsById;
 use std::alloc::Global;
 use zt_keys::{Key, Memory};
 use zt_protocol::QueryableInfo;
@@ -19,12 +20,12 @@ pub fn copy_keys<K: Key>(alloc: Global, keys: &[K]) -> Result<Vec<K>, Memory>
 }
 
 // Equal keys under equal ids. The only error is want of memory.
-fn copy_key_rows<K: Key>(alloc: Global, rows: &[(u32, K)]) -> Result<Vec<(u32, K)>, Memory>
-    ensures { IfOk result (λ copies. copies.items ≡ rows.now) }
+fn copy_key_rows<K: Key>(alloc: Global, rows: &RowsById<K>) -> Result<RowsById<K>, Memory>
+    ensures { IfOk result (λ copies. copies ≡ rows.now) }
 {
-    let mut copies = Vec::new(alloc);
-    for row in rows {
-        copies.push((row.0, row.1.copy(alloc)?))?;
+    let mut copies = RowsById::new(alloc);
+    for (id, key) in rows.iter() {
+        copies.put(*id, key.copy(alloc)?)?;
     }
     Ok(copies)
 }
@@ -59,6 +60,17 @@ pub fn copy_all<T: Duplicate>(alloc: Global, values: &[T]) -> Result<Vec<T>, Mem
     let mut copies = Vec::new(alloc);
     for value in values {
         copies.push(value.duplicate(alloc)?)?;
+    }
+    Ok(copies)
+}
+
+// Equal rows under equal ids. The only error is want of memory.
+fn copy_rows<T: Duplicate>(alloc: Global, rows: &RowsById<T>) -> Result<RowsById<T>, Memory>
+    ensures { IfOk result (λ copies. copies ≡ rows.now) }
+{
+    let mut copies = RowsById::new(alloc);
+    for (id, row) in rows.iter() {
+        copies.put(*id, row.duplicate(alloc)?)?;
     }
     Ok(copies)
 }
@@ -100,12 +112,12 @@ impl<K: Key> Duplicate for FaceState<K> {
             mode: self.mode,
             zid: self.zid,
             next: self.next,
-            live: copy_key_rows(alloc, self.live.as_slice())?,
-            told: copy_key_rows(alloc, self.told.as_slice())?,
-            held: copy_all(alloc, self.held.as_slice())?,
-            locals: copy_all(alloc, self.locals.as_slice())?,
-            pendings: copy_all(alloc, self.pendings.as_slice())?,
-            asks: copy_all(alloc, self.asks.as_slice())?,
+            live: copy_key_rows(alloc, &self.live)?,
+            told: self.told.copy(alloc)?,
+            held: copy_rows(alloc, &self.held)?,
+            locals: copy_rows(alloc, &self.locals)?,
+            pendings: copy_rows(alloc, &self.pendings)?,
+            asks: copy_rows(alloc, &self.asks)?,
             initial: self.initial,
             subscribers: copy_keys(alloc, self.subscribers.as_slice())?,
             queryables: copy_queryables(alloc, self.queryables.as_slice())?,

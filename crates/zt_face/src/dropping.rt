@@ -5,7 +5,6 @@ ghost use Rattle.zt_model.specs.Routing.{ended, initial_finalised, unheld};
 ghost use Rattle.zt_model.specs.Telling.{unregistered};
 
 use crate::face::FaceState;
-use crate::rows::drop_id;
 use zt_keys::Key;
 use zt_protocol::{InterestId, TokenId};
 
@@ -14,21 +13,21 @@ impl<K: Key> FaceState<K> {
     pub fn unregister(&mut self, id: TokenId)
         ensures { self.new ≡ unregistered id self.old }
     {
-        drop_id(&mut self.live, id);
+        self.live.remove(id);
     }
 
     /// The face holds the interest of the id no more.
     pub fn unhold(&mut self, id: InterestId)
         ensures { self.new ≡ unheld id self.old }
     {
-        drop_id(&mut self.held, id);
+        self.held.remove(id);
     }
 
     /// The interest that the face was sent under the id is finished.
     pub fn end_pending(&mut self, id: InterestId)
         ensures { self.new ≡ ended id self.old }
     {
-        drop_id(&mut self.pendings, id);
+        self.pendings.remove(id);
     }
 
     /// A final with the id 0 finalises the initial interest, where the face has one.

@@ -3,6 +3,8 @@ ghost use Rattle.std.specs.Prelude.{◌≡◌, [], IfOk};
 ghost use Rattle.zt_model.specs.Parts.{new_face};
 
 use crate::interest::RemoteInterest;
+use crate::local::LocalTokens;
+use crate::rows::RowsById;
 use std::alloc::Global;
 use std::marker::Model;
 use zt_keys::{Key, Memory};
@@ -109,12 +111,12 @@ pub struct FaceState<K: Key> {
     pub(crate) mode: WhatAmI,
     pub(crate) zid: Zid,
     pub(crate) next: u32,
-    pub(crate) live: Vec<(u32, K)>,
-    pub(crate) told: Vec<(u32, K)>,
-    pub(crate) held: Vec<(u32, RemoteInterest<K>)>,
-    pub(crate) locals: Vec<(u32, RemoteInterest<K>)>,
-    pub(crate) pendings: Vec<(u32, PendingInterest)>,
-    pub(crate) asks: Vec<(u32, AskState<K>)>,
+    pub(crate) live: RowsById<K>,
+    pub(crate) told: LocalTokens<K>,
+    pub(crate) held: RowsById<RemoteInterest<K>>,
+    pub(crate) locals: RowsById<RemoteInterest<K>>,
+    pub(crate) pendings: RowsById<PendingInterest>,
+    pub(crate) asks: RowsById<AskState<K>>,
     pub(crate) initial: Option<bool>,
     pub(crate) subscribers: Vec<K>,
     pub(crate) queryables: Vec<(K, QueryableInfo)>,
@@ -132,12 +134,12 @@ impl<K: Key> Model for FaceState<K> {
       mode = f.mode;
       zid = f.zid;
       next = f.next;
-      live = f.live.items;
-      told = f.told.items;
-      held = f.held.items;
-      locals = f.locals.items;
-      pendings = f.pendings.items;
-      asks = f.asks.items;
+      live = f.live;
+      told = f.told;
+      held = f.held;
+      locals = f.locals;
+      pendings = f.pendings;
+      asks = f.asks;
       initial = f.initial;
       subscribers = f.subscribers.items;
       queryables = f.queryables.items;
@@ -165,12 +167,12 @@ impl<K: Key> FaceState<K> {
             mode,
             zid,
             next: first,
-            live: Vec::new(alloc),
-            told: Vec::new(alloc),
-            held: Vec::new(alloc),
-            locals: Vec::new(alloc),
-            pendings: Vec::new(alloc),
-            asks: Vec::new(alloc),
+            live: RowsById::new(alloc),
+            told: LocalTokens::new(alloc),
+            held: RowsById::new(alloc),
+            locals: RowsById::new(alloc),
+            pendings: RowsById::new(alloc),
+            asks: RowsById::new(alloc),
             initial,
             subscribers: Vec::new(alloc),
             queryables: Vec::new(alloc),
@@ -220,42 +222,42 @@ impl<K: Key> FaceState<K> {
     }
 
     /// The tokens that the face declares, each under its id.
-    pub fn live(&self) -> &[(u32, K)]
+    pub fn live(&self) -> &RowsById<K>
         ensures { result.now ≡ self.now.live }
     {
         &self.live
     }
 
     /// The tokens that the face was told, each under its id.
-    pub fn told(&self) -> &[(u32, K)]
+    pub fn told(&self) -> &LocalTokens<K>
         ensures { result.now ≡ self.now.told }
     {
         &self.told
     }
 
     /// The interests that the face holds, each under its id.
-    pub fn held(&self) -> &[(u32, RemoteInterest<K>)]
+    pub fn held(&self) -> &RowsById<RemoteInterest<K>>
         ensures { result.now ≡ self.now.held }
     {
         &self.held
     }
 
     /// The future-mode interests that the face was sent, each under its id.
-    pub fn locals(&self) -> &[(u32, RemoteInterest<K>)]
+    pub fn locals(&self) -> &RowsById<RemoteInterest<K>>
         ensures { result.now ≡ self.now.locals }
     {
         &self.locals
     }
 
     /// The current-mode interests that the face was sent and hasn't finished, each under its id.
-    pub fn pendings(&self) -> &[(u32, PendingInterest)]
+    pub fn pendings(&self) -> &RowsById<PendingInterest>
         ensures { result.now ≡ self.now.pendings }
     {
         &self.pendings
     }
 
     /// The face's own interests whose final wasn't sent, each under its id.
-    pub fn asks(&self) -> &[(u32, AskState<K>)]
+    pub fn asks(&self) -> &RowsById<AskState<K>>
         ensures { result.now ≡ self.now.asks }
     {
         &self.asks

@@ -1,13 +1,13 @@
 // What a face hears: what a message changes at the face that it is sent to.
-ghost use Rattle.std.specs.Prelude.{◌≡◌, ◌==◌, ◌&&◌, ◌||◌, ◌∷◌, ◌++◌, [], not, filter, map, IfOk, OnOk};
-ghost use Rattle.std.specs.List.{list_any};
+ghost use Rattle.std.specs.Prelude.{◌≡◌, map, IfOk, OnOk};
+ghost use Rattle.zt_face.specs.Told.{answered_with};
 ghost use Rattle.zt_model.specs.Hearing.{asks_answered, heard, next_after, put_if, told_pair, untold, with_answer};
-ghost use Rattle.zt_model.specs.Lists.{is_among, same, without_id};
+ghost use Rattle.zt_model.specs.Lists.{is_among, without_id};
 ghost use Rattle.zt_protocol.specs.Interest.{is_current, is_future};
 
 use crate::face::{AskState, FaceState, PendingInterest};
 use crate::interest::RemoteInterest;
-use crate::rows::{drop_id, put_row};
+use crate::rows::RowsById;
 use std::alloc::Global;
 use zt_keys::{Key, Memory};
 use zt_protocol::{InterestMode, InterestOptions, Message, copy_expression};
@@ -22,68 +22,6 @@ fn next_after(id: u32, next: u32) -> Result<u32, Memory>
     }
 }
 
-// Whether a row is the pair of an id and an expression.
-fn is_pair<K: Key>(row: &(u32, K), id: u32, expr: &K) -> bool
-    ensures { result ≡ (id == row.now.0 && same K.cmp expr.now row.now.1) }
-{
-    id == row.0 && expr == &row.1
-}
-
-// Whether the pair of id and expression is there.
-fn has_pair<K: Key>(told: &[(u32, K)], id: u32, expr: &K) -> bool
-    ensures { result ≡ list_any (λ row. id == row.0 && same K.cmp expr.now row.1) told.now }
-{
-    told.iter().any(|row| is_pair(row, id, expr))
-}
-
-// Whether a pair of id and expression isn't kept, as with the id 0, or is there already.
-fn is_told_pair<K: Key>(told: &[(u32, K)], id: u32, expr: &K) -> bool
-    ensures { result
-        ≡ (id == 0 || list_any (λ row. id == row.0 && same K.cmp expr.now row.1) told.now) }
-{
-    id == 0 || has_pair(told, id, expr)
-}
-
-// A face is told a pair of id and expression, which is there once. The only error is want of
-// memory.
-fn tell_pair<K: Key>(
-    alloc: Global,
-    told: &mut Vec<(u32, K)>,
-    id: u32,
-    expr: &K,
-) -> Result<(), Memory>
-    ensures { OnOk result (told.new.items ≡ told_pair K.cmp id expr.now told.old.items) }
-{
-    if !is_told_pair(told.as_slice(), id, expr) {
-        told.push((id, expr.copy(alloc)?))?;
-    }
-    Ok(())
-}
-
-// Whether a row's expression is another.
-fn is_of_other<K: Key>(row: &(u32, K), expr: &K) -> bool
-    ensures { result ≡ not (same K.cmp expr.now row.now.1) }
-{
-    expr != &row.1
-}
-
-// The pairs of an expression go.
-fn drop_expression<K: Key>(told: &mut Vec<(u32, K)>, expr: &K)
-    ensures { told.new.items ≡ filter (λ row. not (same K.cmp expr.now row.1)) told.old.items }
-{
-    told.retain(|row| is_of_other(row, expr));
-}
-
-// A face is told that the pairs of an id, or of an expression, are gone.
-fn untell<K: Key>(told: &mut Vec<(u32, K)>, id: u32, expr: &Option<K>)
-    ensures { told.new.items ≡ untold K.cmp id expr.now told.old.items }
-{
-    match expr {
-        None => drop_id(told, id),
-        Some(expr) => drop_expression(told, expr),
-    }
-}
-
 /// Whether an expression is among others.
 pub fn is_among<K: Key>(expr: &K, exprs: &[K]) -> bool
     ensures { result ≡ is_among K.cmp expr.now exprs.now }
@@ -91,44 +29,29 @@ pub fn is_among<K: Key>(expr: &K, exprs: &[K]) -> bool
     exprs.iter().any(|other| expr == other)
 }
 
-// An ask of the id is answered an expression. The only error is want of memory.
-fn answer_ask<K: Key>(
-    alloc: Global,
-    row: &mut (u32, AskState<K>),
-    id: u32,
-    expr: &K,
-) -> Result<(), Memory>
-    ensures { OnOk result (row.new ≡ with_answer K.cmp id expr.now row.old) }
-{
-    if id == row.0 && !is_among(expr, row.1.answered()) {
-        row.1.add_answer(expr.copy(alloc)?)?;
-    }
-    Ok(())
-}
-
-// The asks of the id are answered an expression. The only error is want of memory.
+// The ask of the id is answered an expression. The only error is want of memory.
 fn answer_asks<K: Key>(
     alloc: Global,
-    asks: &mut Vec<(u32, AskState<K>)>,
+    asks: &mut RowsById<AskState<K>>,
     id: u32,
     expr: &K,
 ) -> Result<(), Memory>
-    ensures { OnOk result (asks.new.items ≡ map (with_answer K.cmp id expr.now) asks.old.items) }
+    ensures { OnOk result (asks.new ≡ map (with_answer K.cmp id expr.now) asks.old) }
 {
-    for row in asks.iter_mut() {
-        answer_ask(alloc, row, id, expr)?;
+    match asks.rows.get_mut(&id) {
+        None => Ok(()),
+        Some(ask) => ask.answer(alloc, expr),
     }
-    Ok(())
 }
 
 // Asks are answered, where the message answers one. The only error is want of memory.
 fn answer_named<K: Key>(
     alloc: Global,
-    asks: &mut Vec<(u32, AskState<K>)>,
+    asks: &mut RowsById<AskState<K>>,
     id: Option<u32>,
     expr: &K,
 ) -> Result<(), Memory>
-    ensures { OnOk result (asks.new.items ≡ asks_answered K.cmp id expr.now asks.old.items) }
+    ensures { OnOk result (asks.new ≡ asks_answered K.cmp id expr.now asks.old) }
 {
     match id {
         None => Ok(()),
@@ -140,19 +63,19 @@ fn answer_named<K: Key>(
 // memory.
 fn put_future<K: Key>(
     alloc: Global,
-    rows: &mut Vec<(u32, RemoteInterest<K>)>,
+    rows: &mut RowsById<RemoteInterest<K>>,
     id: u32,
     mode: InterestMode,
     options: InterestOptions,
     expr: &Option<K>,
 ) -> Result<(), Memory>
-    ensures { OnOk result (rows.new.items
+    ensures { OnOk result (rows.new
         ≡ put_if (is_future mode) id
-        (record { mode = mode; options = options; expr = expr.now }) rows.old.items) }
+        (record { mode = mode; options = options; expr = expr.now }) rows.old) }
 {
     if mode.is_future() {
         let expr = copy_expression(expr, alloc)?;
-        put_row(rows, id, RemoteInterest::new(mode, options, expr))?;
+        rows.put(id, RemoteInterest::new(mode, options, expr))?;
     }
     Ok(())
 }
@@ -160,27 +83,28 @@ fn put_future<K: Key>(
 // Puts a pending, where the interest that was sent asks for what is there now. The only error is
 // want of memory.
 fn put_pending(
-    rows: &mut Vec<(u32, PendingInterest)>,
+    rows: &mut RowsById<PendingInterest>,
     id: u32,
     mode: InterestMode,
     moment: u64,
 ) -> Result<(), Memory>
-    ensures { OnOk result (rows.new.items
-        ≡ put_if (is_current mode) id (record { mode = mode; since = moment }) rows.old.items) }
+    ensures { OnOk result (rows.new
+        ≡ put_if (is_current mode) id (record { mode = mode; since = moment }) rows.old) }
 {
     if mode.is_current() {
-        put_row(rows, id, PendingInterest::new(mode, moment))?;
+        rows.put(id, PendingInterest::new(mode, moment))?;
     }
     Ok(())
 }
 
 impl<K: Key> AskState<K> {
-    // An expression is answered. The only error is want of memory.
-    fn add_answer(&mut self, expr: K) -> Result<(), Memory>
-        ensures { OnOk result (self.new
-            ≡ record self.old { answered = self.old.answered ++ expr ∷ [] }) }
+    // An expression is answered, which is there once. The only error is want of memory.
+    fn answer(&mut self, alloc: Global, expr: &K) -> Result<(), Memory>
+        ensures { OnOk result (self.new ≡ answered_with K.cmp expr.now self.old) }
     {
-        self.answered.push(expr)?;
+        if !is_among(expr, self.answered.as_slice()) {
+            self.answered.push(expr.copy(alloc)?)?;
+        }
         Ok(())
     }
 }
@@ -201,7 +125,7 @@ impl<K: Key> FaceState<K> {
         }) }
     {
         self.next = next_after(id, self.next)?;
-        tell_pair(alloc, &mut self.told, id, expr)?;
+        self.told.tell(alloc, id, expr)?;
         answer_named(alloc, &mut self.asks, interest, expr)
     }
 
@@ -232,21 +156,21 @@ impl<K: Key> FaceState<K> {
     fn hear_gone(&mut self, id: u32, expr: &Option<K>)
         ensures { self.new ≡ record self.old { told = untold K.cmp id expr.now self.old.told } }
     {
-        untell(&mut self.told, id, expr);
+        self.told.untell(id, expr);
     }
 
     // The ask of the face ends.
     fn hear_final(&mut self, id: u32)
         ensures { self.new ≡ record self.old { asks = without_id id self.old.asks } }
     {
-        drop_id(&mut self.asks, id);
+        self.asks.remove(id);
     }
 
     // An interest that the face was sent ends.
     fn hear_interest_final(&mut self, id: u32)
         ensures { self.new ≡ record self.old { locals = without_id id self.old.locals } }
     {
-        drop_id(&mut self.locals, id);
+        self.locals.remove(id);
     }
 
     /// The face is sent a message, at this moment. The only error is want of memory, or of ids.

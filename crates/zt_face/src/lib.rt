@@ -9,10 +9,12 @@ mod entities;
 mod face;
 mod hearing;
 mod interest;
+mod local;
 mod rows;
 
 pub use copying::{Duplicate, copy_all, copy_keys};
 pub use face::{AskState, FaceState, PendingInterest};
 pub use hearing::is_among;
 pub use interest::RemoteInterest;
-pub use rows::put_row;
+pub use local::LocalTokens;
+pub use rows::RowsById;

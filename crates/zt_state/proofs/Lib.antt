@@ -1,4 +1,5 @@
 mod Heard
+mod Keyed
 mod Numbered
 pub mod OwnRows
 mod Regions

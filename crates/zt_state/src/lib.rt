@@ -10,7 +10,8 @@ mod hearing;
 mod numbers;
 mod opening;
 mod routed;
+mod rows;
 mod walk;
 
 pub use gateway::{GatewayState, KeptTable, RoutedToken};
-pub use zt_face::{AskState, FaceState, PendingInterest, RemoteInterest};
+pub use zt_face::{AskState, FaceState, LocalTokens, PendingInterest, RemoteInterest, RowsById, is_among};

@@ -8,9 +8,9 @@ ghost use Rattle.zt_model.specs.Trees.{is_left_out, is_listed, is_routed_row, re
 ghost use Rattle.zt_state.specs.OwnRows.{is_own_in, without_own_in};
 
 use crate::gateway::{GatewayState, KeptTable, RoutedToken};
+use crate::rows::put_row;
 use std::alloc::Global;
 use std::cmp::Ordering;
-use zt_face::put_row;
 use zt_keys::{Key, Memory};
 use zt_protocol::TreeTable;
 use zt_region::{Region, Zid};

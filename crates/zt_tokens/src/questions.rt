@@ -3,16 +3,16 @@ ghost use Rattle.std.specs.Prelude.{◌≡◌, ◌&&◌, not};
 ghost use Rattle.std.specs.List.{list_any};
 ghost use Rattle.std.specs.Option.{option_copied};
 ghost use Rattle.zt_model.specs.Lists.{same};
-ghost use Rattle.zt_model.specs.Parts.{find_face, is_routed, told_id};
+ghost use Rattle.zt_model.specs.Parts.{find_face, is_routed};
 ghost use Rattle.zt_model.specs.Strategy.{strategy_of, is_client_hat, is_router_hat};
 ghost use Rattle.zt_model.specs.Telling.{is_told};
 ghost use Rattle.zt_model.specs.Visible.{is_visible, keeps, shows};
-ghost use Rattle.zt_model.specs.Wants.{asks_token, seeks, wants};
+ghost use Rattle.zt_model.specs.Wants.{seeks, wants};
 ghost use Rattle.zt_region.specs.Region.{zid_eq};
 
 use zt_keys::Key;
 use zt_region::{Region, WhatAmI, Zid};
-use zt_state::{FaceState, GatewayState, RemoteInterest, RoutedToken};
+use zt_state::{FaceState, GatewayState, RoutedToken, RowsById};
 
 /// The open face with this number.
 pub fn find_face<K: Key>(g: &GatewayState<K>, number: u32) -> Option<&FaceState<K>>
@@ -30,14 +30,7 @@ pub fn find_face<K: Key>(g: &GatewayState<K>, number: u32) -> Option<&FaceState<
 pub fn keeps<K: Key>(f: &FaceState<K>, expr: &K) -> bool
     ensures { result ≡ keeps K.cmp f.now expr.now }
 {
-    f.told().iter().any(|row| expr == &row.1)
-}
-
-// Whether a held interest asks for tokens of the expression.
-fn asks<K: Key>(row: &(u32, RemoteInterest<K>), expr: &K) -> bool
-    ensures { result ≡ asks_token K.matching row.now.1 expr.now }
-{
-    row.1.asks_token(expr)
+    f.told().has(expr)
 }
 
 /// Whether the face holds an interest in the expression's tokens.
@@ -45,7 +38,7 @@ fn asks<K: Key>(row: &(u32, RemoteInterest<K>), expr: &K) -> bool
 pub fn wants<K: Key>(f: &FaceState<K>, expr: &K) -> bool
     ensures { result ≡ wants K.matching f.now expr.now }
 {
-    f.held().iter().any(|row| asks(row, expr))
+    f.held().iter().any(|(_, interest)| interest.asks_token(expr))
 }
 
 /// Whether the face may be told of the expression.
@@ -106,24 +99,11 @@ pub fn is_told<K: Key>(g: &GatewayState<K>, source: Region, expr: &K, f: &FaceSt
         && seeks(f, expr)
 }
 
-/// The id under which a face was told an expression: the first in this list of told rows.
-#[tactic(auto, unfolding(zt_model::specs::Parts::told_id))]
-pub fn told_id<K: Key>(told: &[(u32, K)], expr: &K) -> Option<u32>
-    ensures { result ≡ told_id K.cmp expr.now told.now }
-{
-    for row in told {
-        if expr == &row.1 {
-            return Some(row.0);
-        }
-    }
-    None
-}
-
 // Whether some row is of the expression.
-fn has_expression<K: Key>(rows: &[(u32, K)], expr: &K) -> bool
+fn has_expression<K: Key>(rows: &RowsById<K>, expr: &K) -> bool
     ensures { result ≡ list_any (λ row. same K.cmp expr.now row.1) rows.now }
 {
-    rows.iter().any(|row| expr == &row.1)
+    rows.iter().any(|(_, other)| expr == other)
 }
 
 // Whether the face declares the expression and stands in a region that `own` is shown.

@@ -4,27 +4,23 @@ ghost use Rattle.std.specs.List.{flat_map};
 ghost use Rattle.zt_model.specs.Visible.{visible_expressions};
 ghost use Rattle.zt_tokens.specs.Gathered.{shown_of, shown_row, with_keys};
 
-use crate::ordering::insert_in_order;
+use crate::ordering::KeysInOrder;
 use crate::questions::shows;
 use std::alloc::Global;
 use zt_keys::{Key, Memory};
 use zt_region::{Region, Zid};
-use zt_state::{FaceState, GatewayState, RoutedToken};
+use zt_state::{FaceState, GatewayState, RoutedToken, RowsById};
 
-/// Puts the expressions of these tokens in their places among keys in order, each once. The only error
-/// is want of memory.
-pub fn insert_live<K: Key>(
+// Puts the expressions of these tokens in their places among keys in order.
+fn insert_live<K: Key>(
     alloc: Global,
-    live: &[(u32, K)],
-    keys: &mut Vec<K>,
+    live: &RowsById<K>,
+    keys: &mut KeysInOrder<K>,
 ) -> Result<(), Memory>
-    ensures { OnOk result (keys.new.items
-        ≡ with_keys K.cmp (map (λ row. row.1) live.now) keys.old.items) }
+    ensures { OnOk result (keys.new ≡ with_keys K.cmp (map (λ row. row.1) live.now) keys.old) }
 {
-    let mut left = live.len();
-    while left > 0 {
-        left -= 1;
-        insert_in_order(alloc, keys, &live[left].1)?;
+    for (_, expr) in live.iter().rev() {
+        keys.insert(alloc, expr)?;
     }
     Ok(())
 }
@@ -34,9 +30,9 @@ fn insert_shown<K: Key>(
     alloc: Global,
     own: Region,
     f: &FaceState<K>,
-    keys: &mut Vec<K>,
+    keys: &mut KeysInOrder<K>,
 ) -> Result<(), Memory>
-    ensures { OnOk result (keys.new.items ≡ with_keys K.cmp (shown_of own f.now) keys.old.items) }
+    ensures { OnOk result (keys.new ≡ with_keys K.cmp (shown_of own f.now) keys.old) }
 {
     if shows(own, f.region()) {
         insert_live(alloc, f.live(), keys)?;
@@ -49,10 +45,10 @@ fn insert_faces<K: Key>(
     alloc: Global,
     own: Region,
     faces: &[FaceState<K>],
-    keys: &mut Vec<K>,
+    keys: &mut KeysInOrder<K>,
 ) -> Result<(), Memory>
-    ensures { OnOk result (keys.new.items
-        ≡ with_keys K.cmp (flat_map (shown_of own) faces.now) keys.old.items) }
+    ensures { OnOk result (keys.new
+        ≡ with_keys K.cmp (flat_map (shown_of own) faces.now) keys.old) }
 {
     let mut left = faces.len();
     while left > 0 {
@@ -68,13 +64,13 @@ fn insert_row<K: Key>(
     zid: Zid,
     own: Region,
     row: &RoutedToken<K>,
-    keys: &mut Vec<K>,
+    keys: &mut KeysInOrder<K>,
 ) -> Result<(), Memory>
-    ensures { OnOk result (keys.new.items
-        ≡ with_keys K.cmp (shown_row zid own row.now) keys.old.items) }
+    ensures { OnOk result (keys.new
+        ≡ with_keys K.cmp (shown_row zid own row.now) keys.old) }
 {
     if row.source() != zid && shows(own, row.region()) {
-        insert_in_order(alloc, keys, row.expr())?;
+        keys.insert(alloc, row.expr())?;
     }
     Ok(())
 }
@@ -85,10 +81,10 @@ fn insert_rows<K: Key>(
     zid: Zid,
     own: Region,
     rows: &[RoutedToken<K>],
-    keys: &mut Vec<K>,
+    keys: &mut KeysInOrder<K>,
 ) -> Result<(), Memory>
-    ensures { OnOk result (keys.new.items
-        ≡ with_keys K.cmp (flat_map (shown_row zid own) rows.now) keys.old.items) }
+    ensures { OnOk result (keys.new
+        ≡ with_keys K.cmp (flat_map (shown_row zid own) rows.now) keys.old) }
 {
     let mut left = rows.len();
     while left > 0 {
@@ -107,8 +103,8 @@ pub fn visible_expressions<K: Key>(
 ) -> Result<Vec<K>, Memory>
     ensures { IfOk result (λ exprs. exprs.items ≡ visible_expressions K.cmp g.now own) }
 {
-    let mut exprs = Vec::new(alloc);
+    let mut exprs = KeysInOrder::new(alloc);
     insert_rows(alloc, g.zid(), own, g.routed(), &mut exprs)?;
     insert_faces(alloc, own, g.faces(), &mut exprs)?;
-    Ok(exprs)
+    exprs.into_vec(alloc)
 }

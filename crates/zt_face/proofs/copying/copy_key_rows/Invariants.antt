@@ -1,6 +1,6 @@
-use Rattle.std.proofs.Common.{◌≡◌, take}
+use Rattle.std.proofs.Common.{◌≡◌, ◌++◌}
 use Rattle.zt_face.proofs.copying.copy_key_rows.Given as goal
 
--- those so far are copied
-abbrev pub invariant-loop-row : goal.invariant-loop-row
-invariant-loop-row g l = l.copies.items ≡ take l.row-index l.rows
+-- those so far and those left are all
+abbrev pub invariant-loop-id : goal.invariant-loop-id
+invariant-loop-id g l = l.copies ++ l.id-iterator ≡ l.rows

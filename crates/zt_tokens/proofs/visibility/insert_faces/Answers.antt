@@ -9,5 +9,5 @@ loop-left-preserved g c =
     let pos : 0 < c.loop-left.left = c.loop-left-test.true in
     record {
       within = omega arith;
-      placed = rw (with_keys-one_more g.K.Ord.cmp (shown_of c.args.own) c.args.faces.now c.loop-left.left c.index-faces-left.result c.args.keys.now.items pos within c.index-faces-left.is, ← c.loop-left.invariant.placed) c.in_ok-insert_shown.ensures;
+      placed = rw (with_keys-one_more g.K.Ord.cmp (shown_of c.args.own) c.args.faces.now c.loop-left.left c.index-faces-left.result c.args.keys.now pos within c.index-faces-left.is, ← c.loop-left.invariant.placed) c.in_ok-insert_shown.ensures;
     }

@@ -1,13 +1,7 @@
-use Rattle.std.proofs.Common.{◌≡◌, ◌≤◌, drop, map, length}
+use Rattle.std.proofs.Common.{◌≡◌, map}
 use Rattle.zt_tokens.specs.Gathered.{with_keys}
 use Rattle.zt_tokens.proofs.visibility.insert_live.Given as goal
 
--- those passed, from the last on, are in their places
-abbrev pub invariant-loop-left : goal.invariant-loop-left
-invariant-loop-left g l = record {
-  within : l.left ≤ length l.live;
-  placed : l.keys.items ≡ with_keys g.K.Ord.cmp (map (λ row. row.1) (drop l.left l.live)) l.fn.keys.items;
-}
-
-abbrev pub decreases-loop-left : goal.decreases-loop-left
-decreases-loop-left g l = l.left
+-- with those left, from the last on, all are in their places
+abbrev pub invariant-loop-expr : goal.invariant-loop-expr
+invariant-loop-expr g l = with_keys g.K.Ord.cmp (map (λ row. row.1) l.expr-iterator.iter) l.keys ≡ with_keys g.K.Ord.cmp (map (λ row. row.1) l.live) l.fn.keys

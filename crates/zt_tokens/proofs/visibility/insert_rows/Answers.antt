@@ -9,5 +9,5 @@ loop-left-preserved g c =
     let pos : 0 < c.loop-left.left = c.loop-left-test.true in
     record {
       within = omega arith;
-      placed = rw (with_keys-one_more g.K.Ord.cmp (shown_row c.args.zid c.args.own) c.args.rows.now c.loop-left.left c.index-rows-left.result c.args.keys.now.items pos within c.index-rows-left.is, ← c.loop-left.invariant.placed) c.in_ok-insert_row.ensures;
+      placed = rw (with_keys-one_more g.K.Ord.cmp (shown_row c.args.zid c.args.own) c.args.rows.now c.loop-left.left c.index-rows-left.result c.args.keys.now pos within c.index-rows-left.is, ← c.loop-left.invariant.placed) c.in_ok-insert_row.ensures;
     }

@@ -6,7 +6,7 @@ use Rattle.zt_tokens.proofs.visibility.insert_rows.Given as goal
 abbrev pub invariant-loop-left : goal.invariant-loop-left
 invariant-loop-left g l = record {
   within : l.left ≤ length l.rows;
-  placed : l.keys.items ≡ with_keys g.K.Ord.cmp (flat_map (shown_row l.zid l.own) (drop l.left l.rows)) l.fn.keys.items;
+  placed : l.keys ≡ with_keys g.K.Ord.cmp (flat_map (shown_row l.zid l.own) (drop l.left l.rows)) l.fn.keys;
 }
 
 abbrev pub decreases-loop-left : goal.decreases-loop-left
