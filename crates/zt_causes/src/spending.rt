@@ -30,12 +30,7 @@ pub(crate) fn left_ids<K: Key>(f: &FaceState<K>) -> u32
 // ---- tokens
 
 // Whether a token that the face declares for the interest answers an ask for what comes later too.
-fn is_answered_for_later<K: Key>(
-    ask: &AskState<K>,
-    face: u32,
-    id: InterestId,
-    expr: &K,
-) -> bool
+fn is_answered_for_later<K: Key>(ask: &AskState<K>, face: u32, id: InterestId, expr: &K) -> bool
     ensures { result
         ≡ (is_future ask.now.interest.mode
         && is_answered_by K.cmp K.matching face id expr.now ask.now) }

@@ -141,12 +141,7 @@ fn waits<K: Key>(g: &GatewayState<K>, ask: &AskState<K>) -> bool
 }
 
 // Whether the ask had this pending, and has none any more.
-fn is_finished_by<K: Key>(
-    g: &GatewayState<K>,
-    face: u32,
-    id: InterestId,
-    ask: &AskState<K>,
-) -> bool
+fn is_finished_by<K: Key>(g: &GatewayState<K>, face: u32, id: InterestId, ask: &AskState<K>) -> bool
     ensures { result ≡ is_finished_by g.now face id ask.now }
 {
     was_sent_as(ask, face, id) && !waits(g, ask)

@@ -14,4 +14,6 @@ mod rows;
 mod walk;
 
 pub use gateway::{GatewayState, KeptTable, RoutedToken};
-pub use zt_face::{AskState, FaceState, LocalTokens, PendingInterest, RemoteInterest, RowsById, is_among};
+pub use zt_face::{
+    AskState, FaceState, LocalTokens, PendingInterest, RemoteInterest, RowsById, is_among,
+};

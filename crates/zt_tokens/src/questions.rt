@@ -38,7 +38,9 @@ pub fn keeps<K: Key>(f: &FaceState<K>, expr: &K) -> bool
 pub fn wants<K: Key>(f: &FaceState<K>, expr: &K) -> bool
     ensures { result ≡ wants K.matching f.now expr.now }
 {
-    f.held().iter().any(|(_, interest)| interest.asks_token(expr))
+    f.held()
+        .iter()
+        .any(|(_, interest)| interest.asks_token(expr))
 }
 
 /// Whether the face may be told of the expression.
