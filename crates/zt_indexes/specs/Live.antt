@@ -3,7 +3,7 @@
 --     count_at cmp e region counts        how many of its rows stand in the region
 --     HasOneMore, HasOneLess              one row more, or one less, of an expression in a region, and all else stays
 --     shown_keys shown counts             the expressions of rows in regions that pass a test
-use Rattle.std.specs.Prelude.{◌≡◌, ℕ, ◌+◌, ◌-◌, Bool, ◌&&◌, ◌⊎◌, true, if◌then◌else◌, List, [], None, unwrap_or, map, filter}
+use Rattle.std.specs.Prelude.{◌≡◌, ℕ, ◌+◌, ◌-◌, Bool, ◌&&◌, ◌⊎◌, true, if◌then◌else◌, List, [], Some, None, unwrap_or, map, filter}
 use Rattle.std.specs.BTreeMap.{is_at}
 use Rattle.std.specs.Map.{lookup}
 use Rattle.std.specs.Ordering.{is_eq}
@@ -36,6 +36,10 @@ module _ {K : Type 0} (cmp : K → K → Ordering) where
   -- the counts of an expression are gone, and all else stays
   pub record IsWithout {X : Type 0} (e : K) (old new : List (K × X)) : Type 0 where
     pub at : (key : K) → lookup (is_at (cmp key)) new ≡ (if is_at (cmp e) key then None else lookup (is_at (cmp key)) old)
+
+  -- these counts stand under an expression, and all else stays
+  pub record IsWith {X : Type 0} (e : K) (x : X) (old new : List (K × X)) : Type 0 where
+    pub at : (key : K) → lookup (is_at (cmp key)) new ≡ (if is_at (cmp e) key then Some x else lookup (is_at (cmp key)) old)
 
 -- the expressions of rows in regions that pass
 abbrev pub shown_keys : {K : Type 0} → (Region → Bool) → List (K × List (Region × ℕ)) → List K

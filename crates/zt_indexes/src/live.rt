@@ -1,7 +1,9 @@
 // How many live rows of each expression stand in each region.
 ghost use Rattle.std.specs.Prelude.{◌≡◌, ◌∷◌, ◌++◌, [], false, if◌then◌else◌, true, IfOk, OnErr, OnOk};
+ghost use Rattle.std.specs.List.Sorted.{IsStrictlySortedBy};
+ghost use Rattle.std.specs.Map.{keys_of};
 ghost use Rattle.zt_indexes.specs.Counted.{is_shown_in};
-ghost use Rattle.zt_indexes.specs.Live.{HasOneLess, HasOneMore, HasRowsOrNoKey, IsWithout, counts_at, shown_keys};
+ghost use Rattle.zt_indexes.specs.Live.{HasOneLess, HasOneMore, HasRowsOrNoKey, IsWith, IsWithout, counts_at, shown_keys};
 
 use crate::regions::RegionCounts;
 use std::alloc::Global;
@@ -62,6 +64,20 @@ fn drop_key<K: Key>(keys: &mut BTreeMap<K, RegionCounts>, expr: &K)
     ensures { IsWithout K.cmp expr.now keys.old.entries keys.new.entries }
 {
     drop(keys.remove(expr));
+}
+
+// Equal counts stand under the expression. The only error is want of memory.
+fn put_copy<K: Key>(
+    alloc: Global,
+    keys: &mut BTreeMap<K, RegionCounts>,
+    expr: &K,
+    counts: &RegionCounts,
+) -> Result<(), Memory>
+    ensures with { OnOk result (IsWith K.cmp expr.now counts.now keys.old.entries keys.new.entries) }
+    ensures in_order { OnOk result (IsStrictlySortedBy K.cmp (keys_of keys.new.entries)) }
+{
+    drop(keys.insert(expr.copy(alloc)?, counts.copy(alloc)?)?);
+    Ok(())
 }
 
 // Adds the expression where some of its rows stand in a region that passes. The only error is want of memory.
@@ -135,12 +151,24 @@ impl<K: Key> LiveCounts<K> {
     /// The expressions of rows in regions that pass, in key order, each once. The only error is want of
     /// memory.
     pub fn shown_keys<T: RegionTest>(&self, alloc: Global, test: &T) -> Result<Vec<K>, Memory>
-        ensures { IfOk result (λ exprs. exprs.items ≡ shown_keys (T.passes test.now) self.now) }
+        ensures shown { IfOk result (λ exprs. exprs.items ≡ shown_keys (T.passes test.now) self.now) }
+        ensures in_order { IsStrictlySortedBy K.cmp (keys_of self.now) }
     {
         let mut exprs = Vec::new(alloc);
         for (expr, counts) in &self.keys {
             push_shown(alloc, expr, counts, test, &mut exprs)?;
         }
         Ok(exprs)
+    }
+
+    /// Equal counts. The only error is want of memory.
+    pub fn copy(&self, alloc: Global) -> Result<Self, Memory>
+        ensures { IfOk result (λ copy. copy ≡ self.now) }
+    {
+        let mut keys = BTreeMap::new(alloc);
+        for (expr, counts) in &self.keys {
+            put_copy(alloc, &mut keys, expr, counts)?;
+        }
+        Ok(LiveCounts { keys })
     }
 }

@@ -1,5 +1,5 @@
 // How many rows stand in each region.
-ghost use Rattle.std.specs.Prelude.{◌≡◌, ℕ, ◌+◌, ◌-◌, ◌<◌, ◌&&◌, ◌∷◌, ◌++◌, [], true, nat_lt, get_or, length, not, IfNone, IfSome, OnErr, OnOk};
+ghost use Rattle.std.specs.Prelude.{◌≡◌, ℕ, ◌+◌, ◌-◌, ◌<◌, ◌&&◌, ◌∷◌, ◌++◌, [], true, nat_lt, get_or, length, not, IfNone, IfOk, IfSome, OnErr, OnOk};
 ghost use Rattle.zt_region.specs.Region.{region_eq};
 ghost use Rattle.zt_region.specs.declared.region.Region.{Region};
 ghost use Rattle.zt_indexes.specs.Counted.{count_in, is_counted, is_shown_in, one_in};
@@ -142,5 +142,14 @@ impl RegionCounts {
         ensures { result ≡ not (is_shown_in (λ _. true) self.now) }
     {
         !is_shown_by(&self.rows, &Anywhere)
+    }
+
+    /// Equal counts. The only error is want of memory.
+    pub fn copy(&self, alloc: Global) -> Result<Self, Memory>
+        ensures { IfOk result (λ copy. copy ≡ self.now) }
+    {
+        Ok(RegionCounts {
+            rows: self.rows.to_vec(alloc)?,
+        })
     }
 }
