@@ -1,5 +1,8 @@
 mod Heard
+mod Kept
 mod Numbered
 pub mod OwnRows
 mod Regions
+mod Recounted
+mod Rising
 pub mod Walks

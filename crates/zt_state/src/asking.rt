@@ -1,32 +1,14 @@
-// What faces declare and ask for.
+// What faces ask for.
 ghost use Rattle.std.specs.Prelude.{◌≡◌, OnOk};
 ghost use Rattle.zt_model.specs.Parts.{with_face};
 ghost use Rattle.zt_model.specs.Routing.{asked_as};
-ghost use Rattle.zt_model.specs.Telling.{registered};
 
 use crate::gateway::GatewayState;
-use crate::walk::{FaceAddition, add_to_face};
+use crate::walk::{FaceAddition, QuietAddition};
 use std::alloc::Global;
 use zt_face::{FaceState, RemoteInterest};
 use zt_keys::{Key, Memory};
-use zt_protocol::{InterestId, TokenId};
-
-// A token that a face declares.
-#[derive(Drop)]
-struct Registers<'a, K: Key> {
-    id: TokenId,
-    expr: &'a K,
-}
-
-impl<'a, K: Key> FaceAddition<K> for Registers<'a, K> {
-    ghost use Rattle.zt_model.specs.Telling.{registered};
-
-    ghost added = { λ c. registered c.id c.expr.now };
-
-    fn add(&self, alloc: Global, f: &mut FaceState<K>) -> Result<(), Memory> {
-        f.register(alloc, self.id, self.expr)
-    }
-}
+use zt_protocol::InterestId;
 
 // An interest of a face, which was sent upstream as these.
 #[derive(Drop)]
@@ -37,31 +19,26 @@ struct Asks<'a, K: Key> {
 }
 
 impl<'a, K: Key> FaceAddition<K> for Asks<'a, K> {
+    ghost use Rattle.std.specs.Prelude.{refl};
     ghost use Rattle.zt_model.specs.Routing.{asked_as};
 
     ghost added = { λ c. asked_as c.pendings.now c.id c.interest.now };
+
+    ghost keeps_number = { λ _ _. refl };
 
     fn add(&self, alloc: Global, f: &mut FaceState<K>) -> Result<(), Memory> {
         f.ask(alloc, self.id, self.interest, self.pendings)
     }
 }
 
+impl<'a, K: Key> QuietAddition<K> for Asks<'a, K> {
+    ghost use Rattle.std.specs.Prelude.{refl};
+
+    ghost keeps_live = { λ _ _. record { number = refl; region = refl; live = refl } };
+}
+
 #[tactic(auto, unfolding(zt_model::specs::Parts::with_face))]
 impl<K: Key> GatewayState<K> {
-    /// The face declares a token under an id. The only error is want of memory.
-    pub fn register(
-        &mut self,
-        alloc: Global,
-        face: u32,
-        id: TokenId,
-        expr: &K,
-    ) -> Result<(), Memory>
-        ensures { OnOk result (self.new ≡ with_face face (registered id expr.now) self.old) }
-    {
-        let registers = Registers { id, expr };
-        add_to_face(alloc, &mut self.faces, face, &registers)
-    }
-
     /// The face holds an interest that asks for what comes later, and asks one that asks for what
     /// is there now, which was sent upstream as these, each a face and an id. The only error is
     /// want of memory.
@@ -81,6 +58,6 @@ impl<K: Key> GatewayState<K> {
             interest,
             pendings,
         };
-        add_to_face(alloc, &mut self.faces, face, &asks)
+        self.add_to_face(alloc, face, &asks)
     }
 }

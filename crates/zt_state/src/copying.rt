@@ -44,7 +44,8 @@ impl<K: Key> GatewayState<K> {
             trees: copy_all(alloc, self.trees.as_slice())?,
             routed: copy_all(alloc, self.routed.as_slice())?,
             dictionary: copy_keys(alloc, self.dictionary.as_slice())?,
-            faces: copy_all(alloc, self.faces.as_slice())?,
+            faces: self.faces.copy(alloc)?,
+            live: self.live.copy(alloc)?,
         })
     }
 }

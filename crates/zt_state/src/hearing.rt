@@ -4,7 +4,7 @@ ghost use Rattle.zt_model.specs.Hearing.{heard, rows_heard};
 ghost use Rattle.zt_model.specs.Parts.{with_face};
 
 use crate::gateway::GatewayState;
-use crate::walk::{FaceAddition, add_to_face};
+use crate::walk::{FaceAddition, QuietAddition};
 use std::alloc::Global;
 use zt_face::FaceState;
 use zt_keys::{Key, Memory};
@@ -19,12 +19,21 @@ struct Hears<'a, K: Key> {
 
 impl<'a, K: Key> FaceAddition<K> for Hears<'a, K> {
     ghost use Rattle.zt_model.specs.Hearing.{heard};
+    ghost use Rattle.zt_state.specs.Keeps.{heard-keeps};
 
     ghost added = { λ c. heard K.cmp c.moment c.message.now };
+
+    ghost keeps_number = { λ c f. (heard-keeps K.cmp c.moment c.message.now f).number };
 
     fn add(&self, alloc: Global, f: &mut FaceState<K>) -> Result<(), Memory> {
         f.hear(alloc, self.moment, self.message)
     }
+}
+
+impl<'a, K: Key> QuietAddition<K> for Hears<'a, K> {
+    ghost use Rattle.zt_state.specs.Keeps.{heard-keeps};
+
+    ghost keeps_live = { λ c f. heard-keeps K.cmp c.moment c.message.now f };
 }
 
 impl<K: Key> GatewayState<K> {
@@ -38,7 +47,7 @@ impl<K: Key> GatewayState<K> {
             moment: self.moment,
             message,
         };
-        add_to_face(alloc, &mut self.faces, face, &hears)
+        self.add_to_face(alloc, face, &hears)
     }
 
     /// A face hears a message that it is sent. The only error is want of memory, or of ids.

@@ -3,10 +3,12 @@
 #![tactic(auto)]
 
 mod asking;
+mod by_number;
 mod copying;
 mod faces;
 mod gateway;
 mod hearing;
+mod live;
 mod numbers;
 mod opening;
 mod routed;

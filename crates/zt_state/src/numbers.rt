@@ -5,7 +5,7 @@ ghost use Rattle.zt_model.specs.Lists.{is_among};
 ghost use Rattle.zt_model.specs.Parts.{with_face};
 
 use crate::gateway::GatewayState;
-use crate::walk::{FaceAddition, add_to_face};
+use crate::walk::{FaceAddition, QuietAddition};
 use std::alloc::Global;
 use zt_face::{FaceState, is_among};
 use zt_keys::{Key, Memory};
@@ -75,12 +75,22 @@ struct SetsEntities<'a, K: Key> {
 }
 
 impl<'a, K: Key> FaceAddition<K> for SetsEntities<'a, K> {
+    ghost use Rattle.std.specs.Prelude.{refl};
+
     ghost added = { λ c f.
         record f { subscribers = c.subscribers.now; queryables = c.queryables.now } };
+
+    ghost keeps_number = { λ _ _. refl };
 
     fn add(&self, alloc: Global, f: &mut FaceState<K>) -> Result<(), Memory> {
         f.set_entities(alloc, self.subscribers, self.queryables)
     }
+}
+
+impl<'a, K: Key> QuietAddition<K> for SetsEntities<'a, K> {
+    ghost use Rattle.std.specs.Prelude.{refl};
+
+    ghost keeps_live = { λ _ _. record { number = refl; region = refl; live = refl } };
 }
 
 impl<K: Key> GatewayState<K> {
@@ -110,6 +120,6 @@ impl<K: Key> GatewayState<K> {
             subscribers,
             queryables,
         };
-        add_to_face(alloc, &mut self.faces, face, &sets)
+        self.add_to_face(alloc, face, &sets)
     }
 }

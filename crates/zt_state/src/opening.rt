@@ -36,8 +36,8 @@ impl<K: Key> GatewayState<K> {
             first,
             None,
         );
+        self.faces.push(session, self.made)?;
         self.made = number;
-        self.faces.push(session)?;
         Ok(())
     }
 
@@ -57,8 +57,8 @@ impl<K: Key> GatewayState<K> {
         let number = self.made + 1;
         let initial = initial_of(self.mode, region, bound);
         let face = FaceState::new(alloc, number, region, bound, whatami, zid, first, initial);
+        self.faces.push(face, self.made)?;
         self.made = number;
-        self.faces.push(face)?;
         Ok(())
     }
 }

@@ -18,12 +18,7 @@ use zt_state::{FaceState, GatewayState, RemoteInterest, RoutedToken};
 pub fn find_face<K: Key>(g: &GatewayState<K>, number: u32) -> Option<&FaceState<K>>
     ensures { option_copied result ≡ find_face number g.now }
 {
-    for f in g.faces() {
-        if number == f.number() {
-            return Some(f);
-        }
-    }
-    None
+    g.find_face(number)
 }
 
 /// Whether the face was told the expression and not told that it is gone.
