@@ -1,18 +1,16 @@
 // Which tokens a face may see, which it asked for, and which it was told.
-ghost use Rattle.std.specs.Prelude.{◌≡◌, ◌&&◌, not};
-ghost use Rattle.std.specs.List.{list_any};
+ghost use Rattle.std.specs.Prelude.{◌≡◌};
 ghost use Rattle.std.specs.Option.{option_copied};
-ghost use Rattle.zt_model.specs.Lists.{same};
 ghost use Rattle.zt_model.specs.Parts.{find_face, is_routed, told_id};
 ghost use Rattle.zt_model.specs.Strategy.{strategy_of, is_client_hat, is_router_hat};
 ghost use Rattle.zt_model.specs.Telling.{is_told};
 ghost use Rattle.zt_model.specs.Visible.{is_visible, keeps, shows};
 ghost use Rattle.zt_model.specs.Wants.{asks_token, seeks, wants};
-ghost use Rattle.zt_region.specs.Region.{zid_eq};
 
+use zt_indexes::RegionTest;
 use zt_keys::Key;
-use zt_region::{Region, WhatAmI, Zid};
-use zt_state::{FaceState, GatewayState, RemoteInterest, RoutedToken};
+use zt_region::{Region, WhatAmI};
+use zt_state::{FaceState, GatewayState, RemoteInterest};
 
 /// The open face with this number.
 pub fn find_face<K: Key>(g: &GatewayState<K>, number: u32) -> Option<&FaceState<K>>
@@ -114,48 +112,23 @@ pub fn told_id<K: Key>(told: &[(u32, K)], expr: &K) -> Option<u32>
     None
 }
 
-// Whether some row is of the expression.
-fn has_expression<K: Key>(rows: &[(u32, K)], expr: &K) -> bool
-    ensures { result ≡ list_any (λ row. same K.cmp expr.now row.1) rows.now }
-{
-    rows.iter().any(|row| expr == &row.1)
+/// Of regions those whose tokens faces of this region are shown.
+#[derive(Drop)]
+pub struct ShownTo(pub Region);
+
+impl RegionTest for ShownTo {
+    ghost use Rattle.zt_model.specs.Visible.{shows};
+
+    ghost passes = { λ t. shows t.0 };
+
+    fn passes(&self, region: Region) -> bool {
+        shows(self.0, region)
+    }
 }
 
-// Whether the face declares the expression and stands in a region that `own` is shown.
-fn is_shown_by<K: Key>(f: &FaceState<K>, own: Region, expr: &K) -> bool
-    ensures { result ≡ (shows own f.now.region
-        && list_any (λ row. same K.cmp expr.now row.1) f.now.live) }
-{
-    shows(own, f.region()) && has_expression(f.live(), expr)
-}
-
-// Whether such a face is among these.
-fn is_shown_by_faces<K: Key>(faces: &[FaceState<K>], own: Region, expr: &K) -> bool
-    ensures { result ≡ list_any (λ f. shows own f.region
-        && list_any (λ row. same K.cmp expr.now row.1) f.live) faces.now }
-{
-    faces.iter().any(|f| is_shown_by(f, own, expr))
-}
-
-// Whether another router's row is of the expression and of a region that `own` is shown.
-fn is_shown_row<K: Key>(zid: Zid, row: &RoutedToken<K>, own: Region, expr: &K) -> bool
-    ensures { result ≡ (not (zid_eq row.now.source zid)
-        && (same K.cmp expr.now row.now.expr && shows own row.now.region)) }
-{
-    row.source() != zid && expr == row.expr() && shows(own, row.region())
-}
-
-// Whether such a row is among these.
-fn is_shown_by_rows<K: Key>(zid: Zid, rows: &[RoutedToken<K>], own: Region, expr: &K) -> bool
-    ensures { result ≡ list_any (λ row. not (zid_eq row.source zid)
-        && (same K.cmp expr.now row.expr && shows own row.region)) rows.now }
-{
-    rows.iter().any(|row| is_shown_row(zid, row, own, expr))
-}
-
-/// Whether some live token of the expression is shown to faces of the region `own`.
+/// Whether some live token of the expression is shown to faces of the region `own`. A look-up.
 pub fn is_visible<K: Key>(g: &GatewayState<K>, own: Region, expr: &K) -> bool
     ensures { result ≡ is_visible K.cmp g.now own expr.now }
 {
-    is_shown_by_faces(g.faces(), own, expr) || is_shown_by_rows(g.zid(), g.routed(), own, expr)
+    g.live().is_shown(expr, &ShownTo(own))
 }
