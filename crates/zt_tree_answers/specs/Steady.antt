@@ -1,0 +1,31 @@
+-- What of a told row, of an interest sent up and of an ask a message leaves as it is.
+use Rattle.std.specs.Prelude.{◌≡◌, ℕ, Bool, true, false, ◌==◌, ◌&&◌, List, [], ◌∷◌, Some, None}
+use Rattle.std.specs.List.{list_any}
+use Rattle.std.specs.declared.cmp.Ordering.{Ordering}
+use Rattle.zt_protocol.specs.declared.messages.Message.{Message}
+use Rattle.zt_protocol.specs.declared.messages.Message.TheVariants.{DeclareToken, UndeclareToken, DeclareFinal, Interest, InterestFinal}
+use Rattle.zt_model.specs.Lists.{same}
+use Rattle.zt_model.specs.Rows.{ById}
+
+-- the message is no final of the id
+abbrev pub IsNoFinal : {K : Type 0} → ℕ → Message K → Type 0
+IsNoFinal id (DeclareFinal interest) = (id == interest) ≡ false
+IsNoFinal id _ = Unit {0}
+
+-- the message neither sends an interest under the id nor ends it
+abbrev pub LeavesInterest : {K : Type 0} → ℕ → Message K → Type 0
+LeavesInterest id (Interest k mode options e) = (id == k) ≡ false
+LeavesInterest id (InterestFinal k) = (id == k) ≡ false
+LeavesInterest id _ = Unit {0}
+
+module _ {K : Type 0} (cmp : K → K → Ordering) where
+  -- the expression stands under the id
+  abbrev pub has_row : ℕ → K → ById K → Bool
+  has_row id e rows = list_any (λ row. (id == row.0) && same cmp e row.1) rows
+
+  -- the message doesn't undeclare the id, nor any expression by its name, nor declare another expression under the id
+  abbrev pub LeavesRow : ℕ → K → Message K → Type 0
+  LeavesRow id e (DeclareToken k x interest node) = (id == k) ≡ true → same cmp e x ≡ true
+  LeavesRow id e (UndeclareToken k None node) = (id == k) ≡ false
+  LeavesRow id e (UndeclareToken k (Some x) node) = ⊥
+  LeavesRow id e _ = Unit {0}
