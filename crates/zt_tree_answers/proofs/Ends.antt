@@ -13,9 +13,10 @@ use Rattle.zt_protocol.specs.Plain.{PlainCall, NewSession, NewTransport, Declare
 use Rattle.zt_protocol.specs.declared.interests.InterestMode.{InterestMode}
 use Rattle.zt_protocol.specs.declared.interests.InterestOptions.{InterestOptions}
 use Rattle.zt_protocol.specs.declared.messages.Message.{Message}
+use Rattle.zt_protocol.specs.declared.messages.QueryableInfo.{QueryableInfo}
 use Rattle.zt_protocol.specs.declared.messages.Message.TheVariants as message
-use Rattle.zt_model.specs.Closing.{without_asks}
-use Rattle.zt_model.specs.Entities.{entities_for, numbered_by, with_numbers}
+use Rattle.zt_model.specs.Closing.{without_asks, without_face}
+use Rattle.zt_model.specs.Entities.{entities_for, entity_expressions, numbered_by, with_entities, with_numbers}
 use Rattle.zt_model.specs.Hearing.{heard, heard_all, put_if, rows_heard}
 use Rattle.zt_model.specs.Lists.{at_id, in_key_order, is_some_and, without_id}
 use Rattle.zt_model.specs.Parts.{Alter, Part, Say, Sends, find_face, to_each, to_face, told_id, with_face}
@@ -29,6 +30,7 @@ use Rattle.zt_model.specs.Transcript.{Each}
 use Rattle.zt_model.specs.Trees.{hide_to, is_child, is_hidden, is_newly_shown, node_of, pass_to, router_regions, show_to, table_of, unpass_to, with_own_rows, with_routed, without_own_rows}
 use Rattle.zt_model.specs.Visible.{is_visible, shows}
 use Rattle.zt_model.specs.Wants.{wants}
+use Rattle.zt_laws.specs.Sound.{rows_after_call}
 use Rattle.zt_laws.proofs.Hearing.{heard_all-held, heard_all-number, heard_all-region}
 use Rattle.zt_laws.proofs.Lists.{any_weaker, by_test, each_always, each_filter, each_map, each_weaker, never, of_cond}
 use Rattle.zt_laws.proofs.PartsOrder.{each_flat_map}
@@ -38,7 +40,7 @@ use Rattle.zt_kept.proofs.Going.{each_put_if}
 use Rattle.zt_trees.proofs.Saying.{TreeRows}
 use Rattle.zt_tree_calls.proofs.Upstream.{same_to_all}
 use Rattle.zt_tree_answers.specs.Steady.{LeavesInterest}
-use Rattle.zt_tree_answers.proofs.Parts.{AreFine, Forgets, IsFine, Own, To, any_changed, any_heard, close_fine, declare_fine, final_fine, finish_fine, interest_fine, own_changed, own_each, own_heard, own_one, undeclare_fine}
+use Rattle.zt_tree_answers.proofs.Parts.{AreFine, Forgets, IsFine, Own, To, any_changed, any_heard, any_left, close_fine, declare_fine, entities_fine, final_fine, finish_fine, interest_fine, own_changed, own_each, own_heard, own_one, undeclare_fine}
 
 -- the row under an id passes a test, so some row does
 any_at : {A : Type 0} (test : A → Bool) (id : ℕ) (rows : ById A) → is_some_and (at_id id rows) test ≡ true → list_any (λ row. test row.1) rows ≡ true
@@ -310,17 +312,27 @@ module _ {K : Type 0} (cmp : K → K → Ordering) (matching : K → K → Bool)
         changed n change still (λ f sent. record { only = subst (λ (rows : ById (InterestRow K)). Each (λ row. (local == row.0) ≡ true → row.1 ≡ i) rows) (sym (locals_ f)) sent.only; next = subst (λ n. local < n) (sym (next_ f)) sent.next })
         (λ f here held. held_ f ∙ held)
 
-    pub leaves_interest : (c : PlainCall K) (g : Rows K) → TreeRows cmp g → IsUp g → Spares c → Each (To p Leaves) (said cmp matching c g)
-    unfolding parts_of said_by
+    closes_face : (n : ℕ) → (n == q) ≡ false → Fine (Alter (without_face n))
+    closes_face n apart = λ g up. record {
+      sent = each_filter (λ f. (p == f.number) ≡ true → IsSentUp f) (λ f. not (n == f.number)) g.faces up.sent;
+      held = any_left is_held_below n g.faces (λ f held. by_test (n == f.number) (λ here. never (eq-eqb n q (eqb-true n f.number here ∙ sym (eqb-true q f.number (and_parts (q == f.number) _ held).0))) apart) (λ h. h)) up.held;
+    }
+
+    sets_entities : (n : ℕ) (subscribers : List K) (queryables : List (K × QueryableInfo)) → Fine (Alter (with_entities cmp n subscribers queryables))
+    sets_entities n subscribers queryables = λ g up.
+        same_sent n (λ f. record f { subscribers = subscribers; queryables = queryables }) (λ f. refl) (λ f. refl) (λ f. refl) (λ f. refl)
+        (with_numbers cmp (entity_expressions cmp subscribers queryables) g) (record { sent = up.sent; held = up.held })
+
+    pub leaves_interest : (c : PlainCall K) (g : Rows K) → TreeRows cmp g → IsUp g → Spares c → Each (To p Leaves) (said cmp matching c g) × IsUp (rows_after_call cmp matching c g)
     leaves_interest (DeclareToken n k x node interest) g rows up spares = declare_fine cmp matching IsUp (To p Leaves) n (rules n) k node x interest g rows (same_sent n (registered k x) (λ f. refl) (λ f. refl) (λ f. refl) (λ f. refl)) up
     leaves_interest (UndeclareToken n k given node) g rows up spares =
-        undeclare_fine cmp matching IsUp (To p Leaves) n (rules n) k node given g rows forget_leaves (same_sent n (unregistered k) (λ f. refl) (λ f. refl) (λ f. refl) (λ f. refl) g up)
+        undeclare_fine cmp matching IsUp (To p Leaves) n (rules n) k node given g rows forget_leaves up (same_sent n (unregistered k) (λ f. refl) (λ f. refl) (λ f. refl) (λ f. refl) g up)
     leaves_interest (Interest n k mode options x) g rows up spares = interest_fine cmp matching IsUp (To p Leaves) n (rules n) k mode options x g (λ f found. asking_leaves n k (row_of cmp matching f mode options x) f.region g spares) up
     leaves_interest (InterestFinal n k) g rows up spares = final_fine cmp matching IsUp (To p Leaves) n (rules n) k g (ends_other n k spares) (both_leaves n k) up
     leaves_interest (DeclareFinal n k) g rows up spares = finish_fine cmp matching IsUp (To p Leaves) n (rules n) k g (same_sent n (ended k) (λ f. refl) (λ f. refl) (λ f. refl) (λ f. refl)) up
     leaves_interest (CloseFace n) g rows up spares =
-        close_fine cmp matching IsUp (To p Leaves) n (rules n) g forget_leaves (λ k. same_sent n (unregistered k) (λ f. refl) (λ f. refl) (λ f. refl) (λ f. refl)) (λ k. ends_other n k (rw spares refl)) (both_leaves n) (same_sent n without_asks (λ f. refl) (λ f. refl) (λ f. refl) (λ f. refl)) (λ k. same_sent n (ended k) (λ f. refl) (λ f. refl) (λ f. refl) (λ f. refl)) up
-    leaves_interest (SetEntities n subscribers queryables) g rows up spares = tt
+        close_fine cmp matching IsUp (To p Leaves) n (rules n) g forget_leaves (λ k. same_sent n (unregistered k) (λ f. refl) (λ f. refl) (λ f. refl) (λ f. refl)) (λ k. ends_other n k (rw spares refl)) (both_leaves n) (same_sent n without_asks (λ f. refl) (λ f. refl) (λ f. refl) (λ f. refl)) (λ k. same_sent n (ended k) (λ f. refl) (λ f. refl) (λ f. refl) (λ f. refl)) (closes_face n spares) up
+    leaves_interest (SetEntities n subscribers queryables) g rows up spares = entities_fine cmp matching IsUp (To p Leaves) n (rules n) subscribers queryables g (sets_entities n subscribers queryables) up
     leaves_interest (NewSession first) g rows up spares = absurd spares
     leaves_interest (NewTransport zid whatami region bound first) g rows up spares = absurd spares
     leaves_interest (Expire now) g rows up spares = absurd spares

@@ -1,5 +1,6 @@
 -- The parts of calls at a gateway of a tree: a fact of all that they say, where the rows stay of a kind on the way.
 use Rattle.std.proofs.Common.{◌≡◌, ℕ, Bool, true, false, if◌then◌else◌, ◌&&◌, ◌==◌, not, List, [], ◌∷◌, ◌++◌, map, filter, Option, Some, None, refl, sym, ap, ◌∙◌, subst, eqb-true}
+use Rattle.std.proofs.lemmas.Bool.{and_from}
 use Rattle.std.specs.List.{flat_map, list_any}
 use Rattle.std.specs.declared.cmp.Ordering.{Ordering}
 use Rattle.zt_region.specs.declared.region.Region.{Region}
@@ -7,20 +8,22 @@ use Rattle.zt_protocol.specs.Plain.{PlainCall, DeclareToken, UndeclareToken, Int
 use Rattle.zt_protocol.specs.declared.interests.InterestMode.{InterestMode}
 use Rattle.zt_protocol.specs.declared.interests.InterestOptions.{InterestOptions}
 use Rattle.zt_protocol.specs.declared.messages.Message.{Message}
+use Rattle.zt_protocol.specs.declared.messages.QueryableInfo.{QueryableInfo}
 use Rattle.zt_model.specs.Closing.{closing, leaving, without_asks, without_face}
-use Rattle.zt_model.specs.Entities.{entities_for, numbered_by, with_numbers}
+use Rattle.zt_model.specs.Entities.{entities_for, numbered_by, with_entities, with_numbers}
 use Rattle.zt_model.specs.Hearing.{heard, heard_all, messages_for, rows_heard}
 use Rattle.zt_model.specs.Lists.{at_id, has_id}
-use Rattle.zt_model.specs.Parts.{Alter, Part, Say, Sends, find_face, is_routed, said_by, to_each, to_face, unsaid_to, with_face}
+use Rattle.zt_model.specs.Parts.{Alter, Part, Say, Sends, altered_by, find_face, is_routed, said_by, to_each, to_face, unsaid_to, with_face}
 use Rattle.zt_model.specs.Routing.{asked_as, end_upstream_to, ended, ending, final_of, final_of_both, finalising, finish_to, finishing, initial_finalised, route_to, sent_as, unheld, untell_to}
 use Rattle.zt_model.specs.Rows.{Face, InterestRow, Pending, Rows}
 use Rattle.zt_model.specs.Says.{asking, declaring_of, finalising_held, forget_to, hiding_undeclared, parts_of, row_of, said, tell_to, undeclaring_of}
 use Rattle.zt_model.specs.Telling.{answer_to, answering, answers_of, declaring, registered, registers, undeclared, undeclaring, unregistered}
 use Rattle.zt_model.specs.Transcript.{Each}
 use Rattle.zt_model.specs.Trees.{hide_to, hiding, is_newly_shown, router_regions, show_to, showing, source_of, with_own_rows, without_own_rows}
+use Rattle.zt_laws.specs.Sound.{rows_after_call}
 use Rattle.zt_laws.proofs.Hearing.{find_each, heard_all-number}
-use Rattle.zt_laws.proofs.Lists.{any-map, any_alike, any_weaker, by_test, each_append, each_filter, each_map, each_weaker, of_cond}
-use Rattle.zt_laws.proofs.PartsOrder.{each_flat_map, said_by_last}
+use Rattle.zt_laws.proofs.Lists.{any-filter, any-map, any_alike, any_weaker, by_test, each_append, each_filter, each_map, each_weaker, of_cond}
+use Rattle.zt_laws.proofs.PartsOrder.{each_flat_map}
 use Rattle.zt_trees.specs.Facts.{IsTreeFace}
 use Rattle.zt_trees.proofs.Knowledge.{is_no_router}
 use Rattle.zt_trees.proofs.Saying.{TreeRows}
@@ -130,15 +133,40 @@ module _ {K : Type 0} (cmp : K → K → Ordering) (matching : K → K → Bool)
   unsaid_fine n (Alter change ∷ parts) all = (all.0, unsaid_fine n parts all.1)
   unsaid_fine n (Say rule ∷ parts) all = ((λ g of_kind. each_filter N (λ s. not (n == s.0)) (rule g) (all.0 g of_kind)), unsaid_fine n parts all.1)
 
-  pub said_fine : ((ss : Sends K) (g : Rows K) → S g → Each N ss → S (rows_heard cmp ss g)) → (parts : List (Part K)) (g : Rows K) → Each IsFine parts → S g → Each N (said_by cmp matching parts g)
+  -- what is heard leaves the rows of the kind
+  abbrev pub Hears : Type 0
+  Hears = (ss : Sends K) (g : Rows K) → S g → Each N ss → S (rows_heard cmp ss g)
+
+  pub said_fine : Hears → (parts : List (Part K)) (g : Rows K) → Each IsFine parts → S g → Each N (said_by cmp matching parts g)
   unfolding said_by
   said_fine hear [] g all of_kind = tt
   said_fine hear (Alter change ∷ parts) g all of_kind = said_fine hear parts (change g) all.1 (all.0 g of_kind)
   said_fine hear (Say rule ∷ parts) g all of_kind = each_append N (rule g) (said_by cmp matching parts (rows_heard cmp (rule g) g)) (all.0 g of_kind) (said_fine hear parts (rows_heard cmp (rule g) g) all.1 (hear (rule g) g of_kind (all.0 g of_kind)))
 
+  pub altered_fine : (parts : List (Part K)) (g : Rows K) → Each IsFine parts → S g → S (altered_by cmp matching parts g)
+  unfolding altered_by
+  altered_fine [] g all of_kind = of_kind
+  altered_fine (Alter change ∷ parts) g all of_kind = altered_fine parts (change g) all.1 (all.0 g of_kind)
+  altered_fine (Say rule ∷ parts) g all of_kind = altered_fine parts g all.1 of_kind
+
+  -- what parts say is of the kind, and what they leave
+  abbrev pub Come : List (Part K) → Rows K → Type 0
+  Come parts g = Each N (said_by cmp matching parts g) × S (rows_heard cmp (said_by cmp matching parts g) (altered_by cmp matching parts g))
+
+  pub parts_come : Hears → (parts : List (Part K)) (g : Rows K) → Each IsFine parts → S g → Come parts g
+  parts_come hear parts g all of_kind =
+      let says = said_fine hear parts g all of_kind in
+      (says, hear (said_by cmp matching parts g) (altered_by cmp matching parts g) (altered_fine parts g all of_kind) says)
+
+  abbrev pub Comes : PlainCall K → Rows K → Type 0
+  Comes c g = Each N (said cmp matching c g) × S (rows_after_call cmp matching c g)
+
+  pub called_fine : Hears → (c : PlainCall K) (g : Rows K) → Each IsFine (parts_of cmp matching c g) → S g → Comes c g
+  called_fine hear c g all of_kind = parts_come hear (parts_of cmp matching c g) g all of_kind
+
   -- what the rules of a gateway of a tree say, but for the rule of tokens that are gone, and what they leave
   pub record AreFine (n : ℕ) : Type 0 where
-    pub hear : (ss : Sends K) (g : Rows K) → S g → Each N ss → S (rows_heard cmp ss g)
+    pub hear : Hears
     pub tell : (source : Region) (e : K) → IsFine (Say (λ g. to_each (tell_to cmp matching g source e) g.faces))
     pub answer : (k id : ℕ) (e : K) → IsFine (Say (λ g. to_each (answer_to cmp matching k id e) g.faces))
     pub end_upstream : (interest : InterestRow K) → IsFine (Say (λ g. to_each (end_upstream_to cmp matching g interest) g.faces))
@@ -161,9 +189,9 @@ module _ {K : Type 0} (cmp : K → K → Ordering) (matching : K → K → Bool)
     tree_face_of : (g : Rows K) (k : ℕ) (f : Face K) → TreeRows cmp g → find_face k g ≡ Some f → IsTreeFace g.mode f
     tree_face_of g k f rows found = find_each (IsTreeFace g.mode) (λ (h : Face K). k == h.number) g.faces f rows.faces found
 
-    pub declare_fine : (id node : ℕ) (e : K) (interest : Option ℕ) (g : Rows K) → TreeRows cmp g → IsFine (Alter (with_face n (registered id e))) → S g → Each N (said cmp matching (DeclareToken n id e node interest) g)
-    unfolding parts_of said_by
-    declare_fine id node e interest g rows adds of_kind = said_fine rules.hear _ g (cases (find_face n g) refl) of_kind
+    pub declare_fine : (id node : ℕ) (e : K) (interest : Option ℕ) (g : Rows K) → TreeRows cmp g → IsFine (Alter (with_face n (registered id e))) → S g → Comes (DeclareToken n id e node interest) g
+    unfolding parts_of
+    declare_fine id node e interest g rows adds of_kind = called_fine rules.hear (DeclareToken n id e node interest) g (cases (find_face n g) refl) of_kind
       where
         answers : (i : Option ℕ) (f : Face K) → Each IsFine (answering cmp matching n i e f)
         answers None f = tt
@@ -187,9 +215,9 @@ module _ {K : Type 0} (cmp : K → K → Ordering) (matching : K → K → Bool)
     finalising_fine : (id : ℕ) (interest : InterestRow K) → IsFine (Alter (with_face n (unheld id))) → IsFine (Say (to_face n (final_of_both id interest))) → Each IsFine (finalising cmp matching n id interest)
     finalising_fine id interest takes both = (takes, (rules.untell, (both, (rules.end_upstream interest, tt))))
 
-    pub final_fine : (id : ℕ) (g : Rows K) → IsFine (Alter (with_face n (unheld id))) → ((interest : InterestRow K) → IsFine (Say (to_face n (final_of_both id interest)))) → S g → Each N (said cmp matching (InterestFinal n id) g)
-    unfolding parts_of said_by
-    final_fine id g takes both of_kind = said_fine rules.hear _ g (cases (find_face n g)) of_kind
+    pub final_fine : (id : ℕ) (g : Rows K) → IsFine (Alter (with_face n (unheld id))) → ((interest : InterestRow K) → IsFine (Say (to_face n (final_of_both id interest)))) → S g → Comes (InterestFinal n id) g
+    unfolding parts_of
+    final_fine id g takes both of_kind = called_fine rules.hear (InterestFinal n id) g (cases (find_face n g)) of_kind
       where
         held : (o : Option (InterestRow K)) → Each IsFine (elim o [ None ↦ [] | Some interest ↦ finalising cmp matching n id interest ])
         held None = tt
@@ -199,34 +227,36 @@ module _ {K : Type 0} (cmp : K → K → Ordering) (matching : K → K → Bool)
         cases None = tt
         cases (Some f) = held (at_id id f.held)
 
-    pub finish_fine : (id : ℕ) (g : Rows K) → IsFine (Alter (with_face n (ended id))) → S g → Each N (said cmp matching (DeclareFinal n id) g)
-    unfolding parts_of said_by
-    finish_fine id g ends of_kind = said_fine rules.hear _ g (cases (find_face n g)) of_kind
+    pub finish_fine : (id : ℕ) (g : Rows K) → IsFine (Alter (with_face n (ended id))) → S g → Comes (DeclareFinal n id) g
+    unfolding parts_of
+    finish_fine id g ends of_kind = called_fine rules.hear (DeclareFinal n id) g (cases (find_face n g)) of_kind
       where
         cases : (o : Option (Face K)) → Each IsFine (elim o [ None ↦ [] | Some f ↦ finishing n id f ])
         cases None = tt
         cases (Some f) = (rules.initial id, of_cond (Each IsFine) (has_id id f.pendings) (ending n id) [] (λ _. (ends, (rules.finish n id, tt))) (λ _. tt))
 
     -- an undeclaration forgets once it has taken the row
-    pub undeclare_fine : (id node : ℕ) (given : Option K) (g : Rows K) → TreeRows cmp g → Forgets → S (with_face n (unregistered id) g) → Each N (said cmp matching (UndeclareToken n id given node) g)
-    unfolding parts_of said_by
-    undeclare_fine id node given g rows forget then_ = cases (find_face n g) refl
+    pub undeclare_fine : (id node : ℕ) (given : Option K) (g : Rows K) → TreeRows cmp g → Forgets → S g → S (with_face n (unregistered id) g) → Comes (UndeclareToken n id given node) g
+    unfolding parts_of said_by altered_by
+    undeclare_fine id node given g rows forget of_kind then_ = cases (find_face n g) refl
       where
-        named : (f : Face K) (o : Option K)
-            → Each N (said_by cmp matching ((elim o [ None ↦ [] | Some e ↦ Alter (with_face n (unregistered id)) ∷ Say (λ g. to_each (forget_to cmp matching g f.region e) g.faces) ∷ [] ]) ++ (elim o [ None ↦ [] | Some e ↦ hiding cmp f.region e ])) g)
-        named f None = tt
-        named f (Some e) = said_fine rules.hear (Say (λ g. to_each (forget_to cmp matching g f.region e) g.faces) ∷ hiding cmp f.region e) (with_face n (unregistered id) g) (forget f.region e, hiding_fine f.region e) then_
+        nothing : Come [] g
+        nothing = parts_come rules.hear [] g tt of_kind
 
-        cases : (o : Option (Face K)) → find_face n g ≡ o → Each N (said_by cmp matching (elim o [ None ↦ [] | Some f ↦ if is_routed g f then undeclaring_of cmp matching n (source_of g f node) given f else undeclaring cmp matching n id given f ++ hiding_undeclared cmp matching id given f ]) g)
-        cases None found = tt
+        named : (f : Face K) (o : Option K) → Come ((elim o [ None ↦ [] | Some e ↦ Alter (with_face n (unregistered id)) ∷ Say (λ g. to_each (forget_to cmp matching g f.region e) g.faces) ∷ [] ]) ++ (elim o [ None ↦ [] | Some e ↦ hiding cmp f.region e ])) g
+        named f None = nothing
+        named f (Some e) = parts_come rules.hear (Say (λ g. to_each (forget_to cmp matching g f.region e) g.faces) ∷ hiding cmp f.region e) (with_face n (unregistered id) g) (forget f.region e, hiding_fine f.region e) then_
+
+        cases : (o : Option (Face K)) → find_face n g ≡ o → Come (elim o [ None ↦ [] | Some f ↦ if is_routed g f then undeclaring_of cmp matching n (source_of g f node) given f else undeclaring cmp matching n id given f ++ hiding_undeclared cmp matching id given f ]) g
+        cases None found = nothing
         cases (Some f) found =
             let plain : is_routed g f ≡ false = is_no_router g f (tree_face_of g n f rows found) in
             rw plain (named f (undeclared cmp matching id given f))
 
     pub interest_fine : (id : ℕ) (mode : InterestMode) (options : InterestOptions) (e : Option K) (g : Rows K) → ((f : Face K) → find_face n g ≡ Some f → (let i = row_of cmp matching f mode options e in Each IsFine (asking cmp matching n id i f.region g))) → S g
-        → Each N (said cmp matching (Interest n id mode options e) g)
-    unfolding parts_of said_by
-    interest_fine id mode options e g asks of_kind = said_fine rules.hear _ g (cases (find_face n g) refl) of_kind
+        → Comes (Interest n id mode options e) g
+    unfolding parts_of
+    interest_fine id mode options e g asks of_kind = called_fine rules.hear (Interest n id mode options e) g (cases (find_face n g) refl) of_kind
       where
         cases : (o : Option (Face K)) → find_face n g ≡ o → Each IsFine (elim o [ None ↦ [] | Some f ↦ asking cmp matching n id (row_of cmp matching f mode options e) f.region g ])
         cases None found = tt
@@ -234,9 +264,9 @@ module _ {K : Type 0} (cmp : K → K → Ordering) (matching : K → K → Bool)
 
     -- closing a face
     pub close_fine : (g : Rows K) → Forgets → ((id : ℕ) → IsFine (Alter (with_face n (unregistered id)))) → ((id : ℕ) → IsFine (Alter (with_face n (unheld id)))) → ((id : ℕ) (interest : InterestRow K) → IsFine (Say (to_face n (final_of_both id interest)))) → IsFine (Alter (with_face n without_asks))
-        → ((id : ℕ) → IsFine (Alter (with_face n (ended id)))) → S g → Each N (said cmp matching (CloseFace n) g)
-    unfolding parts_of said_by
-    close_fine g forget takes ends both drops dropped of_kind = cases (find_face n g)
+        → ((id : ℕ) → IsFine (Alter (with_face n (ended id)))) → IsFine (Alter (without_face n)) → S g → Comes (CloseFace n) g
+    unfolding parts_of
+    close_fine g forget takes ends both drops dropped gone of_kind = called_fine rules.hear (CloseFace n) g (cases (find_face n g)) of_kind
       where
         leaving_fine : (f : Face K) → Each IsFine (leaving cmp matching n f)
         leaving_fine f =
@@ -249,9 +279,16 @@ module _ {K : Type 0} (cmp : K → K → Ordering) (matching : K → K → Bool)
             (each_flat_map IsFine (λ (row : ℕ × InterestRow K). finalising cmp matching n row.0 row.1) f.held (λ row. finalising_fine row.0 row.1 (ends row.0) (both row.0 row.1))))
             (drops, each_flat_map IsFine (λ (row : ℕ × Pending). ending n row.0) f.pendings (λ row. (dropped row.0, (rules.finish n row.0, tt))))
 
-        cases : (o : Option (Face K)) → Each N (said_by cmp matching (elim o [ None ↦ [] | Some f ↦ closing cmp matching n g f ]) g)
+        cases : (o : Option (Face K)) → Each IsFine (elim o [ None ↦ [] | Some f ↦ closing cmp matching n g f ])
         cases None = tt
         cases (Some f) =
-            let parts : List (Part K) = if is_routed g f then [] else unsaid_to n (leaving cmp matching n f) in
-            subst (Each N) (sym (said_by_last cmp matching parts (without_face n) g))
-            (said_fine rules.hear parts g (of_cond (Each IsFine) (is_routed g f) [] (unsaid_to n (leaving cmp matching n f)) (λ _. tt) (λ _. unsaid_fine n (leaving cmp matching n f) (leaving_fine f))) of_kind)
+            each_append IsFine (if is_routed g f then [] else unsaid_to n (leaving cmp matching n f)) (Alter (without_face n) ∷ [])
+            (of_cond (Each IsFine) (is_routed g f) [] (unsaid_to n (leaving cmp matching n f)) (λ _. tt) (λ _. unsaid_fine n (leaving cmp matching n f) (leaving_fine f))) (gone, tt)
+
+    pub entities_fine : (subscribers : List K) (queryables : List (K × QueryableInfo)) (g : Rows K) → IsFine (Alter (with_entities cmp n subscribers queryables)) → S g → Comes (SetEntities n subscribers queryables) g
+    unfolding parts_of
+    entities_fine subscribers queryables g sets of_kind = called_fine rules.hear (SetEntities n subscribers queryables) g (sets, tt) of_kind
+
+-- closing a face leaves the others
+pub any_left : {K : Type 0} (test : Face K → Bool) (n : ℕ) (fs : List (Face K)) → ((f : Face K) → test f ≡ true → (n == f.number) ≡ false) → list_any test fs ≡ true → list_any test (filter (λ f. not (n == f.number)) fs) ≡ true
+any_left test n fs apart some = any-filter test (λ f. not (n == f.number)) fs ∙ any_weaker test (λ f. not (n == f.number) && test f) (λ f passes. and_from (not (n == f.number)) (test f) (ap not (apart f passes)) passes) fs some

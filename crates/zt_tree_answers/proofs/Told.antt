@@ -15,9 +15,10 @@ use Rattle.zt_protocol.specs.Plain.{PlainCall, NewSession, NewTransport, Declare
 use Rattle.zt_protocol.specs.declared.interests.InterestMode.{InterestMode}
 use Rattle.zt_protocol.specs.declared.interests.InterestOptions.{InterestOptions}
 use Rattle.zt_protocol.specs.declared.messages.Message.{Message}
+use Rattle.zt_protocol.specs.declared.messages.QueryableInfo.{QueryableInfo}
 use Rattle.zt_protocol.specs.declared.messages.Message.TheVariants as message
-use Rattle.zt_model.specs.Closing.{without_asks}
-use Rattle.zt_model.specs.Entities.{entities_for, numbered_by, with_numbers}
+use Rattle.zt_model.specs.Closing.{without_asks, without_face}
+use Rattle.zt_model.specs.Entities.{entities_for, entity_expressions, numbered_by, with_entities, with_numbers}
 use Rattle.zt_model.specs.Hearing.{asks_answered, heard, heard_all, rows_heard, told_pair, with_answer}
 use Rattle.zt_model.specs.Lists.{at_id, is_some_and, same, without_id}
 use Rattle.zt_model.specs.Parts.{Alter, Part, Say, Sends, find_face, to_each, to_face, told_id, with_face}
@@ -31,6 +32,7 @@ use Rattle.zt_model.specs.Transcript.{Each}
 use Rattle.zt_model.specs.Trees.{hide_to, is_hidden, is_newly_shown, pass_to, router_regions, show_to, unpass_to, with_own_rows, with_routed, without_own_rows}
 use Rattle.zt_model.specs.Visible.{is_visible, rows_of_face, routed_rows, shows}
 use Rattle.zt_model.specs.Wants.{wants}
+use Rattle.zt_laws.specs.Sound.{rows_after_call}
 use Rattle.zt_laws.proofs.Hearing.{find_each, find_passes, heard_all-live, heard_all-number, heard_all-region}
 use Rattle.zt_laws.proofs.Keys.{same_is, same_itself}
 use Rattle.zt_laws.proofs.Lists.{any-append, any-filter, any-map, any_member, any_weaker, by_test, each_always, each_append, each_filter, each_map, each_weaker, never, of_cond}
@@ -41,7 +43,7 @@ use Rattle.zt_trees.proofs.Lines.{interest_from}
 use Rattle.zt_trees.proofs.Quiet.{is_live}
 use Rattle.zt_trees.proofs.Saying.{TreeRows}
 use Rattle.zt_tree_answers.specs.Steady.{LeavesRow, has_row}
-use Rattle.zt_tree_answers.proofs.Parts.{AreFine, Forgets, IsFine, Own, To, any_changed, any_heard, close_fine, declare_fine, final_fine, finish_fine, interest_fine, own_changed, own_each, own_heard, own_one, undeclare_fine}
+use Rattle.zt_tree_answers.proofs.Parts.{AreFine, Forgets, IsFine, Own, To, any_changed, any_heard, any_left, close_fine, declare_fine, entities_fine, final_fine, finish_fine, interest_fine, own_changed, own_each, own_heard, own_one, undeclare_fine}
 
 module _ {K : Type 0} (cmp : K → K → Ordering) (matching : K → K → Bool) (total : IsTotalOrder cmp) (equal_is_same : (a b : K) → cmp a b ≡ Equal → a ≡ b) (id : ℕ) (e : K) (real : 1 ≤ id) where
   -- a face to the north that was told the row, under an id of its own
@@ -270,6 +272,18 @@ module _ {K : Type 0} (cmp : K → K → Ordering) (matching : K → K → Bool)
       asks_apart n apart pendings k interest =
           changed n (asked_as pendings k interest) (λ f. refl) (λ f here own told. never (eq-eqb n p (eqb-true n f.number here ∙ sym (eqb-true p f.number own))) apart) (λ some f here live. live)
 
+      closes_face : (n : ℕ) → (n == q) ≡ false → Fine (Alter (without_face n))
+      closes_face n apart = λ g tells. record {
+        client = tells.client;
+        told = each_filter (λ f. (p == f.number) ≡ true → IsTold f) (λ f. not (n == f.number)) g.faces tells.told;
+        live = λ some. any_left is_live_below n g.faces (λ f live. by_test (n == f.number) (λ here. never (eq-eqb n q (eqb-true n f.number here ∙ sym (eqb-true q f.number (and_parts (q == f.number) _ live).0))) apart) (λ h. h)) (tells.live some);
+      }
+
+      sets_entities : (n : ℕ) (subscribers : List K) (queryables : List (K × QueryableInfo)) → Fine (Alter (with_entities cmp n subscribers queryables))
+      sets_entities n subscribers queryables = λ g tells.
+          changed n (λ f. record f { subscribers = subscribers; queryables = queryables }) (λ f. refl) (λ f here own told. same_told f (record f { subscribers = subscribers; queryables = queryables }) refl refl told.asks refl told) (λ some f here live. live)
+          (with_numbers cmp (entity_expressions cmp subscribers queryables) g) (record { client = tells.client; told = tells.told; live = tells.live })
+
       own_rows_faces : (rs : List Region) (x : K) (g : Rows K) → (with_own_rows cmp rs x g).faces ≡ g.faces
       unfolding with_own_rows with_routed
       own_rows_faces [] x g = refl
@@ -371,15 +385,23 @@ module _ {K : Type 0} (cmp : K → K → Ordering) (matching : K → K → Bool)
     loosely : (g : Rows K) → Tells true g → Tells false g
     loosely g tells = record { client = tells.client; told = tells.told; live = λ some. cc }
 
-    pub leaves_row : (spent : Bool) (c : PlainCall K) (g : Rows K) → TreeRows cmp g → first_cause (call_causes cmp matching spent c g) ≡ None → Tells true g → Spares c g → Each (To p Leaves) (said cmp matching c g)
-    unfolding with_face parts_of said_by
+    -- what the call says to the face, and that it stays told
+    abbrev pub Left : PlainCall K → Rows K → Type 0
+    Left c g = Each (To p Leaves) (said cmp matching c g) × Tells false (rows_after_call cmp matching c g)
+
+    strictly : (c : PlainCall K) (g : Rows K) → Each (To p Leaves) (said cmp matching c g) × Tells true (rows_after_call cmp matching c g) → Left c g
+    strictly c g both = (both.0, loosely (rows_after_call cmp matching c g) both.1)
+
+    pub leaves_row : (spent : Bool) (c : PlainCall K) (g : Rows K) → TreeRows cmp g → first_cause (call_causes cmp matching spent c g) ≡ None → Tells true g → Spares c g → Left c g
+    unfolding with_face
     leaves_row spent (DeclareToken n k x node interest) g rows accepted tells spares = declare_fine cmp matching (Tells false) (To p Leaves) n (rules false n) k node x interest g rows (registers_row false refl n k x) (loosely g tells)
     leaves_row spent (UndeclareToken n k given node) g rows accepted tells spares =
-        undeclare_fine cmp matching (Tells true) (To p Leaves) n (rules true n) k node given g rows (forget_leaves true refl) (record {
+        strictly (UndeclareToken n k given node) g
+        (undeclare_fine cmp matching (Tells true) (To p Leaves) n (rules true n) k node given g rows (forget_leaves true refl) tells (record {
           client = tells.client;
           told = own_changed p Leaves cmp IsTold n (unregistered k) (λ f. refl) (λ f here own told. same_told true f (unregistered k f) refl refl told.asks refl told) g tells.told;
           live = λ some. spares;
-        })
+        }))
     leaves_row spent (Interest n k mode options x) g rows accepted tells spares =
         let from = interest_from cmp matching spent n k mode options x g rows accepted in
         let apart : (n == p) ≡ false = by_test (n == p)
@@ -392,8 +414,8 @@ module _ {K : Type 0} (cmp : K → K → Ordering) (matching : K → K → Bool)
     leaves_row spent (InterestFinal n k) g rows accepted tells spares = final_fine cmp matching (Tells false) (To p Leaves) n (rules false n) k g (ends_interest false n k) (both_leaves false n k) (loosely g tells)
     leaves_row spent (DeclareFinal n k) g rows accepted tells spares = finish_fine cmp matching (Tells false) (To p Leaves) n (rules false n) k g (ends_pending false n k) (loosely g tells)
     leaves_row spent (CloseFace n) g rows accepted tells spares =
-        close_fine cmp matching (Tells true) (To p Leaves) n (rules true n) g (forget_leaves true refl) (takes_row true n spares) (ends_interest true n) (both_leaves true n) (drops_asks true n) (ends_pending true n) tells
-    leaves_row spent (SetEntities n subscribers queryables) g rows accepted tells spares = tt
+        strictly (CloseFace n) g (close_fine cmp matching (Tells true) (To p Leaves) n (rules true n) g (forget_leaves true refl) (takes_row true n spares) (ends_interest true n) (both_leaves true n) (drops_asks true n) (ends_pending true n) (closes_face true n spares) tells)
+    leaves_row spent (SetEntities n subscribers queryables) g rows accepted tells spares = entities_fine cmp matching (Tells false) (To p Leaves) n (rules false n) subscribers queryables g (sets_entities false n subscribers queryables) (loosely g tells)
     leaves_row spent (NewSession first) g rows accepted tells spares = absurd spares
     leaves_row spent (NewTransport zid whatami region bound first) g rows accepted tells spares = absurd spares
     leaves_row spent (Expire now) g rows accepted tells spares = absurd spares
