@@ -9,7 +9,7 @@ use Rattle.std.specs.Ordering.{nat_cmp}
 use Rattle.zt_region.specs.declared.region.Region.{Region}
 use Rattle.zt_region.specs.Region.{is_north, region_eq}
 use Rattle.zt_protocol.specs.Interest.{is_current, is_future}
-use Rattle.zt_protocol.specs.Plain.{PlainCall, NewSession, NewTransport, DeclareToken, UndeclareToken, Interest, InterestFinal, DeclareFinal, CloseFace, Expire, SetTrees, SetEntities}
+use Rattle.zt_protocol.specs.Plain.{PlainCall, NewSession, NewTransport, DeclareToken, UndeclareToken, Interest, InterestFinal, DeclareFinal, CloseFace, Expire, SetTrees, SetEntities, Trees}
 use Rattle.zt_protocol.specs.declared.interests.InterestMode.{InterestMode}
 use Rattle.zt_protocol.specs.declared.interests.InterestOptions.{InterestOptions}
 use Rattle.zt_protocol.specs.declared.messages.Message.{Message}
@@ -27,7 +27,7 @@ use Rattle.zt_model.specs.Says.{answered_expressions, asking, forget_to, forget_
 use Rattle.zt_model.specs.Strategy.{is_client_hat, strategy_of}
 use Rattle.zt_model.specs.Telling.{answer_to, answers_from, answers_of, is_answered_by, registered, unregistered, was_sent_as}
 use Rattle.zt_model.specs.Transcript.{Each}
-use Rattle.zt_model.specs.Trees.{hide_to, is_child, is_hidden, is_newly_shown, node_of, pass_to, router_regions, show_to, table_of, unpass_to, with_own_rows, with_routed, without_own_rows}
+use Rattle.zt_model.specs.Trees.{counted_table, greet_to, hide_to, is_child, is_hidden, is_newly_shown, node_of, pass_to, routed_expressions, router_regions, routers_in_order, show_to, table_of, unpass_to, with_own_rows, with_routed, with_table, without_left_out, without_own_rows}
 use Rattle.zt_model.specs.Visible.{is_visible, shows}
 use Rattle.zt_model.specs.Wants.{wants}
 use Rattle.zt_laws.specs.Sound.{rows_after_call}
@@ -39,7 +39,7 @@ use Rattle.zt_kept.proofs.CallsRun.{each_entity}
 use Rattle.zt_kept.proofs.Going.{each_put_if}
 use Rattle.zt_trees.proofs.Saying.{TreeRows}
 use Rattle.zt_tree_answers.specs.Steady.{IsNoFinal}
-use Rattle.zt_tree_answers.proofs.Parts.{AreFine, Forgets, IsFine, Own, To, close_fine, declare_fine, entities_fine, final_fine, finish_fine, interest_fine, own_changed, own_each, own_heard, one_to, own_one, undeclare_fine}
+use Rattle.zt_tree_answers.proofs.Parts.{AreFine, Forgets, IsFine, Own, To, close_fine, declare_fine, entities_fine, final_fine, finish_fine, interest_fine, own_changed, own_each, own_heard, one_to, own_one, trees_fine, undeclare_fine}
 
 -- a row stays under its id, whatever is put
 has_put : {A : Type 0} (k id : ℕ) (v : A) (rows : ById A) → has_id k rows ≡ true → has_id k (put nat_cmp id v rows) ≡ true
@@ -365,6 +365,14 @@ module _ {K : Type 0} (cmp : K → K → Ordering) (matching : K → K → Bool)
     sets_entities n subscribers queryables = λ g serves.
         same_asks n (λ f. record f { subscribers = subscribers; queryables = queryables }) (λ f. refl) (λ f. refl) (λ f. refl) (with_numbers cmp (entity_expressions cmp subscribers queryables) g) (record { asks = serves.asks; stands = serves.stands })
 
+    greets_leave : (region : Region) (before : Trees) → Fine (Say (λ g. to_each (greet_to cmp g region before) g.faces))
+    unfolding greet_to
+    greets_leave region before =
+        by_each (λ g f. greet_to cmp g region before f)
+        (λ g f kind own.
+        each_flat_map Leaves (λ r. if region_eq f.region region && (is_child g (table_of g region) r.1 f && not (is_child g before r.1 f)) then map (λ x. message.DeclareToken 0 x None r.0) (routed_expressions cmp g region r.1) else []) (routers_in_order cmp (table_of g region))
+        (λ r. of_cond (Each Leaves) (region_eq f.region region && (is_child g (table_of g region) r.1 f && not (is_child g before r.1 f))) (map (λ x. message.DeclareToken 0 x None r.0) (routed_expressions cmp g region r.1)) [] (λ _. alike (λ x. message.DeclareToken 0 x None r.0) (routed_expressions cmp g region r.1) (λ x. tt)) (λ _. tt)))
+
     -- ---- calls
 
     -- the call doesn't end the pending, asks nothing new under the id and doesn't end an ask by its interest, and it is one
@@ -377,7 +385,6 @@ module _ {K : Type 0} (cmp : K → K → Ordering) (matching : K → K → Bool)
     Spares (NewSession first) = ⊥
     Spares (NewTransport zid whatami region bound first) = ⊥
     Spares (Expire now) = ⊥
-    Spares (SetTrees region t) = ⊥
     Spares _ = Unit {0}
 
     pub leaves_asks : (c : PlainCall K) (g : Rows K) → TreeRows cmp g → Serves g → Spares c → Each (To p Leaves) (said cmp matching c g) × Serves (rows_after_call cmp matching c g)
@@ -393,4 +400,4 @@ module _ {K : Type 0} (cmp : K → K → Ordering) (matching : K → K → Bool)
     leaves_asks (NewSession first) g rows serves spares = absurd spares
     leaves_asks (NewTransport zid whatami region bound first) g rows serves spares = absurd spares
     leaves_asks (Expire now) g rows serves spares = absurd spares
-    leaves_asks (SetTrees region t) g rows serves spares = absurd spares
+    leaves_asks (SetTrees region t) g rows serves spares = trees_fine cmp matching Serves (To p Leaves) 0 (rules 0) region t g forget_leaves (beside (without_left_out cmp region (counted_table t)) (λ g. refl)) (beside (with_table cmp region t) (λ g. refl)) (greets_leave region) serves

@@ -4,7 +4,7 @@ use Rattle.std.proofs.lemmas.Bool.{and_from}
 use Rattle.std.specs.List.{flat_map, list_any}
 use Rattle.std.specs.declared.cmp.Ordering.{Ordering}
 use Rattle.zt_region.specs.declared.region.Region.{Region}
-use Rattle.zt_protocol.specs.Plain.{PlainCall, DeclareToken, UndeclareToken, Interest, InterestFinal, DeclareFinal, CloseFace, SetEntities}
+use Rattle.zt_protocol.specs.Plain.{PlainCall, DeclareToken, UndeclareToken, Interest, InterestFinal, DeclareFinal, CloseFace, SetEntities, SetTrees, Trees}
 use Rattle.zt_protocol.specs.declared.interests.InterestMode.{InterestMode}
 use Rattle.zt_protocol.specs.declared.interests.InterestOptions.{InterestOptions}
 use Rattle.zt_protocol.specs.declared.messages.Message.{Message}
@@ -19,7 +19,7 @@ use Rattle.zt_model.specs.Rows.{Face, InterestRow, Pending, Rows}
 use Rattle.zt_model.specs.Says.{asking, declaring_of, finalising_held, forget_to, hiding_undeclared, parts_of, row_of, said, tell_to, undeclaring_of}
 use Rattle.zt_model.specs.Telling.{answer_to, answering, answers_of, declaring, registered, registers, undeclared, undeclaring, unregistered}
 use Rattle.zt_model.specs.Transcript.{Each}
-use Rattle.zt_model.specs.Trees.{hide_to, hiding, is_newly_shown, router_regions, show_to, showing, source_of, with_own_rows, without_own_rows}
+use Rattle.zt_model.specs.Trees.{counted_table, forgetting, greet_to, hide_to, hiding, left_out, table_of, with_table, without_left_out, is_newly_shown, router_regions, show_to, showing, source_of, with_own_rows, without_own_rows}
 use Rattle.zt_laws.specs.Sound.{rows_after_call}
 use Rattle.zt_laws.proofs.Hearing.{find_each, heard_all-number}
 use Rattle.zt_laws.proofs.Lists.{any-filter, any-map, any_alike, any_weaker, by_test, each_append, each_filter, each_map, each_weaker, of_cond}
@@ -288,6 +288,17 @@ module _ {K : Type 0} (cmp : K → K → Ordering) (matching : K → K → Bool)
     pub entities_fine : (subscribers : List K) (queryables : List (K × QueryableInfo)) (g : Rows K) → IsFine (Alter (with_entities cmp n subscribers queryables)) → S g → Comes (SetEntities n subscribers queryables) g
     unfolding parts_of
     entities_fine subscribers queryables g sets of_kind = called_fine rules.hear (SetEntities n subscribers queryables) g (sets, tt) of_kind
+
+    -- a table is set
+    pub trees_fine : (region : Region) (t : Trees) (g : Rows K) → Forgets → IsFine (Alter (without_left_out cmp region (counted_table t))) → IsFine (Alter (with_table cmp region t)) → ((before : Trees) → IsFine (Say (λ h. to_each (greet_to cmp h region before) h.faces))) → S g → Comes (SetTrees region t) g
+    unfolding parts_of
+    trees_fine region t g forget leaves sets greets of_kind =
+        called_fine rules.hear (SetTrees region t) g (
+        leaves,
+        each_append IsFine (forgetting cmp matching region (left_out cmp region (counted_table t) g)) (Alter (with_table cmp region t) ∷ Say (λ h. to_each (greet_to cmp h region (table_of g region)) h.faces) ∷ [])
+            (each_flat_map IsFine (λ (e : K). Say (λ h. to_each (forget_to cmp matching h region e) h.faces) ∷ hiding cmp region e) (left_out cmp region (counted_table t) g) (λ e. (forget region e, hiding_fine region e)))
+            (sets, (greets (table_of g region), tt)),
+        ) of_kind
 
 -- closing a face leaves the others
 pub any_left : {K : Type 0} (test : Face K → Bool) (n : ℕ) (fs : List (Face K)) → ((f : Face K) → test f ≡ true → (n == f.number) ≡ false) → list_any test fs ≡ true → list_any test (filter (λ f. not (n == f.number)) fs) ≡ true

@@ -11,7 +11,7 @@ use Rattle.zt_region.specs.declared.region.Region.TheVariants.{North}
 use Rattle.zt_region.specs.declared.region.WhatAmI.TheVariants.{Client}
 use Rattle.zt_region.specs.Region.{is_north, region_eq, region_eq-same}
 use Rattle.zt_protocol.specs.Interest.{is_current, is_future}
-use Rattle.zt_protocol.specs.Plain.{PlainCall, NewSession, NewTransport, DeclareToken, UndeclareToken, Interest, InterestFinal, DeclareFinal, CloseFace, Expire, SetTrees, SetEntities}
+use Rattle.zt_protocol.specs.Plain.{PlainCall, NewSession, NewTransport, DeclareToken, UndeclareToken, Interest, InterestFinal, DeclareFinal, CloseFace, Expire, SetTrees, SetEntities, Trees}
 use Rattle.zt_protocol.specs.declared.interests.InterestMode.{InterestMode}
 use Rattle.zt_protocol.specs.declared.interests.InterestOptions.{InterestOptions}
 use Rattle.zt_protocol.specs.declared.messages.Message.{Message}
@@ -29,13 +29,14 @@ use Rattle.zt_model.specs.Says.{answered_expressions, asking, forget_to, forget_
 use Rattle.zt_model.specs.Strategy.{is_broker, is_client_hat, is_router_hat, strategy_of}
 use Rattle.zt_model.specs.Telling.{answer_to, answers_from, answers_of, registered, unregistered}
 use Rattle.zt_model.specs.Transcript.{Each}
-use Rattle.zt_model.specs.Trees.{hide_to, is_hidden, is_newly_shown, pass_to, router_regions, show_to, unpass_to, with_own_rows, with_routed, without_own_rows}
+use Rattle.zt_model.specs.Trees.{counted_table, greet_to, hide_to, is_child, is_hidden, routed_expressions, routers_in_order, table_of, with_table, without_left_out, is_newly_shown, pass_to, router_regions, show_to, unpass_to, with_own_rows, with_routed, without_own_rows}
 use Rattle.zt_model.specs.Visible.{is_visible, rows_of_face, routed_rows, shows}
 use Rattle.zt_model.specs.Wants.{wants}
 use Rattle.zt_laws.specs.Sound.{rows_after_call}
 use Rattle.zt_laws.proofs.Hearing.{find_each, find_passes, heard_all-live, heard_all-number, heard_all-region}
 use Rattle.zt_laws.proofs.Keys.{same_is, same_itself}
 use Rattle.zt_laws.proofs.Lists.{any-append, any-filter, any-map, any_member, any_weaker, by_test, each_always, each_append, each_filter, each_map, each_weaker, never, of_cond}
+use Rattle.zt_laws.proofs.PartsOrder.{each_flat_map}
 use Rattle.zt_laws.proofs.Told.{told_id_row}
 use Rattle.zt_laws.proofs.Visible.{any_live_rows}
 use Rattle.zt_kept.proofs.CallsRun.{each_entity}
@@ -43,7 +44,7 @@ use Rattle.zt_trees.proofs.Lines.{interest_from}
 use Rattle.zt_trees.proofs.Quiet.{is_live}
 use Rattle.zt_trees.proofs.Saying.{TreeRows}
 use Rattle.zt_tree_answers.specs.Steady.{LeavesRow, has_row}
-use Rattle.zt_tree_answers.proofs.Parts.{AreFine, Forgets, IsFine, Own, To, any_changed, any_heard, any_left, close_fine, declare_fine, entities_fine, final_fine, finish_fine, interest_fine, own_changed, own_each, own_heard, own_one, undeclare_fine}
+use Rattle.zt_tree_answers.proofs.Parts.{AreFine, Forgets, IsFine, Own, To, any_changed, any_heard, any_left, close_fine, declare_fine, entities_fine, final_fine, finish_fine, interest_fine, own_changed, own_each, own_heard, own_one, trees_fine, undeclare_fine}
 
 module _ {K : Type 0} (cmp : K → K → Ordering) (matching : K → K → Bool) (total : IsTotalOrder cmp) (equal_is_same : (a b : K) → cmp a b ≡ Equal → a ≡ b) (id : ℕ) (e : K) (real : 1 ≤ id) where
   -- a face to the north that was told the row, under an id of its own
@@ -173,6 +174,14 @@ module _ {K : Type 0} (cmp : K → K → Ordering) (matching : K → K → Bool)
       untell_leaves : (n : ℕ) → Fine (Say (to_face n (untell_to cmp matching)))
       unfolding untell_to
       untell_leaves n = by_one n (λ g f. untell_to cmp matching f) (λ g f tells told. rw (told.north) tt)
+
+      greets_leave : (region : Region) (before : Trees) → Fine (Say (λ g. to_each (greet_to cmp g region before) g.faces))
+      unfolding greet_to
+      greets_leave region before =
+          by_each (λ g f. greet_to cmp g region before f)
+          (λ g f tells told.
+          each_flat_map Leaves (λ r. if region_eq f.region region && (is_child g (table_of g region) r.1 f && not (is_child g before r.1 f)) then map (λ x. message.DeclareToken 0 x None r.0) (routed_expressions cmp g region r.1) else []) (routers_in_order cmp (table_of g region))
+          (λ r. of_cond (Each Leaves) (region_eq f.region region && (is_child g (table_of g region) r.1 f && not (is_child g before r.1 f))) (map (λ x. message.DeclareToken 0 x None r.0) (routed_expressions cmp g region r.1)) [] (λ _. alike (λ x. message.DeclareToken 0 x None r.0) (routed_expressions cmp g region r.1) (λ x is. let bad : id ≡ 0 = eqb-true id 0 is in absurd (omega arith))) (λ _. tt)))
 
       -- ---- the rule of tokens that are gone
 
@@ -379,7 +388,6 @@ module _ {K : Type 0} (cmp : K → K → Ordering) (matching : K → K → Bool)
     Spares (NewSession first) g = ⊥
     Spares (NewTransport zid whatami region bound first) g = ⊥
     Spares (Expire now) g = ⊥
-    Spares (SetTrees region t) g = ⊥
     Spares _ g = Unit {0}
 
     loosely : (g : Rows K) → Tells true g → Tells false g
@@ -419,4 +427,4 @@ module _ {K : Type 0} (cmp : K → K → Ordering) (matching : K → K → Bool)
     leaves_row spent (NewSession first) g rows accepted tells spares = absurd spares
     leaves_row spent (NewTransport zid whatami region bound first) g rows accepted tells spares = absurd spares
     leaves_row spent (Expire now) g rows accepted tells spares = absurd spares
-    leaves_row spent (SetTrees region t) g rows accepted tells spares = absurd spares
+    leaves_row spent (SetTrees region t) g rows accepted tells spares = strictly (SetTrees region t) g (trees_fine cmp matching (Tells true) (To p Leaves) 0 (rules true 0) region t g (forget_leaves true refl) (beside true (without_left_out cmp region (counted_table t)) (λ g. refl) (λ g. refl)) (beside true (with_table cmp region t) (λ g. refl) (λ g. refl)) (greets_leave true region) tells)
