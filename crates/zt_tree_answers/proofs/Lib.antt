@@ -2,3 +2,4 @@ pub mod Parts
 pub mod Told
 pub mod Ends
 pub mod Finals
+pub mod Answers

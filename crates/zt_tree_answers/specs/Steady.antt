@@ -1,5 +1,5 @@
 -- What of a told row, of an interest sent up and of an ask a message leaves as it is.
-use Rattle.std.specs.Prelude.{◌≡◌, ℕ, Bool, true, false, ◌==◌, ◌&&◌, List, [], ◌∷◌, Some, None}
+use Rattle.std.specs.Prelude.{◌≡◌, ◌⊎◌, ℕ, Bool, true, false, ◌==◌, ◌&&◌, List, [], ◌∷◌, Some, None}
 use Rattle.std.specs.List.{list_any}
 use Rattle.std.specs.declared.cmp.Ordering.{Ordering}
 use Rattle.zt_protocol.specs.declared.messages.Message.{Message}
@@ -22,6 +22,16 @@ module _ {K : Type 0} (cmp : K → K → Ordering) where
   -- the expression stands under the id
   abbrev pub has_row : ℕ → K → ById K → Bool
   has_row id e rows = list_any (λ row. (id == row.0) && same cmp e row.1) rows
+
+  -- the message answers the id the expression
+  abbrev pub is_answer : ℕ → K → Message K → Bool
+  is_answer id e (DeclareToken k x (Some interest) node) = (id == interest) && same cmp e x
+  is_answer id e _ = false
+
+  -- an answer comes with no final of the id before it
+  abbrev pub AnswersFirst : ℕ → K → List (Message K) → Type 0
+  AnswersFirst id e [] = ⊥
+  AnswersFirst id e (m ∷ ms) = (is_answer id e m ≡ true) ⊎ (IsNoFinal id m × AnswersFirst id e ms)
 
   -- the message doesn't undeclare the id, nor any expression by its name, nor declare another expression under the id
   abbrev pub LeavesRow : ℕ → K → Message K → Type 0
