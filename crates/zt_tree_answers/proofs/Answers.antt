@@ -44,7 +44,7 @@ module _ {K : Type 0} (cmp : K → K → Ordering) where
 
   -- ---- an ask hears
 
-  at_answered : (id k : ℕ) (x : K) (rows : ById (Ask K)) → at_id id (map (with_answer cmp k x) rows) ≡ option_map (λ ask. (with_answer cmp k x (id, ask)).1) (at_id id rows)
+  pub at_answered : (id k : ℕ) (x : K) (rows : ById (Ask K)) → at_id id (map (with_answer cmp k x) rows) ≡ option_map (λ ask. (with_answer cmp k x (id, ask)).1) (at_id id rows)
   at_answered id k x [] = refl
   at_answered id k x (row ∷ rows) =
       by_test (id == row.0)

@@ -3,3 +3,4 @@ pub mod Told
 pub mod Ends
 pub mod Finals
 pub mod Answers
+pub mod Asking
