@@ -39,7 +39,7 @@ use Rattle.zt_kept.proofs.CallsRun.{each_entity}
 use Rattle.zt_kept.proofs.Going.{each_put_if}
 use Rattle.zt_trees.proofs.Saying.{TreeRows}
 use Rattle.zt_tree_calls.proofs.Upstream.{same_to_all}
-use Rattle.zt_tree_answers.specs.Steady.{LeavesInterest}
+use Rattle.zt_tree_answers.specs.Steady.{IsSentUp, LeavesInterest}
 use Rattle.zt_tree_answers.proofs.Parts.{AreFine, Forgets, IsFine, Own, To, any_changed, any_heard, any_left, close_fine, declare_fine, entities_fine, final_fine, finish_fine, interest_fine, own_changed, own_each, own_heard, own_one, trees_fine, undeclare_fine}
 
 -- the row under an id passes a test, so some row does
@@ -51,15 +51,13 @@ any_at test id (row ∷ rows) some =
     (λ here. or_right (test row.1) (list_any (λ r. test r.1) rows) (any_at test id rows (rw here at some)))
 
 module _ {K : Type 0} (cmp : K → K → Ordering) (matching : K → K → Bool) (total : IsTotalOrder cmp) (equal_is_same : (a b : K) → cmp a b ≡ Equal → a ≡ b) (local : ℕ) (i : InterestRow K) where
-  -- the interest was sent up under the id, which no other has
-  pub record IsSentUp (f : Face K) : Type 0 where
-    pub only : Each (λ row. (local == row.0) ≡ true → row.1 ≡ i) f.locals
-    pub next : local < f.next
+  abbrev pub SentUp : Face K → Type 0
+  SentUp f = IsSentUp local i f
 
   abbrev Leaves : Message K → Type 0
   Leaves m = LeavesInterest local m
 
-  sent_heard : (now : ℕ) (m : Message K) (f : Face K) → IsSentUp f → Leaves m → IsSentUp (heard cmp now m f)
+  sent_heard : (now : ℕ) (m : Message K) (f : Face K) → SentUp f → Leaves m → SentUp (heard cmp now m f)
   sent_heard now (message.DeclareToken k x interest node) f sent leaves = let less : local < f.next = sent.next in record { only = sent.only; next = omega arith }
   sent_heard now (message.UndeclareToken k x node) f sent leaves = record { only = sent.only; next = sent.next }
   sent_heard now (message.DeclareFinal interest) f sent leaves = record { only = sent.only; next = sent.next }
@@ -79,7 +77,7 @@ module _ {K : Type 0} (cmp : K → K → Ordering) (matching : K → K → Bool)
     is_held_below f = (q == f.number) && (not (is_north f.region) && is_some_and (at_id id f.held) (asks_same cmp matching i))
 
     pub record IsUp (g : Rows K) : Type 0 where
-      pub sent : Own p Leaves cmp IsSentUp g.faces
+      pub sent : Own p Leaves cmp SentUp g.faces
       pub held : list_any is_held_below g.faces ≡ true
 
     abbrev Fine : Part K → Type 0
@@ -93,13 +91,13 @@ module _ {K : Type 0} (cmp : K → K → Ordering) (matching : K → K → Bool)
 
     up_heard : (ss : Sends K) (g : Rows K) → IsUp g → Each (To p Leaves) ss → IsUp (rows_heard cmp ss g)
     unfolding rows_heard
-    up_heard ss g up said_ = record { sent = own_heard p Leaves cmp IsSentUp sent_heard ss g said_ up.sent; held = any_heard p Leaves cmp is_held_below held_heard ss g up.held }
+    up_heard ss g up said_ = record { sent = own_heard p Leaves cmp SentUp sent_heard ss g said_ up.sent; held = any_heard p Leaves cmp is_held_below held_heard ss g up.held }
 
-    by_each : (rule : Rows K → Face K → List (Message K)) → ((g : Rows K) (f : Face K) → IsUp g → IsSentUp f → Each Leaves (rule g f)) → Fine (Say (λ g. to_each (rule g) g.faces))
-    by_each rule says = λ g up. own_each p Leaves cmp IsSentUp (rule g) g.faces (λ f sent. says g f up sent) up.sent
+    by_each : (rule : Rows K → Face K → List (Message K)) → ((g : Rows K) (f : Face K) → IsUp g → SentUp f → Each Leaves (rule g f)) → Fine (Say (λ g. to_each (rule g) g.faces))
+    by_each rule says = λ g up. own_each p Leaves cmp SentUp (rule g) g.faces (λ f sent. says g f up sent) up.sent
 
-    by_one : (n : ℕ) (rule : Rows K → Face K → List (Message K)) → ((g : Rows K) (f : Face K) → IsUp g → IsSentUp f → Each Leaves (rule g f)) → Fine (Say (λ g. to_face n (rule g) g))
-    by_one n rule says = λ g up. own_one p Leaves cmp IsSentUp n (rule g) g (λ f sent. says g f up sent) up.sent
+    by_one : (n : ℕ) (rule : Rows K → Face K → List (Message K)) → ((g : Rows K) (f : Face K) → IsUp g → SentUp f → Each Leaves (rule g f)) → Fine (Say (λ g. to_face n (rule g) g))
+    by_one n rule says = λ g up. own_one p Leaves cmp SentUp n (rule g) g (λ f sent. says g f up sent) up.sent
 
     alike : {A : Type 0} (say : A → Message K) (xs : List A) → ((x : A) → Leaves (say x)) → Each Leaves (map say xs)
     alike say xs h = each_map Leaves say xs (each_always (λ x. Leaves (say x)) h xs)
@@ -225,12 +223,12 @@ module _ {K : Type 0} (cmp : K → K → Ordering) (matching : K → K → Bool)
 
     -- ---- what changes
 
-    changed : (n : ℕ) (change : Face K → Face K) → ((f : Face K) → (change f).number ≡ f.number) → ((f : Face K) → IsSentUp f → IsSentUp (change f)) → ((f : Face K) → (n == f.number) ≡ true → is_held_below f ≡ true → is_held_below (change f) ≡ true) → Fine (Alter (with_face n change))
+    changed : (n : ℕ) (change : Face K → Face K) → ((f : Face K) → (change f).number ≡ f.number) → ((f : Face K) → SentUp f → SentUp (change f)) → ((f : Face K) → (n == f.number) ≡ true → is_held_below f ≡ true → is_held_below (change f) ≡ true) → Fine (Alter (with_face n change))
     unfolding with_face
-    changed n change still sent held = λ g up. record { sent = own_changed p Leaves cmp IsSentUp n change still (λ f here own. sent f) g up.sent; held = any_changed p Leaves is_held_below n change held g up.held }
+    changed n change still sent held = λ g up. record { sent = own_changed p Leaves cmp SentUp n change still (λ f here own. sent f) g up.sent; held = any_changed p Leaves is_held_below n change held g up.held }
 
     beside : (change : Rows K → Rows K) → ((g : Rows K) → (change g).faces ≡ g.faces) → Fine (Alter change)
-    beside change faces_ = λ g up. record { sent = subst (Own p Leaves cmp IsSentUp) (sym (faces_ g)) up.sent; held = ap (list_any is_held_below) (faces_ g) ∙ up.held }
+    beside change faces_ = λ g up. record { sent = subst (Own p Leaves cmp SentUp) (sym (faces_ g)) up.sent; held = ap (list_any is_held_below) (faces_ g) ∙ up.held }
 
     own_rows_faces : (rs : List Region) (x : K) (g : Rows K) → (with_own_rows cmp rs x g).faces ≡ g.faces
     unfolding with_own_rows with_routed
@@ -321,7 +319,7 @@ module _ {K : Type 0} (cmp : K → K → Ordering) (matching : K → K → Bool)
 
     closes_face : (n : ℕ) → (n == q) ≡ false → Fine (Alter (without_face n))
     closes_face n apart = λ g up. record {
-      sent = each_filter (λ f. (p == f.number) ≡ true → IsSentUp f) (λ f. not (n == f.number)) g.faces up.sent;
+      sent = each_filter (λ f. (p == f.number) ≡ true → SentUp f) (λ f. not (n == f.number)) g.faces up.sent;
       held = any_left is_held_below n g.faces (λ f held. by_test (n == f.number) (λ here. never (eq-eqb n q (eqb-true n f.number here ∙ sym (eqb-true q f.number (and_parts (q == f.number) _ held).0))) apart) (λ h. h)) up.held;
     }
 

@@ -4,3 +4,4 @@ pub mod Ends
 pub mod Finals
 pub mod Answers
 pub mod Asking
+pub mod Stays

@@ -43,17 +43,12 @@ use Rattle.zt_kept.proofs.CallsRun.{each_entity}
 use Rattle.zt_trees.proofs.Lines.{interest_from}
 use Rattle.zt_trees.proofs.Quiet.{is_live}
 use Rattle.zt_trees.proofs.Saying.{TreeRows}
-use Rattle.zt_tree_answers.specs.Steady.{LeavesRow, has_row}
+use Rattle.zt_tree_answers.specs.Steady.{IsTold, LeavesRow, has_row}
 use Rattle.zt_tree_answers.proofs.Parts.{AreFine, Forgets, IsFine, Own, To, any_changed, any_heard, any_left, close_fine, declare_fine, entities_fine, final_fine, finish_fine, interest_fine, own_changed, own_each, own_heard, own_one, trees_fine, undeclare_fine}
 
 module _ {K : Type 0} (cmp : K → K → Ordering) (matching : K → K → Bool) (total : IsTotalOrder cmp) (equal_is_same : (a b : K) → cmp a b ≡ Equal → a ≡ b) (id : ℕ) (e : K) (real : 1 ≤ id) where
-  -- a face to the north that was told the row, under an id of its own
-  pub record IsTold (f : Face K) : Type 0 where
-    pub north : is_north f.region ≡ true
-    pub asks : f.asks ≡ []
-    pub has : has_row cmp id e f.told ≡ true
-    pub only : Each (λ row. (id == row.0) ≡ true → same cmp e row.1 ≡ true) f.told
-    pub next : id < f.next
+  abbrev pub Told : Face K → Type 0
+  Told f = IsTold cmp id e f
 
   abbrev Leaves : Message K → Type 0
   Leaves m = LeavesRow cmp id e m
@@ -64,7 +59,7 @@ module _ {K : Type 0} (cmp : K → K → Ordering) (matching : K → K → Bool)
   no_asks None x = refl
   no_asks (Some i) x = refl
 
-  told_heard : (now : ℕ) (m : Message K) (f : Face K) → IsTold f → Leaves m → IsTold (heard cmp now m f)
+  told_heard : (now : ℕ) (m : Message K) (f : Face K) → Told f → Leaves m → Told (heard cmp now m f)
   told_heard now (message.DeclareToken k x interest node) f told leaves =
       let less : id < f.next = told.next in
       record {
@@ -106,7 +101,7 @@ module _ {K : Type 0} (cmp : K → K → Ordering) (matching : K → K → Bool)
     -- the rows of a client gateway whose face was told; `lives` says whether the expression has to be live
     pub record Tells (lives : Bool) (g : Rows K) : Type 0 where
       pub client : g.mode ≡ Client
-      pub told : Own p Leaves cmp IsTold g.faces
+      pub told : Own p Leaves cmp Told g.faces
       pub live : lives ≡ true → list_any is_live_below g.faces ≡ true
 
     module _ (lives : Bool) where
@@ -123,16 +118,16 @@ module _ {K : Type 0} (cmp : K → K → Ordering) (matching : K → K → Bool)
       unfolding rows_heard
       tells_heard ss g tells said_ = record {
         client = tells.client;
-        told = own_heard p Leaves cmp IsTold told_heard ss g said_ tells.told;
+        told = own_heard p Leaves cmp Told told_heard ss g said_ tells.told;
         live = λ some. any_heard p Leaves cmp is_live_below live_heard ss g (tells.live some);
       }
 
       -- a rule for each face, and one for one face
-      by_each : (rule : Rows K → Face K → List (Message K)) → ((g : Rows K) (f : Face K) → Tells lives g → IsTold f → Each Leaves (rule g f)) → Fine (Say (λ g. to_each (rule g) g.faces))
-      by_each rule says = λ g tells. own_each p Leaves cmp IsTold (rule g) g.faces (λ f told. says g f tells told) tells.told
+      by_each : (rule : Rows K → Face K → List (Message K)) → ((g : Rows K) (f : Face K) → Tells lives g → Told f → Each Leaves (rule g f)) → Fine (Say (λ g. to_each (rule g) g.faces))
+      by_each rule says = λ g tells. own_each p Leaves cmp Told (rule g) g.faces (λ f told. says g f tells told) tells.told
 
-      by_one : (n : ℕ) (rule : Rows K → Face K → List (Message K)) → ((g : Rows K) (f : Face K) → Tells lives g → IsTold f → Each Leaves (rule g f)) → Fine (Say (λ g. to_face n (rule g) g))
-      by_one n rule says = λ g tells. own_one p Leaves cmp IsTold n (rule g) g (λ f told. says g f tells told) tells.told
+      by_one : (n : ℕ) (rule : Rows K → Face K → List (Message K)) → ((g : Rows K) (f : Face K) → Tells lives g → Told f → Each Leaves (rule g f)) → Fine (Say (λ g. to_face n (rule g) g))
+      by_one n rule says = λ g tells. own_one p Leaves cmp Told n (rule g) g (λ f told. says g f tells told) tells.told
 
       alike : {A : Type 0} (say : A → Message K) (xs : List A) → ((x : A) → Leaves (say x)) → Each Leaves (map say xs)
       alike say xs h = each_map Leaves say xs (each_always (λ x. Leaves (say x)) h xs)
@@ -140,7 +135,7 @@ module _ {K : Type 0} (cmp : K → K → Ordering) (matching : K → K → Bool)
       apart_next : (next : ℕ) (x : K) → id < next → (id == next) ≡ true → same cmp e x ≡ true
       apart_next next x less is = let bad : id ≡ next = eqb-true id next is in absurd (omega arith)
 
-      no_router_hat : (g : Rows K) (f : Face K) → Tells lives g → IsTold f → is_router_hat (strategy_of g.mode f.region) ≡ false
+      no_router_hat : (g : Rows K) (f : Face K) → Tells lives g → Told f → is_router_hat (strategy_of g.mode f.region) ≡ false
       no_router_hat g f tells told = rw (tells.client, region_eq-same f.region North told.north) refl
 
       tell_leaves : (source : Region) (x : K) → Fine (Say (λ g. to_each (tell_to cmp matching g source x) g.faces))
@@ -209,7 +204,7 @@ module _ {K : Type 0} (cmp : K → K → Ordering) (matching : K → K → Bool)
           of_cond (Each Leaves) (is_routed g f || is_visible cmp g f.region x) [] (elim (told_id cmp x f.told) [ None ↦ forget_untold cmp matching g source x f | Some k ↦ message.UndeclareToken k None 0 ∷ [] ]) (λ _. tt)
           (λ unseen. cases g f tells told unseen (told_id cmp x f.told) refl))
         where
-          cases : (g : Rows K) (f : Face K) → Tells lives g → IsTold f → (is_routed g f || is_visible cmp g f.region x) ≡ false → (o : Option ℕ) → told_id cmp x f.told ≡ o → Each Leaves (elim o [ None ↦ forget_untold cmp matching g source x f | Some k ↦ message.UndeclareToken k None 0 ∷ [] ])
+          cases : (g : Rows K) (f : Face K) → Tells lives g → Told f → (is_routed g f || is_visible cmp g f.region x) ≡ false → (o : Option ℕ) → told_id cmp x f.told ≡ o → Each Leaves (elim o [ None ↦ forget_untold cmp matching g source x f | Some k ↦ message.UndeclareToken k None 0 ∷ [] ])
           cases g f tells told unseen None is =
               of_cond (Each Leaves) (wants matching f x && not (is_client_hat (strategy_of g.mode f.region)) && shows f.region source) (message.UndeclareToken 0 (Some x) 0 ∷ []) []
               (λ here.
@@ -234,12 +229,12 @@ module _ {K : Type 0} (cmp : K → K → Ordering) (matching : K → K → Bool)
 
       -- ---- what changes
 
-      changed : (n : ℕ) (change : Face K → Face K) → ((f : Face K) → (change f).number ≡ f.number) → ((f : Face K) → (n == f.number) ≡ true → (p == f.number) ≡ true → IsTold f → IsTold (change f)) → (lives ≡ true → (f : Face K) → (n == f.number) ≡ true → is_live_below f ≡ true → is_live_below (change f) ≡ true)
+      changed : (n : ℕ) (change : Face K → Face K) → ((f : Face K) → (change f).number ≡ f.number) → ((f : Face K) → (n == f.number) ≡ true → (p == f.number) ≡ true → Told f → Told (change f)) → (lives ≡ true → (f : Face K) → (n == f.number) ≡ true → is_live_below f ≡ true → is_live_below (change f) ≡ true)
           → Fine (Alter (with_face n change))
       unfolding with_face
       changed n change still told live = λ g tells. record {
         client = tells.client;
-        told = own_changed p Leaves cmp IsTold n change still told g tells.told;
+        told = own_changed p Leaves cmp Told n change still told g tells.told;
         live = λ some. any_changed p Leaves is_live_below n change (live some) g (tells.live some);
       }
 
@@ -247,11 +242,11 @@ module _ {K : Type 0} (cmp : K → K → Ordering) (matching : K → K → Bool)
       beside : (change : Rows K → Rows K) → ((g : Rows K) → (change g).faces ≡ g.faces) → ((g : Rows K) → (change g).mode ≡ g.mode) → Fine (Alter change)
       beside change faces_ mode_ = λ g tells. record {
         client = mode_ g ∙ tells.client;
-        told = subst (Own p Leaves cmp IsTold) (sym (faces_ g)) tells.told;
+        told = subst (Own p Leaves cmp Told) (sym (faces_ g)) tells.told;
         live = λ some. ap (list_any is_live_below) (faces_ g) ∙ tells.live some;
       }
 
-      same_told : (f h : Face K) → h.region ≡ f.region → h.told ≡ f.told → h.asks ≡ [] → h.next ≡ f.next → IsTold f → IsTold h
+      same_told : (f h : Face K) → h.region ≡ f.region → h.told ≡ f.told → h.asks ≡ [] → h.next ≡ f.next → Told f → Told h
       same_told f h region_ told_ asks_ next_ own = record {
         north = ap is_north region_ ∙ own.north;
         asks = asks_;
@@ -284,7 +279,7 @@ module _ {K : Type 0} (cmp : K → K → Ordering) (matching : K → K → Bool)
       closes_face : (n : ℕ) → (n == q) ≡ false → Fine (Alter (without_face n))
       closes_face n apart = λ g tells. record {
         client = tells.client;
-        told = each_filter (λ f. (p == f.number) ≡ true → IsTold f) (λ f. not (n == f.number)) g.faces tells.told;
+        told = each_filter (λ f. (p == f.number) ≡ true → Told f) (λ f. not (n == f.number)) g.faces tells.told;
         live = λ some. any_left is_live_below n g.faces (λ f live. by_test (n == f.number) (λ here. never (eq-eqb n q (eqb-true n f.number here ∙ sym (eqb-true q f.number (and_parts (q == f.number) _ live).0))) apart) (λ h. h)) (tells.live some);
       }
 
@@ -407,14 +402,14 @@ module _ {K : Type 0} (cmp : K → K → Ordering) (matching : K → K → Bool)
         strictly (UndeclareToken n k given node) g
         (undeclare_fine cmp matching (Tells true) (To p Leaves) n (rules true n) k node given g rows (forget_leaves true refl) tells (record {
           client = tells.client;
-          told = own_changed p Leaves cmp IsTold n (unregistered k) (λ f. refl) (λ f here own told. same_told true f (unregistered k f) refl refl told.asks refl told) g tells.told;
+          told = own_changed p Leaves cmp Told n (unregistered k) (λ f. refl) (λ f here own told. same_told true f (unregistered k f) refl refl told.asks refl told) g tells.told;
           live = λ some. spares;
         }))
     leaves_row spent (Interest n k mode options x) g rows accepted tells spares =
         let from = interest_from cmp matching spent n k mode options x g rows accepted in
         let apart : (n == p) ≡ false = by_test (n == p)
         (λ is.
-        let told = find_each (λ f. (p == f.number) ≡ true → IsTold f) (λ (f : Face K). n == f.number) g.faces from.0 tells.told from.1.0 in
+        let told = find_each (λ f. (p == f.number) ≡ true → Told f) (λ (f : Face K). n == f.number) g.faces from.0 tells.told from.1.0 in
         let own : (p == from.0.number) ≡ true = ap (λ j. j == from.0.number) (sym (eqb-true n p is)) ∙ find_passes (λ (f : Face K). n == f.number) g.faces from.0 from.1.0 in
         never (told own).north from.1.1)
         (λ h. h) in

@@ -1,11 +1,13 @@
 -- What of a told row, of an interest sent up and of an ask a message leaves as it is.
-use Rattle.std.specs.Prelude.{◌≡◌, ◌⊎◌, ℕ, Bool, true, false, ◌==◌, ◌&&◌, List, [], ◌∷◌, Some, None}
+use Rattle.std.specs.Prelude.{◌≡◌, ◌⊎◌, ℕ, ◌<◌, Bool, true, false, ◌==◌, ◌&&◌, List, [], ◌∷◌, Some, None}
 use Rattle.std.specs.List.{list_any}
 use Rattle.std.specs.declared.cmp.Ordering.{Ordering}
+use Rattle.zt_region.specs.Region.{is_north}
 use Rattle.zt_protocol.specs.declared.messages.Message.{Message}
 use Rattle.zt_protocol.specs.declared.messages.Message.TheVariants.{DeclareToken, UndeclareToken, DeclareFinal, Interest, InterestFinal}
 use Rattle.zt_model.specs.Lists.{same}
-use Rattle.zt_model.specs.Rows.{ById}
+use Rattle.zt_model.specs.Rows.{ById, Face, InterestRow}
+use Rattle.zt_model.specs.Transcript.{Each}
 
 -- the message is no final of the id
 abbrev pub IsNoFinal : {K : Type 0} → ℕ → Message K → Type 0
@@ -17,6 +19,21 @@ abbrev pub LeavesInterest : {K : Type 0} → ℕ → Message K → Type 0
 LeavesInterest id (Interest k mode options e) = (id == k) ≡ false
 LeavesInterest id (InterestFinal k) = (id == k) ≡ false
 LeavesInterest id _ = Unit {0}
+
+-- the message doesn't end the interest of the id
+abbrev pub IsNoEnd : {K : Type 0} → ℕ → Message K → Type 0
+IsNoEnd id (InterestFinal k) = (id == k) ≡ false
+IsNoEnd id _ = Unit {0}
+
+-- a final is of an id below the next one
+abbrev pub FinalIsBelow : {K : Type 0} → ℕ → Message K → Type 0
+FinalIsBelow next (DeclareFinal interest) = interest < next
+FinalIsBelow next _ = Unit {0}
+
+-- the interest was sent up under the id, which no other has
+pub record IsSentUp {K : Type 0} (id : ℕ) (i : InterestRow K) (f : Face K) : Type 0 where
+  pub only : Each (λ row. (id == row.0) ≡ true → row.1 ≡ i) f.locals
+  pub next : id < f.next
 
 module _ {K : Type 0} (cmp : K → K → Ordering) where
   -- the expression stands under the id
@@ -39,3 +56,11 @@ module _ {K : Type 0} (cmp : K → K → Ordering) where
   LeavesRow id e (UndeclareToken k None node) = (id == k) ≡ false
   LeavesRow id e (UndeclareToken k (Some x) node) = ⊥
   LeavesRow id e _ = Unit {0}
+
+  -- a face to the north that was told the row, under an id of its own
+  pub record IsTold (id : ℕ) (e : K) (f : Face K) : Type 0 where
+    pub north : is_north f.region ≡ true
+    pub asks : f.asks ≡ []
+    pub has : has_row id e f.told ≡ true
+    pub only : Each (λ row. (id == row.0) ≡ true → same cmp e row.1 ≡ true) f.told
+    pub next : id < f.next
