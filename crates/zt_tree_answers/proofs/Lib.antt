@@ -5,3 +5,5 @@ pub mod Finals
 pub mod Answers
 pub mod Asking
 pub mod Stays
+pub mod Views
+pub mod Carrying

@@ -79,6 +79,15 @@ module _ {K : Type 0} (cmp : K → K → Ordering) (matching : K → K → Bool)
       let miss : (k == row.0) ≡ false = by_test (k == row.0) (λ is. never (eq-eqb id k (own ∙ sym (eqb-true k row.0 is))) apart) (λ h. h) in
       and_from (not (k == row.0)) ((id == row.0) && same cmp e row.1) (ap not miss) passes) rows has
 
+  -- an undeclaration that is accepted names an expression
+  pub named_undeclared : (id : ℕ) (f : Face K) (o : Option K) → is_unknown_token id o f ≡ false → (x : K) × (undeclared cmp matching id o f ≡ Some x)
+  named_undeclared id f None known = let there = found_at id f.live (not_true known) in (there.0, ap (λ o. (let r : Option K = elim o [ None ↦ None | Some k ↦ Some k ] in r)) there.1)
+  named_undeclared id f (Some e) known = at_live (at_id id f.live) refl
+    where
+      at_live : (o : Option K) → at_id id f.live ≡ o → (x : K) × (undeclared cmp matching id (Some e) f ≡ Some x)
+      at_live None at_ = (e, ap (λ o. (let r : Option K = elim o [ None ↦ Some e | Some k ↦ Some k ] in r)) at_)
+      at_live (Some x) at_ = (x, ap (λ o. (let r : Option K = elim o [ None ↦ Some e | Some k ↦ Some k ] in r)) at_)
+
   heard_there : (c : PlainCall K) (g : Rows K) (p : ℕ) (f : Face K) → Hears cmp matching c g p f → IsLeft c g p f
   heard_there c g p f h = record {
     after = h.after;
@@ -114,16 +123,8 @@ module _ {K : Type 0} (cmp : K → K → Ordering) (matching : K → K → Bool)
       by_name spent (UndeclareToken n id given node) g n p f rows accepted refl refl found
       (λ is own.
       let three = no_cause _ _ _ (no_cause _ _ _ (no_cause _ _ _ accepted).1).1 in
-      let named = some_named given (not_on_face n g (is_unknown_token id given) f own three.0) in
+      let named = named_undeclared id f given (not_on_face n g (is_unknown_token id given) f own three.0) in
       acted (UndeclareToken n id given node) g n p f (unregistered id f) is (own_undeclare cmp matching n id node given g f rows own named.0 named.1) refl (λ k x spares has. without_row k id x f.live (spares is) has) (λ k a at_. at_))
-    where
-      at_live : (e : K) (o : Option K) → at_id id f.live ≡ o → (x : K) × (undeclared cmp matching id (Some e) f ≡ Some x)
-      at_live e None at_ = (e, ap (λ o. (let r : Option K = elim o [ None ↦ Some e | Some k ↦ Some k ] in r)) at_)
-      at_live e (Some x) at_ = (x, ap (λ o. (let r : Option K = elim o [ None ↦ Some e | Some k ↦ Some k ] in r)) at_)
-
-      some_named : (o : Option K) → is_unknown_token id o f ≡ false → (x : K) × (undeclared cmp matching id o f ≡ Some x)
-      some_named None known = let there = found_at id f.live (not_true known) in (there.0, ap (λ o. (let r : Option K = elim o [ None ↦ None | Some k ↦ Some k ] in r)) there.1)
-      some_named (Some e) known = at_live e (at_id id f.live) refl
   is_left spent (Interest n id mode options e) g p f rows accepted still open_ found =
       by_name spent (Interest n id mode options e) g n p f rows accepted refl refl found
       (λ is own.
