@@ -59,6 +59,8 @@ module _ {K : Type 0} (cmp : K → K → Ordering) (matching : K → K → Bool)
     pub region : after.region ≡ f.region
     pub row : (id : ℕ) (e : K) → SparesRow c p id e → has_row cmp id e f.live ≡ true → has_row cmp id e after.live ≡ true
     pub ask : (id : ℕ) (a : Ask K) → at_id id f.asks ≡ Some a → at_id id after.asks ≡ Some a
+    pub next : after.next ≡ f.next
+    pub locals : after.locals ≡ f.locals
 
   put_row : (id k : ℕ) (e x : K) (rows : ById K) → ((id == k) ≡ true → same cmp e x ≡ true) → has_row cmp id e rows ≡ true → has_row cmp id e (put nat_cmp k x rows) ≡ true
   put_row id k e x rows same_ has =
@@ -95,11 +97,13 @@ module _ {K : Type 0} (cmp : K → K → Ordering) (matching : K → K → Bool)
     region = h.unmoved.region;
     row = λ id e spares has. ap (has_row cmp id e) h.unmoved.live ∙ has;
     ask = λ id a at_. ap (at_id id) h.unmoved.asks ∙ at_;
+    next = h.unmoved.next;
+    locals = h.unmoved.locals;
   }
 
   acted : (c : PlainCall K) (g : Rows K) (n p : ℕ) (f after : Face K) → n ≡ p → Acts cmp matching c g n f after → after.region ≡ f.region → ((id : ℕ) (e : K) → SparesRow c p id e → has_row cmp id e f.live ≡ true → has_row cmp id e after.live ≡ true) → ((id : ℕ) (a : Ask K) → at_id id f.asks ≡ Some a → at_id id after.asks ≡ Some a)
-      → IsLeft c g p f
-  acted c g n p f after is acts region_ row ask = record { after = after; altered_is = ap (λ k. find_face k (altered cmp matching c g)) (sym is) ∙ acts.altered_is; region = region_; row = row; ask = ask }
+      → after.next ≡ f.next → after.locals ≡ f.locals → IsLeft c g p f
+  acted c g n p f after is acts region_ row ask next_ locals_ = record { after = after; altered_is = ap (λ k. find_face k (altered cmp matching c g)) (sym is) ∙ acts.altered_is; region = region_; row = row; ask = ask; next = next_; locals = locals_ }
 
   by_name : (spent : Bool) (c : PlainCall K) (g : Rows K) (n p : ℕ) (f : Face K) → TreeRows cmp g → first_cause (call_causes cmp matching spent c g) ≡ None → opens_face c ≡ false → call_face c ≡ Some n → find_face p g ≡ Some f → (n ≡ p → find_face n g ≡ Some f → IsLeft c g p f) → IsLeft c g p f
   by_name spent c g n p f rows accepted still names found own =
@@ -118,13 +122,14 @@ module _ {K : Type 0} (cmp : K → K → Ordering) (matching : K → K → Bool)
       acted (DeclareToken n id e node interest) g n p f (if registers f interest then registered id e f else f) is (own_declare cmp matching n id node e interest g f rows own)
       (of_cond (λ (h : Face K). h.region ≡ f.region) (registers f interest) (registered id e f) f (λ _. refl) (λ _. refl))
       (λ k x spares has. of_cond (λ (h : Face K). has_row cmp k x h.live ≡ true) (registers f interest) (registered id e f) f (λ _. put_row k id x e f.live (spares is) has) (λ _. has))
-      (λ k a at_. of_cond (λ (h : Face K). at_id k h.asks ≡ Some a) (registers f interest) (registered id e f) f (λ _. at_) (λ _. at_)))
+      (λ k a at_. of_cond (λ (h : Face K). at_id k h.asks ≡ Some a) (registers f interest) (registered id e f) f (λ _. at_) (λ _. at_))
+      (of_cond (λ (h : Face K). h.next ≡ f.next) (registers f interest) (registered id e f) f (λ _. refl) (λ _. refl)) (of_cond (λ (h : Face K). h.locals ≡ f.locals) (registers f interest) (registered id e f) f (λ _. refl) (λ _. refl)))
   is_left spent (UndeclareToken n id given node) g p f rows accepted still open_ found =
       by_name spent (UndeclareToken n id given node) g n p f rows accepted refl refl found
       (λ is own.
       let three = no_cause _ _ _ (no_cause _ _ _ (no_cause _ _ _ accepted).1).1 in
       let named = named_undeclared id f given (not_on_face n g (is_unknown_token id given) f own three.0) in
-      acted (UndeclareToken n id given node) g n p f (unregistered id f) is (own_undeclare cmp matching n id node given g f rows own named.0 named.1) refl (λ k x spares has. without_row k id x f.live (spares is) has) (λ k a at_. at_))
+      acted (UndeclareToken n id given node) g n p f (unregistered id f) is (own_undeclare cmp matching n id node given g f rows own named.0 named.1) refl (λ k x spares has. without_row k id x f.live (spares is) has) (λ k a at_. at_) refl refl)
   is_left spent (Interest n id mode options e) g p f rows accepted still open_ found =
       by_name spent (Interest n id mode options e) g n p f rows accepted refl refl found
       (λ is own.
@@ -137,7 +142,7 @@ module _ {K : Type 0} (cmp : K → K → Ordering) (matching : K → K → Bool)
       let five = no_cause _ _ _ four.1 in
       let free : is_interest_id_in_use id mode f ≡ false = not_on_face n g (is_interest_id_in_use id mode) f own five.0 in
       acted (Interest n id mode options e) g n p f _ is (own_interest cmp matching n id mode options e g f rows own (ap (λ (h : Face K). is_north h.region) (sym same_) ∙ from.1.1)) refl (λ k x spares has. has)
-      (λ k a at_. other_ask _ k a at_ (is_current mode) (λ current is_id. never (or_right (is_future mode && has_id id f.held) (is_current mode && has_id id f.asks) (and_from (is_current mode) (has_id id f.asks) current (ap (λ i. has_id i f.asks) (sym (eqb-true k id is_id)) ∙ at_has k f.asks a at_))) free)))
+      (λ k a at_. other_ask _ k a at_ (is_current mode) (λ current is_id. never (or_right (is_future mode && has_id id f.held) (is_current mode && has_id id f.asks) (and_from (is_current mode) (has_id id f.asks) current (ap (λ i. has_id i f.asks) (sym (eqb-true k id is_id)) ∙ at_has k f.asks a at_))) free)) refl refl)
     where
       other_ask : (new : Ask K) (k : ℕ) (a : Ask K) → at_id k f.asks ≡ Some a → (b : Bool) → (b ≡ true → (k == id) ≡ true → ⊥) → at_id k (put_if b id new f.asks) ≡ Some a
       other_ask new k a at_ false apart = at_
@@ -147,7 +152,7 @@ module _ {K : Type 0} (cmp : K → K → Ordering) (matching : K → K → Bool)
       (λ is own.
       let two = no_cause _ _ _ (no_cause _ _ _ accepted).1 in
       let there = found_at id f.held (not_true (not_on_face n g (λ h. not (has_id id h.held)) f own two.0)) in
-      acted (InterestFinal n id) g n p f _ is (own_final cmp matching n id g f there.0 rows own there.1) refl (λ k x spares has. has) (λ k a at_. at_))
+      acted (InterestFinal n id) g n p f _ is (own_final cmp matching n id g f there.0 rows own there.1) refl (λ k x spares has. has) (λ k a at_. at_) refl refl)
   is_left spent (DeclareFinal n id) g p f rows accepted still open_ found =
       by_name spent (DeclareFinal n id) g n p f rows accepted refl refl found
       (λ is own.
@@ -158,6 +163,8 @@ module _ {K : Type 0} (cmp : K → K → Ordering) (matching : K → K → Bool)
         region = h.unmoved.region;
         row = λ k x spares has. ap (has_row cmp k x) h.unmoved.live ∙ has;
         ask = λ k a at_. ap (at_id k) h.unmoved.asks ∙ at_;
+        next = h.unmoved.next;
+        locals = h.unmoved.locals;
       })
   is_left spent (Expire now) g p f rows accepted still open_ found = heard_there (Expire now) g p f (hears_call cmp matching spent (Expire now) g p f rows accepted refl (λ k k_is is. let bad : None ≡ Some k = k_is in cc) found)
   is_left spent (SetTrees region t) g p f rows accepted still open_ found = heard_there (SetTrees region t) g p f (hears_call cmp matching spent (SetTrees region t) g p f rows accepted refl (λ k k_is is. let bad : None ≡ Some k = k_is in cc) found)

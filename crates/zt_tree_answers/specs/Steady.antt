@@ -20,11 +20,6 @@ LeavesInterest id (Interest k mode options e) = (id == k) ≡ false
 LeavesInterest id (InterestFinal k) = (id == k) ≡ false
 LeavesInterest id _ = Unit {0}
 
--- the message doesn't end the interest of the id
-abbrev pub IsNoEnd : {K : Type 0} → ℕ → Message K → Type 0
-IsNoEnd id (InterestFinal k) = (id == k) ≡ false
-IsNoEnd id _ = Unit {0}
-
 -- a final is of an id below the next one
 abbrev pub FinalIsBelow : {K : Type 0} → ℕ → Message K → Type 0
 FinalIsBelow next (DeclareFinal interest) = interest < next

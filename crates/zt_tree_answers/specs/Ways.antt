@@ -12,7 +12,7 @@ use Rattle.zt_model.specs.Rows.{Ask, Face, InterestRow}
 use Rattle.zt_model.specs.Transcript.{Each, FaceAt, face_numbered}
 use Rattle.zt_model.specs.TreePromises.{IsMember, is_live_at}
 use Rattle.zt_trees.specs.Joints.{are_joined}
-use Rattle.zt_tree_answers.specs.Steady.{AnswersFirst, FinalIsBelow, IsNoEnd, IsNoFinal, IsSentUp, IsTold, LeavesRow, has_row}
+use Rattle.zt_tree_answers.specs.Steady.{AnswersFirst, FinalIsBelow, IsNoFinal, IsTold, LeavesRow, has_row}
 
 -- a face that leads down, the face to the north of its gateway, and the face above that it is joined to
 pub record IsAbove {K : Type 0} (s : Fabric K) (k a b : ℕ) (own lower upper : FaceAt K) : Type 0 where
@@ -23,6 +23,19 @@ pub record IsAbove {K : Type 0} (s : Fabric K) (k a b : ℕ) (own lower upper : 
   pub up : is_north lower.face.region ≡ true
   pub joined : are_joined s a b ≡ true
   pub beside : lower.gateway ≡ own.gateway
+
+-- one step up, where finals that fall are of interests that were sent up
+pub record IsStepUp {K : Type 0} (s : Fabric K) (k a b : ℕ) : Type 0 where
+  pub own : FaceAt K
+  pub lower : FaceAt K
+  pub upper : FaceAt K
+  pub above : IsAbove s k a b own lower upper
+  pub finals : Each (FinalIsBelow lower.face.next) (waiting_of s b)
+
+-- the way leads from a face up to a gateway
+abbrev pub LeadsUpTo : {K : Type 0} → Fabric K → ℕ → List (ℕ × ℕ) → ℕ → Type 0
+LeadsUpTo {K} s k [] top = (x : FaceAt K) × (face_numbered s k ≡ Some x) × (x.gateway ≡ top)
+LeadsUpTo s k (step ∷ way) top = IsStepUp s k step.0 step.1 × LeadsUpTo s step.1 way top
 
 module _ {K : Type 0} (cmp : K → K → Ordering) (matching : K → K → Bool) (e : K) where
   -- the expression is live at a face that leads down
@@ -56,7 +69,7 @@ module _ {K : Type 0} (cmp : K → K → Ordering) (matching : K → K → Bool)
       ⊎ (AnswersFirst cmp pending e (waiting_of s b) ⊎ (Asks pending × Each (IsNoFinal pending) (waiting_of s b)))
 
   -- An ask that isn't answered the expression waits for a pending that stands and is served. Where it asks for what comes
-  -- later too, nothing that rises ends its interest.
+  -- later too, its interest stands sent up.
   pub record AsksAbove (i : InterestRow K) (s : Fabric K) (k id a b : ℕ) (Asks : ℕ → Type 0) : Type 0 where
     pub own : FaceAt K
     pub lower : FaceAt K
@@ -69,8 +82,7 @@ module _ {K : Type 0} (cmp : K → K → Ordering) (matching : K → K → Bool)
     pub pending : ℕ
     pub pendings : ask.pendings ≡ (lower.face.number, pending) ∷ []
     pub stands : has_id pending lower.face.pendings ≡ true
-    pub finals : Each (FinalIsBelow lower.face.next) (waiting_of s b)
-    pub sent : is_future i.mode ≡ true → IsSentUp pending i lower.face × Each (IsNoEnd pending) (waiting_of s a)
+    pub sent : is_future i.mode ≡ true → at_id pending lower.face.locals ≡ Some i
     pub served : IsServedBy i s a b pending Asks
 
   -- An ask that isn't answered is followed up its way. At the end of the way, where the expression is live, there is none.
