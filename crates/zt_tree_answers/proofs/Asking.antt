@@ -22,7 +22,7 @@ use Rattle.zt_model.specs.Rows.{Ask, ById, Face, InterestRow, Rows}
 use Rattle.zt_model.specs.Says.{answered_expressions, asking, parts_of, row_of, said}
 use Rattle.zt_model.specs.Telling.{answers_from, answers_of}
 use Rattle.zt_model.specs.Transcript.{Each}
-use Rattle.zt_laws.proofs.Hearing.{each_ruled, each_ruled_one, find_passes, messages_for-append, messages_for_own}
+use Rattle.zt_laws.proofs.Hearing.{each_ruled, each_ruled_one, find_passes, messages_for-append, messages_for_other, messages_for_own}
 use Rattle.zt_laws.proofs.Lists.{any-append, by_test, each_append, never, of_cond}
 use Rattle.zt_laws.proofs.PartsOrder.{each_message_for}
 use Rattle.zt_asked.proofs.AtOnce.{answered_at_once}
@@ -294,5 +294,26 @@ module _ {K : Type 0} (cmp : K → K → Ordering) (matching : K → K → Bool)
     unfolding route_to is_target
     routed_up = sent_each cmp matching p (route_to numbered f.region asks_for) g up rows.rises at_p ∙ rw (down, north, client) refl
 
-    pub goes_up : (rest : List (Message K)) × (messages_for p (said cmp matching call g) ≡ message.Interest up.next mode asks_for.options x ∷ rest)
-    goes_up = (messages_for p (entities ++ (answers ++ (finals ++ []))), ap (messages_for p) says ∙ messages_for-append p routes (entities ++ (answers ++ (finals ++ []))) ∙ ap (λ ms. ms ++ messages_for p (entities ++ (answers ++ (finals ++ [])))) routed_up)
+    module _ (apart : (p == n) ≡ false) where
+      none_of : (rule : Face K → List (Message K)) (h : Rows K) → messages_for p (to_face n rule h) ≡ []
+      unfolding to_face messages_for
+      none_of rule h = cases (find_face n h)
+        where
+          cases : (o : Option (Face K)) → messages_for p (elim o [ None ↦ [] | Some k ↦ map (λ m. (n, m)) (rule k) ]) ≡ []
+          cases None = refl
+          cases (Some k) = messages_for_other p n (rule k) apart
+
+      -- the interest alone is sent there
+      pub goes_up : messages_for p (said cmp matching call g) ≡ message.Interest up.next mode asks_for.options x ∷ []
+      unfolding messages_for
+      goes_up =
+          ap (messages_for p) says
+          ∙ messages_for-append p routes (entities ++ (answers ++ (finals ++ [])))
+          ∙ ap (λ ms. ms ++ messages_for p (entities ++ (answers ++ (finals ++ [])))) routed_up
+          ∙ ap (λ ms. (message.Interest up.next mode asks_for.options x ∷ []) ++ ms)
+          (messages_for-append p entities (answers ++ (finals ++ []))
+          ∙ ap (λ ms. ms ++ messages_for p (answers ++ (finals ++ []))) (none_of (entities_for cmp matching g1 id asks_for) g1)
+          ∙ messages_for-append p answers (finals ++ [])
+          ∙ ap (λ ms. ms ++ messages_for p (finals ++ [])) (none_of (answers_of cmp matching g3 id asks_for) g3)
+          ∙ messages_for-append p finals []
+          ∙ ap (λ ms. ms ++ []) (none_of (final_of id) g4))

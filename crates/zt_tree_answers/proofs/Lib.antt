@@ -7,3 +7,4 @@ pub mod Asking
 pub mod Stays
 pub mod Views
 pub mod Carrying
+pub mod Leading

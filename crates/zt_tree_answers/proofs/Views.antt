@@ -118,6 +118,26 @@ module _ {K : Type 0} (cmp : K → K → Ordering) (matching : K → K → Bool)
       let is = numbered then_ k at_.place at_.node z.face at_.place_is node_still face_still in
       ap (λ (v : FaceAt K). v.face) (some_is (sym now_ ∙ is))
 
+  -- a face that the call leaves open
+  pub still_open : (k : ℕ) (z : FaceAt K) (h : Face K) → face_numbered s k ≡ Some z → z.gateway ≡ j → find_face z.face.number (rows_after_call cmp matching c node.rows) ≡ Some h → (y : FaceAt K) × (face_numbered then_ k ≡ Some y) × (y.face ≡ h)
+  still_open k z h found here is =
+      let at_ = is_there s k z found in
+      let place_here : at_.place.gateway ≡ j = at_.gateway_is ∙ here in (
+        record { gateway = at_.place.gateway; rows = (change node).rows; face = h },
+        numbered then_ k at_.place (change node) h at_.place_is (ap (λ i. nth i then_.gateways) place_here ∙ nth-at_nth j change s.gateways node at_j) (ap (λ n. find_face n (change node).rows) at_.number_is ∙ is),
+        refl,
+      )
+
+  pub still_elsewhere : (k : ℕ) (z : FaceAt K) → face_numbered s k ≡ Some z → z.gateway ≢ j → (y : FaceAt K) × (face_numbered then_ k ≡ Some y) × (y.face ≡ z.face)
+  still_elsewhere k z found apart =
+      let at_ = is_there s k z found in
+      let node_still : nth at_.place.gateway then_.gateways ≡ Some at_.node = ap (λ i. nth i then_.gateways) at_.gateway_is ∙ nth_other z.gateway j change s.gateways at_.node (nth_real j s.gateways node at_j) apart at_.node_is in
+      let face_still : find_face at_.place.face at_.node.rows ≡ Some z.face = ap (λ n. find_face n at_.node.rows) at_.number_is ∙ ap (find_face z.face.number) at_.rows_are ∙ at_.face_is in (
+        record { gateway = at_.place.gateway; rows = at_.node.rows; face = z.face },
+        numbered then_ k at_.place at_.node z.face at_.place_is node_still face_still,
+        refl,
+      )
+
   -- what is printed for a face, and waits
   pub printed_here : (k : ℕ) (z : FaceAt K) → face_numbered s k ≡ Some z → z.gateway ≡ j → printed_for k ms ≡ messages_for z.face.number (said cmp matching c node.rows)
   printed_here k z found here =
