@@ -8,3 +8,5 @@ pub mod Stays
 pub mod Views
 pub mod Carrying
 pub mod Leading
+pub mod Queues
+
