@@ -9,4 +9,4 @@ pub mod Views
 pub mod Carrying
 pub mod Leading
 pub mod Queues
-
+pub mod Following
