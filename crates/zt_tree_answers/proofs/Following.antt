@@ -375,3 +375,144 @@ module _ {K : Type 0} (cmp : K → K → Ordering) (matching : K → K → Bool)
 
     pub sent_then : is_future i.mode ≡ true → at_id f.pending lower_then.face.face.locals ≡ Some i
     sent_then later = by_test (own.gateway == j) (λ same_. sent_here (eqb-true own.gateway j same_) later) (λ other. ap (λ (u : Face K). at_id f.pending u.locals) (low_apart (λ is. never (eq-eqb own.gateway j is) other)) ∙ f.sent later)
+
+    -- ---- what serves the pending
+
+    -- what the face above is sent, and what becomes of its ask
+    abbrev pub Above : (ℕ → Type 0) → Type 0
+    Above AsksThen = (AsksThen f.pending × Each (IsNoFinal f.pending) (printed_for b ms)) ⊎ AnswersFirst cmp f.pending e (printed_for b ms)
+
+    -- the call is the answer
+    abbrev pub IsAnswerSpoken : Type 0
+    IsAnswerSpoken = (own.gateway ≡ j) × ((x : ℕ) × (tree_node : ℕ) × (c ≡ DeclareToken lower.face.number x e tree_node (Some f.pending)))
+
+    abbrev waits_a : waiting_of t a ≡ queue w a ++ printed_for a ms
+    waits_a = waits_then cmp matching total s fine j node at_j c real ms w prints a (waits a (agree.links.wait a b above.joined))
+
+    abbrev waits_b : waiting_of t b ≡ queue w b ++ printed_for b ms
+    waits_b = waits_then cmp matching total s fine j node at_j c real ms w prints b (waits b (agree.links.wait b a back))
+
+    answer_spoken : (m : Message K) → is_answer cmp f.pending e m ≡ true → call_of_message lower.face.number m ≡ Some c → (x : ℕ) × (tree_node : ℕ) × (c ≡ DeclareToken lower.face.number x e tree_node (Some f.pending))
+    answer_spoken (message.DeclareToken x y (Some q) tree_node) is says =
+        let both = and_parts (f.pending == q) (same cmp e y) is in
+        let e_is : e ≡ y = same_is cmp total equal_is_same e y both.1 in
+        let q_is : f.pending ≡ q = eqb-true f.pending q both.0 in
+        let same_ : DeclareToken lower.face.number x y tree_node (Some q) ≡ c = the_same says in
+        (x, tree_node, sym same_ ∙ ap (λ z. DeclareToken lower.face.number x z tree_node (Some q)) (sym e_is) ∙ ap (λ z. DeclareToken lower.face.number x e tree_node (Some z)) (sym q_is))
+    answer_spoken (message.DeclareToken x y None tree_node) is says = cc
+    answer_spoken (message.UndeclareToken x y tree_node) is says = cc
+    answer_spoken (message.DeclareFinal x) is says = cc
+    answer_spoken (message.Interest x mode options y) is says = cc
+    answer_spoken (message.InterestFinal x) is says = cc
+    answer_spoken (message.DeclareSubscriber n y x) is says = cc
+    answer_spoken (message.DeclareQueryable n y info x) is says = cc
+
+    module _ (AsksThen : ℕ → Type 0) (follows : Asks f.pending → Above AsksThen) (anew : IsMember (message.Interest f.pending i.mode i.options i.expr) (waiting_of s a) → f.upper.gateway ≡ j → c ≡ Interest f.upper.face.number f.pending i.mode i.options i.expr → Above AsksThen) where
+      abbrev Serves_ : Type 0
+      Serves_ = IsServedBy cmp matching e i t a b f.pending AsksThen
+
+      from_above : Above AsksThen → Each (IsNoFinal f.pending) (queue w b) → Serves_
+      from_above (inl asks) none_ = inr (inr (asks.0, subst (Each (IsNoFinal f.pending)) (sym waits_b) (each_append (IsNoFinal f.pending) (queue w b) (printed_for b ms) none_ asks.1)))
+      from_above (inr first) none_ = inr (inl (subst (AnswersFirst cmp f.pending e) (sym waits_b) (answers_later cmp f.pending e (queue w b) (printed_for b ms) none_ first)))
+
+      none_left : Each (IsNoFinal f.pending) (waiting_of s b) → Each (IsNoFinal f.pending) (queue w b)
+      none_left none_ = still_waits cmp matching total s fine j node at_j c real ms w prints (IsNoFinal f.pending) b lower (speaks a b lower above.lower_is above.joined) none_
+
+      -- an interest that still rises has no ask above, so no final of it is said there
+      none_above : IsMember (message.Interest f.pending i.mode i.options i.expr) (waiting_of s a) → ((mode : InterestMode) (options : InterestOptions) (x : Option K) → f.upper.gateway ≡ j → c ≡ Interest f.upper.face.number f.pending mode options x → ⊥) → Each (IsNoFinal f.pending) (printed_for b ms)
+      none_above member other =
+          by_test (f.upper.gateway == j)
+          (λ same_.
+          let up_here : f.upper.gateway ≡ j = eqb-true f.upper.gateway j same_ in
+          let joint = agree.joints a b lower f.upper above.joined above.lower_is above.upper_is above.up in
+          let low = max (top_of f.upper.face.held) (top_of f.upper.face.asks) in
+          let le : low ≤ f.pending = member_rises low f.pending i.mode i.options i.expr (waiting_of s a) lower.face.next joint.ids_rise member in
+          let found = rows_before cmp matching total s fine j node at_j c real ms w prints b f.upper above.upper_is up_here in
+          subst (Each (IsNoFinal f.pending)) (sym (printed_here cmp matching total s fine j node at_j c real ms w prints b f.upper above.upper_is up_here))
+          (finals_none cmp matching total equal_is_same s fine agree j node at_j c real still timeless spent accepted ms w prints waits speaks f.upper.face.number f.pending f.upper.face found (open_ b a f.upper above.upper_is back up_here)
+          (asks_free low f.pending f.upper.face.asks (omega arith) le) (λ mode options x is. other mode options x up_here is)))
+          (λ apart. subst (Each (IsNoFinal f.pending)) (sym (printed_elsewhere cmp matching total s fine j node at_j c real ms w prints b f.upper above.upper_is (λ is. never (eq-eqb f.upper.gateway j is) apart))) tt)
+
+      still_rises : IsMember (message.Interest f.pending i.mode i.options i.expr) (queue w a) → Each (IsNoFinal f.pending) (queue w b) → Each (IsNoFinal f.pending) (printed_for b ms) → Serves_
+      still_rises member none_ said_none =
+          inl (subst (IsMember (message.Interest f.pending i.mode i.options i.expr)) (sym waits_a) (member_front (message.Interest f.pending i.mode i.options i.expr) (queue w a) (printed_for a ms) member), subst (Each (IsNoFinal f.pending)) (sym waits_b) (each_append (IsNoFinal f.pending) (queue w b) (printed_for b ms) none_ said_none))
+
+      rising : IsMember (message.Interest f.pending i.mode i.options i.expr) (waiting_of s a) → Each (IsNoFinal f.pending) (waiting_of s b) → Serves_
+      rising member none_ = cases (speaks b a f.upper above.upper_is back)
+        where
+          not_asked : (n x : ℕ) (m : Message K) (rest : List (Message K)) (mode : InterestMode) (options : InterestOptions) (y : Option K) (low high : ℕ) → IsMember (message.Interest f.pending i.mode i.options i.expr) rest → InterestsRise low (m ∷ rest) high → call_of_message n m ≡ Some (Interest x f.pending mode options y) → ⊥
+          not_asked n x (message.Interest k2 mode2 options2 y2) rest mode options y low high later rises is =
+              let same_ : Interest n k2 mode2 options2 y2 ≡ Interest x f.pending mode options y = the_same is in
+              let k_is : k2 ≡ f.pending = cc in
+              let more : k2 + 1 ≤ f.pending = member_rises (k2 + 1) f.pending i.mode i.options i.expr rest high rises.1 later in
+              omega arith
+          not_asked n x (message.DeclareToken k2 y2 q tree_node) rest mode options y low high later rises is = cc
+          not_asked n x (message.UndeclareToken k2 y2 tree_node) rest mode options y low high later rises is = cc
+          not_asked n x (message.DeclareFinal k2) rest mode options y low high later rises is = cc
+          not_asked n x (message.InterestFinal k2) rest mode options y low high later rises is = cc
+          not_asked n x (message.DeclareSubscriber n2 y2 q) rest mode options y low high later rises is = cc
+          not_asked n x (message.DeclareQueryable n2 y2 info q) rest mode options y low high later rises is = cc
+
+          cases : IsUnspoken cmp matching total s fine j node at_j c real ms w prints a f.upper ⊎ IsSpoken cmp matching total s fine j node at_j c real ms w prints a f.upper → Serves_
+          cases (inl un) = still_rises (subst (IsMember (message.Interest f.pending i.mode i.options i.expr)) (sym un.queue_is) member) (none_left none_) (none_above member (λ mode options x up_here is. un.unnamed up_here f.upper.face.number (ap call_face is) refl))
+          cases (inr sp) =
+              ⊎_elim
+              (λ first. from_above (anew member sp.here (the_same (sym sp.says ∙ ap (call_of_message f.upper.face.number) (sym first)))) (none_left none_))
+              (λ later.
+              let joint = agree.joints a b lower f.upper above.joined above.lower_is above.upper_is above.up in
+              let low = max (top_of f.upper.face.held) (top_of f.upper.face.asks) in
+              let rises : InterestsRise low (sp.message ∷ queue w a) lower.face.next = subst (λ ms2. InterestsRise low ms2 lower.face.next) sp.oldest joint.ids_rise in
+              still_rises later (none_left none_) (none_above member (λ mode options x up_here is. not_asked f.upper.face.number f.upper.face.number sp.message (queue w a) mode options x low lower.face.next later rises (sp.says ∙ ap Some is))))
+              (member_cases (message.Interest f.pending i.mode i.options i.expr) sp.message (queue w a) (subst (IsMember (message.Interest f.pending i.mode i.options i.expr)) sp.oldest member))
+
+      falling : AnswersFirst cmp f.pending e (waiting_of s b) → Serves_ ⊎ IsAnswerSpoken
+      falling first = cases (speaks a b lower above.lower_is above.joined)
+        where
+          on : AnswersFirst cmp f.pending e (queue w b) → Serves_ ⊎ IsAnswerSpoken
+          on left = inl (inr (inl (subst (AnswersFirst cmp f.pending e) (sym waits_b) (answers_more cmp f.pending e (queue w b) (printed_for b ms) left))))
+
+          spoken : (m : Message K) → lower.gateway ≡ j → call_of_message lower.face.number m ≡ Some c → AnswersFirst cmp f.pending e (m ∷ queue w b) → Serves_ ⊎ IsAnswerSpoken
+          spoken m low_here says (inl here) = inr (sym above.beside ∙ low_here, answer_spoken m here says)
+          spoken m low_here says (inr later) = on later.1
+
+          cases : IsUnspoken cmp matching total s fine j node at_j c real ms w prints b lower ⊎ IsSpoken cmp matching total s fine j node at_j c real ms w prints b lower → Serves_ ⊎ IsAnswerSpoken
+          cases (inl un) = on (subst (AnswersFirst cmp f.pending e) (sym un.queue_is) first)
+          cases (inr sp) = spoken sp.message sp.here sp.says (subst (AnswersFirst cmp f.pending e) sp.oldest first)
+
+      served_then : Serves_ ⊎ IsAnswerSpoken
+      served_then = cases f.served
+        where
+          cases : IsServedBy cmp matching e i s a b f.pending Asks → Serves_ ⊎ IsAnswerSpoken
+          cases (inl rises) = inl (rising rises.0 rises.1)
+          cases (inr (inl first)) = falling first
+          cases (inr (inr asks)) = inl (from_above (follows asks.0) (none_left asks.1))
+
+      -- the ask is followed on, and no final of it was sent, or it is answered
+      pub step_follows : (AsksAbove cmp matching e i t k id a b AsksThen × Each (IsNoFinal id) (printed_for k ms)) ⊎ AnswersFirst cmp id e (printed_for k ms)
+      step_follows =
+          ⊎_elim
+          (λ served.
+          ⊎_elim (λ first. inr first)
+          (λ on.
+          let upper_then = still_there cmp matching total s fine agree j node at_j c real still open_ spent accepted ms w prints b a f.upper above.upper_is back in
+          let place = same_place cmp matching total s fine j node at_j c real ms w prints k own on.own above.own_is on.own_is in
+          let place_low = same_place cmp matching total s fine j node at_j c real ms w prints a lower lower_then.face above.lower_is lower_then.is in
+          inl (
+          record {
+            own = on.own;
+            lower = lower_then.face;
+            upper = upper_then.face;
+            above = record { own_is = on.own_is; lower_is = lower_then.is; upper_is = upper_then.is; down = on.down; up = ap is_north lower_then.region ∙ above.up; joined = above.joined; beside = lower_then.gateway ∙ above.beside ∙ sym place.0 };
+            ask = on.ask;
+            ask_is = on.ask_is;
+            interest = on.interest;
+            unanswered = on.unanswered;
+            pending = f.pending;
+            pendings = on.pendings ∙ ap (λ n. (n, f.pending) ∷ []) (sym place_low.1);
+            stands = stands_then;
+            sent = sent_then;
+            served = served;
+          }, on.none_))
+          own_then)
+          (λ answer. inr (answered_here answer.0 answer.1.0 answer.1.1 answer.1.2))
+          served_then
