@@ -10,3 +10,5 @@ pub mod Carrying
 pub mod Leading
 pub mod Queues
 pub mod Following
+pub mod Anew
+pub mod Followed
