@@ -12,3 +12,5 @@ pub mod Queues
 pub mod Following
 pub mod Anew
 pub mod Followed
+pub mod Taken
+pub mod Refusing
