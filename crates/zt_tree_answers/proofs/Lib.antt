@@ -14,3 +14,4 @@ pub mod Anew
 pub mod Followed
 pub mod Taken
 pub mod Refusing
+pub mod Speaking
