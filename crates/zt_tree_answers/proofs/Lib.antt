@@ -15,3 +15,4 @@ pub mod Followed
 pub mod Taken
 pub mod Refusing
 pub mod Speaking
+pub mod Dropping
