@@ -88,10 +88,10 @@ module _ {K : Type 0} (cmp : K → K → Ordering) (matching : K → K → Bool)
   open_ = leaves_open cmp matching total s fine j node at_j c real ms w prints speaks
 
   -- the face keeps the interest as it was sent
-  row_is : (u : Face K) → u.mode ≡ Client → kept_options Client i.options ≡ i.options → row_of cmp matching u i.mode i.options i.expr ≡ i
+  pub row_is : (u : Face K) → u.mode ≡ Client → kept_options Client i.options ≡ i.options → row_of cmp matching u i.mode i.options i.expr ≡ i
   row_is u mode_ kept = ap (λ o. (let r : InterestRow K = record { mode = i.mode; options = o; expr = i.expr } in r)) (ap (λ m. kept_options m i.options) mode_ ∙ kept)
 
-  module _ (b : ℕ) (u : FaceAt K) (u_is : face_numbered s b ≡ Some u) (down : is_north u.face.region ≡ false) (here : u.gateway ≡ j) (id : ℕ) (asks : c ≡ Interest u.face.number id i.mode i.options i.expr) (kept : kept_options Client i.options ≡ i.options) where
+  module _ (b : ℕ) (u : FaceAt K) (u_is : face_numbered s b ≡ Some u) (down : is_north u.face.region ≡ false) (here : u.gateway ≡ j) (id : ℕ) (options : InterestOptions) (asks : c ≡ Interest u.face.number id i.mode options i.expr) (own_row : row_of cmp matching u.face i.mode options i.expr ≡ i) where
     abbrev n : ℕ
     n = u.face.number
 
@@ -103,9 +103,6 @@ module _ {K : Type 0} (cmp : K → K → Ordering) (matching : K → K → Bool)
 
     leads_down : LeadsDown u.face
     leads_down = (find_each (IsTreeFace g.mode) (λ (h : Face K). n == h.number) g.faces u.face rows.faces found).down down
-
-    own_row : row_of cmp matching u.face i.mode i.options i.expr ≡ i
-    own_row = row_is u.face leads_down.mode kept
 
     printed_b : printed_for b ms ≡ messages_for n (said cmp matching c g)
     printed_b = printed_here cmp matching total s fine j node at_j c real ms w prints b u u_is here
@@ -133,12 +130,12 @@ module _ {K : Type 0} (cmp : K → K → Ordering) (matching : K → K → Bool)
 
       pub new_is_answered : AnswersFirst cmp id e (printed_for b ms)
       new_is_answered =
-          let first = visible_is_answered cmp matching n id i.mode i.options i.expr g u.face rows found e (ap (λ r. is_among cmp e (answered_expressions cmp matching g r u.face)) own_row ∙ among) in
+          let first = visible_is_answered cmp matching n id i.mode options i.expr g u.face rows found e (ap (λ r. is_among cmp e (answered_expressions cmp matching g r u.face)) own_row ∙ among) in
           subst (AnswersFirst cmp id e) (sym (printed_b ∙ ap (λ d. messages_for n (said cmp matching d g)) asks)) first
 
   -- ---- where it goes further up
 
-  module _ (b a2 b2 : ℕ) (step : IsStepUp s b a2 b2) (here : step.own.gateway ≡ j) (id : ℕ) (asks : c ≡ Interest step.own.face.number id i.mode i.options i.expr) (kept : kept_options Client i.options ≡ i.options) where
+  module _ (b a2 b2 : ℕ) (step : IsStepUp s b a2 b2) (here : step.own.gateway ≡ j) (id : ℕ) (options : InterestOptions) (asks : c ≡ Interest step.own.face.number id i.mode options i.expr) (u_row : row_of cmp matching step.own.face i.mode options i.expr ≡ i) where
     abbrev above : IsAbove s b a2 b2 step.own step.lower step.upper
     above = step.above
 
@@ -169,9 +166,6 @@ module _ {K : Type 0} (cmp : K → K → Ordering) (matching : K → K → Bool)
     back : are_joined s b2 a2 ≡ true
     back = joined_back s a2 b2 above.joined
 
-    u_row : row_of cmp matching u.face i.mode i.options i.expr ≡ i
-    u_row = own_row b u above.own_is above.down here id asks kept
-
     client : g.mode ≡ Client
     client = ((find_each (IsTreeFace g.mode) (λ (h : Face K). n2 == h.number) g.faces low.face rows2.faces found_low).up above.up).own
 
@@ -179,7 +173,7 @@ module _ {K : Type 0} (cmp : K → K → Ordering) (matching : K → K → Bool)
     few = (each_nth (λ (x : Node K). IsTreeGateway cmp matching x.rows) j s.gateways node agree.gateways at_j).one_north
 
     sent : sent_as g u.face.region i.mode ≡ (n2, low.face.next) ∷ []
-    sent = sent_up cmp matching nu id i.mode i.options i.expr g u.face rows2 found_u n2 low.face found_low above.up few client above.down
+    sent = sent_up cmp matching nu id i.mode options i.expr g u.face rows2 found_u n2 low.face found_low above.up few client above.down
 
     apart : (n2 == nu) ≡ false
     apart =
@@ -188,16 +182,16 @@ module _ {K : Type 0} (cmp : K → K → Ordering) (matching : K → K → Bool)
         let same_ : low.face ≡ u.face = the_same (sym found_low ∙ ap (λ k. find_face k g) is ∙ found_u) in
         never (ap (λ (h : Face K). is_north h.region) (sym same_) ∙ above.up) above.down)
 
-    said_c : (k : ℕ) → messages_for k (said cmp matching c g) ≡ messages_for k (said cmp matching (Interest nu id i.mode i.options i.expr) g)
+    said_c : (k : ℕ) → messages_for k (said cmp matching c g) ≡ messages_for k (said cmp matching (Interest nu id i.mode options i.expr) g)
     said_c k = ap (λ d. messages_for k (said cmp matching d g)) asks
 
     goes : messages_for n2 (said cmp matching c g) ≡ message.Interest low.face.next i.mode i.options i.expr ∷ []
     goes =
-        said_c n2 ∙ goes_up cmp matching nu id i.mode i.options i.expr g u.face rows2 found_u n2 low.face found_low above.up few client above.down apart
+        said_c n2 ∙ goes_up cmp matching nu id i.mode options i.expr g u.face rows2 found_u n2 low.face found_low above.up few client above.down apart
         ∙ ap (λ (r : InterestRow K). message.Interest low.face.next i.mode r.options i.expr ∷ []) u_row
 
     none_said : Each (IsNoFinal id) (messages_for nu (said cmp matching c g))
-    none_said = subst (Each (IsNoFinal id)) (sym (said_c nu)) (sent_ask_stays cmp matching nu id i.mode i.options i.expr g u.face rows2 found_u (n2, low.face.next) current sent)
+    none_said = subst (Each (IsNoFinal id)) (sym (said_c nu)) (sent_ask_stays cmp matching nu id i.mode options i.expr g u.face rows2 found_u (n2, low.face.next) current sent)
 
     printed_u : printed_for b ms ≡ messages_for nu (said cmp matching c g)
     printed_u = printed_here cmp matching total s fine j node at_j c real ms w prints b u above.own_is here
@@ -231,9 +225,9 @@ module _ {K : Type 0} (cmp : K → K → Ordering) (matching : K → K → Bool)
 
     pub new_is_followed : (AsksThen : ℕ → Type 0) → (AsksAbove cmp matching e i t b id a2 b2 AsksThen × Each (IsNoFinal id) (printed_for b ms)) ⊎ AnswersFirst cmp id e (printed_for b ms)
     new_is_followed AsksThen =
-        let acts = own_interest cmp matching nu id i.mode i.options i.expr g u.face rows2 found_u above.down in
-        let after = asked_as (sent_as g u.face.region i.mode) id (row_of cmp matching u.face i.mode i.options i.expr) u.face in
-        let new : Ask K = record { interest = row_of cmp matching u.face i.mode i.options i.expr; pendings = sent_as g u.face.region i.mode; answered = [] } in
+        let acts = own_interest cmp matching nu id i.mode options i.expr g u.face rows2 found_u above.down in
+        let after = asked_as (sent_as g u.face.region i.mode) id (row_of cmp matching u.face i.mode options i.expr) u.face in
+        let new : Ask K = record { interest = row_of cmp matching u.face i.mode options i.expr; pendings = sent_as g u.face.region i.mode; answered = [] } in
         let said_ = messages_for nu (said cmp matching c g) in
         let altered_is : find_face nu (altered cmp matching c g) ≡ Some after = ap (λ d. find_face nu (altered cmp matching d g)) asks ∙ acts.altered_is in
         let now = (altered cmp matching c g).moment in

@@ -14,28 +14,30 @@ use Rattle.zt_model.specs.Fabric.{Fabric, Node, call_face, printed_for}
 use Rattle.zt_model.specs.Linking.{call_of_message, waiting_of}
 use Rattle.zt_model.specs.Lists.{at_id, has_id, nth}
 use Rattle.zt_model.specs.Refusals.{call_causes, first_cause}
-use Rattle.zt_model.specs.Rows.{Ask, ById, InterestRow}
-use Rattle.zt_model.specs.Says.{said}
+use Rattle.zt_model.specs.Rows.{Ask, ById, Face, InterestRow}
+use Rattle.zt_model.specs.Says.{row_of, said}
 use Rattle.zt_model.specs.Transcript.{Each, FaceAt, face_numbered}
 use Rattle.zt_model.specs.TreePromises.{IsMember}
 use Rattle.zt_model.specs.Wants.{is_about, kept_options}
 use Rattle.zt_laws.specs.Order.{FabricIsInOrder}
 use Rattle.zt_laws.specs.Sound.{CallHasFirstIds, opens_face}
 use Rattle.zt_laws.proofs.Gateways.{PrintsSends}
+use Rattle.zt_laws.proofs.Hearing.{find_each}
 use Rattle.zt_laws.proofs.Lists.{by_test, never}
-use Rattle.zt_trees.specs.Facts.{InterestsRise, IsForAbove, TreesAgree, interests_after, token_interests, top_of}
+use Rattle.zt_trees.specs.Facts.{InterestsRise, IsForAbove, IsTreeFace, TreesAgree, interests_after, token_interests, top_of}
 use Rattle.zt_trees.specs.Joints.{are_joined}
+use Rattle.zt_trees.proofs.Lines.{tree_rows}
 use Rattle.zt_trees.proofs.Quiet.{joined_back}
 use Rattle.zt_trees.proofs.Standing.{LeavesOpen}
 use Rattle.zt_trees.proofs.Turning.{queue}
 use Rattle.zt_trees.proofs.Waiting.{rise_within}
 use Rattle.zt_tree_answers.specs.Steady.{AnswersFirst, IsNoFinal}
 use Rattle.zt_tree_answers.specs.Ways.{AsksAbove, IsAbove, IsFollowed, IsStepUp, LeadsUpTo, LivesAt}
-use Rattle.zt_tree_answers.proofs.Anew.{member_is, new_is_answered, new_is_followed}
+use Rattle.zt_tree_answers.proofs.Anew.{member_is, new_is_answered, new_is_followed, row_is}
 use Rattle.zt_tree_answers.proofs.Carrying.{expires}
 use Rattle.zt_tree_answers.proofs.Following.{step_follows}
 use Rattle.zt_tree_answers.proofs.Queues.{not_ended, top_above}
-use Rattle.zt_tree_answers.proofs.Views.{IsSpoken, IsUnspoken, Speaks, leaves_open, then_}
+use Rattle.zt_tree_answers.proofs.Views.{IsSpoken, IsUnspoken, Speaks, leaves_open, rows_before, then_}
 
 module _ {K : Type 0} (cmp : K → K → Ordering) (matching : K → K → Bool) (total : IsTotalOrder cmp) (equal_is_same : (a b : K) → cmp a b ≡ Equal → a ≡ b) (e : K) (i : InterestRow K) (about : is_about matching i.expr e ≡ true) (tokens : has_tokens i.options ≡ true) (current : is_current i.mode ≡ true)
     (s : Fabric K) (fine : FabricIsInOrder cmp matching s) (agree : TreesAgree cmp matching s) (holds : (k : ℕ) (z : FaceAt K) (id : ℕ) (ask : Ask K) → face_numbered s k ≡ Some z → at_id id z.face.asks ≡ Some ask → is_future ask.interest.mode ≡ true → at_id id z.face.held ≡ Some ask.interest)
@@ -88,17 +90,24 @@ module _ {K : Type 0} (cmp : K → K → Ordering) (matching : K → K → Bool)
   kept_options_of : (a b : ℕ) (lower upper : FaceAt K) → face_numbered s a ≡ Some lower → face_numbered s b ≡ Some upper → is_north lower.face.region ≡ true → are_joined s a b ≡ true → (pending : ℕ) → IsMember (message.Interest pending i.mode i.options i.expr) (waiting_of s a) → kept_options Client i.options ≡ i.options
   kept_options_of a b lower upper lower_is upper_is up joined pending member = member_is IsForAbove (message.Interest pending i.mode i.options i.expr) (waiting_of s a) member (agree.joints a b lower upper joined lower_is upper_is up).for_above
 
+  -- a face that leads down keeps the interest as it was sent
+  own_row : (b : ℕ) (u : FaceAt K) → face_numbered s b ≡ Some u → is_north u.face.region ≡ false → u.gateway ≡ j → kept_options Client i.options ≡ i.options → row_of cmp matching u.face i.mode i.options i.expr ≡ i
+  own_row b u u_is down here kept =
+      let found = rows_before cmp matching total s fine j node at_j c real ms w prints b u u_is here in
+      let leads = (find_each (IsTreeFace node.rows.mode) (λ (h : Face K). u.face.number == h.number) node.rows.faces u.face (tree_rows cmp matching s j node fine agree at_j).faces found).down down in
+      row_is cmp matching total equal_is_same e i about tokens current s fine agree j node at_j c real still timeless spent accepted ms w prints waits speaks u.face leads.mode kept
+
   -- a new ask above
   anew : (way : List (ℕ × ℕ)) (b : ℕ) (u : FaceAt K) → face_numbered s b ≡ Some u → is_north u.face.region ≡ false → u.gateway ≡ j → LeadsUpTo s b way top → (pending : ℕ) → c ≡ Interest u.face.number pending i.mode i.options i.expr → kept_options Client i.options ≡ i.options → Then way b pending
   anew [] b u u_is down here up pending is kept =
       let same_ : up.0 ≡ u = the_same (sym up.1 ∙ u_is) in
       let beside : lives.own.gateway ≡ j = at_top ∙ sym up.2 ∙ ap (λ (z : FaceAt K). z.gateway) same_ ∙ here in
-      inr (new_is_answered cmp matching total equal_is_same e i about tokens current s fine agree j node at_j c real still timeless spent accepted ms w prints waits speaks b u u_is down here pending is kept q lives beside)
+      inr (new_is_answered cmp matching total equal_is_same e i about tokens current s fine agree j node at_j c real still timeless spent accepted ms w prints waits speaks b u u_is down here pending i.options is (own_row b u u_is down here kept) q lives beside)
   anew (step ∷ way) b u u_is down here up pending is kept =
       let same_ : up.0.own ≡ u = the_same (sym up.0.above.own_is ∙ u_is) in
       let here_ : up.0.own.gateway ≡ j = ap (λ (z : FaceAt K). z.gateway) same_ ∙ here in
       let is_ : c ≡ Interest up.0.own.face.number pending i.mode i.options i.expr = is ∙ ap (λ (z : FaceAt K). (let d : PlainCall K = Interest z.face.number pending i.mode i.options i.expr in d)) (sym same_) in
-      new_is_followed cmp matching total equal_is_same e i about tokens current s fine agree j node at_j c real still timeless spent accepted ms w prints waits speaks b step.0 step.1 up.0 here_ pending is_ kept (λ p. IsFollowed cmp matching e i t way step.1 p)
+      new_is_followed cmp matching total equal_is_same e i about tokens current s fine agree j node at_j c real still timeless spent accepted ms w prints waits speaks b step.0 step.1 up.0 here_ pending i.options is_ (ap (λ (z : FaceAt K). row_of cmp matching z.face i.mode i.options i.expr) same_ ∙ own_row b u u_is down here kept) (λ p. IsFollowed cmp matching e i t way step.1 p)
 
   pub followed_then : (way : List (ℕ × ℕ)) (k id : ℕ) (z : FaceAt K) → face_numbered s k ≡ Some z → (z.gateway ≡ j → LeavesOpen c z.face.number) → (z.gateway ≡ j → c ≡ InterestFinal z.face.number id → is_future i.mode ≡ false) → LeadsUpTo s k way top → IsFollowed cmp matching e i s way k id → Then way k id
   followed_then [] k id z z_is opens held up f = absurd f

@@ -61,10 +61,10 @@ module _ {K : Type 0} (cmp : K → K → Ordering) (matching : K → K → Bool)
     pub message : Message K
     pub says : call_of_message at.face.number message ≡ Some c
 
-  -- what is left by calls, known who speaks them
-  abbrev pub LeftBySpoken : (ℕ → PlainCall K → Type 0) → (List (Sent K) → Fabric K → Type 0) → Type 0
-  LeftBySpoken Said P = (spent : Bool) (j : ℕ) (node : Node K) (c : PlainCall K) (w : ById (List (Message K))) → ((k : ℕ) → has_id k s.waiting ≡ true → has_id k w ≡ true) → (at_j : nth j s.gateways ≡ Some node) (still : opens_face c ≡ false) → first_cause (call_causes cmp matching spent c node.rows) ≡ None
-      → Speaks cmp matching total s fine j node at_j c (calls_nothing cmp matching total c still) (printed_by cmp matching total equal_is_same s fine agree j node c) w (prints_sorted s.faces j (said cmp matching c node.rows)) → Said j c ⊎ IsStepCall j c
+  -- what is left by calls, known who speaks them; `Stepping` says that they may be steps
+  abbrev pub LeftBySpoken : (ℕ → PlainCall K → Type 0) → Type 0 → (List (Sent K) → Fabric K → Type 0) → Type 0
+  LeftBySpoken Said Stepping P = (spent : Bool) (j : ℕ) (node : Node K) (c : PlainCall K) (w : ById (List (Message K))) → ((k : ℕ) → has_id k s.waiting ≡ true → has_id k w ≡ true) → (at_j : nth j s.gateways ≡ Some node) (still : opens_face c ≡ false) → first_cause (call_causes cmp matching spent c node.rows) ≡ None
+      → Speaks cmp matching total s fine j node at_j c (calls_nothing cmp matching total c still) (printed_by cmp matching total equal_is_same s fine agree j node c) w (prints_sorted s.faces j (said cmp matching c node.rows)) → Said j c ⊎ (Stepping × IsStepCall j c)
       → P (printed_by cmp matching total equal_is_same s fine agree j node c) (turned_by cmp matching total equal_is_same s fine agree j node c w at_j still)
 
   -- and where a message comes to nothing
@@ -72,7 +72,7 @@ module _ {K : Type 0} (cmp : K → K → Ordering) (matching : K → K → Bool)
   LeftByDropped P = (q0 q1 : ℕ) → are_joined s q1 q0 ≡ true → (z : FaceAt K) → face_numbered s q1 ≡ Some z → (node : Node K) → nth z.gateway s.gateways ≡ Some node → find_face z.face.number node.rows ≡ Some z.face → (m : Message K) (rest : List (Message K)) → waiting_of s q0 ≡ m ∷ rest
       → ((call_of_message 0 m ≡ None) ⊎ ((spent : Bool) × (r : Refusal) × (first_cause (causes_of_call cmp matching spent (call_there z node m)) ≡ Some r) × (r ≢ refusal.IdsSpent))) → P [] (record s { waiting = taken q0 s.waiting })
 
-  module _ (Said : ℕ → PlainCall K → Type 0) (P : List (Sent K) → Fabric K → Type 0) (itself : P [] s) (dropped : LeftByDropped P) (calls : LeftBySpoken Said P) where
+  module _ (Said : ℕ → PlainCall K → Type 0) (Stepping : Type 0) (P : List (Sent K) → Fabric K → Type 0) (itself : P [] s) (dropped : LeftByDropped P) (calls : LeftBySpoken Said Stepping P) where
     abbrev Follows : Fabric K → Option (CallAt K) → Type 0
     Follows t at = P (sorted_by_face (said_at cmp matching s at)) (after_call cmp matching total equal_is_same s fine agree t at)
 
@@ -81,7 +81,7 @@ module _ {K : Type 0} (cmp : K → K → Ordering) (matching : K → K → Bool)
     no_call t all = subst (P []) (sym (ap (with_waiting []) (after_hearing_nothing cmp t) ∙ ap (λ (w : ById (List (Message K))). record t { waiting = w }) (with_nothing t.waiting))) all
 
     called : (spent : Bool) (j : ℕ) (node : Node K) (c : PlainCall K) (w : ById (List (Message K))) → ((k : ℕ) → has_id k s.waiting ≡ true → has_id k w ≡ true) → (at_j : nth j s.gateways ≡ Some node) (still : opens_face c ≡ false) → first_cause (call_causes cmp matching spent c node.rows) ≡ None
-        → Speaks cmp matching total s fine j node at_j c (calls_nothing cmp matching total c still) (printed_by cmp matching total equal_is_same s fine agree j node c) w (prints_sorted s.faces j (said cmp matching c node.rows)) → Said j c ⊎ IsStepCall j c → Follows (record s { waiting = w }) (Some (record { gateway = j; rows = node.rows; call = c }))
+        → Speaks cmp matching total s fine j node at_j c (calls_nothing cmp matching total c still) (printed_by cmp matching total equal_is_same s fine agree j node c) w (prints_sorted s.faces j (said cmp matching c node.rows)) → Said j c ⊎ (Stepping × IsStepCall j c) → Follows (record s { waiting = w }) (Some (record { gateway = j; rows = node.rows; call = c }))
     called spent j node c w waits at_j still accepted speaks how =
         subst (P (printed_by cmp matching total equal_is_same s fine agree j node c)) (sym (after_is cmp matching total s fine agree j node c (printed_by cmp matching total equal_is_same s fine agree j node c) w at_j still (prints_sorted s.faces j (said cmp matching c node.rows))))
         (calls spent j node c w waits at_j still accepted speaks how)
@@ -126,7 +126,7 @@ module _ {K : Type 0} (cmp : K → K → Ordering) (matching : K → K → Bool)
 
     -- ---- steps
 
-    module _ (q0 q1 : ℕ) (joined : are_joined s q1 q0 ≡ true) (z : FaceAt K) (z_is : face_numbered s q1 ≡ Some z) (node : Node K) (at_j : nth z.gateway s.gateways ≡ Some node) (found : find_face z.face.number node.rows ≡ Some z.face) (m : Message K) (rest : List (Message K)) (old : waiting_of s q0 ≡ m ∷ rest) where
+    module _ (q0 q1 : ℕ) (joined : are_joined s q1 q0 ≡ true) (z : FaceAt K) (z_is : face_numbered s q1 ≡ Some z) (node : Node K) (at_j : nth z.gateway s.gateways ≡ Some node) (found : find_face z.face.number node.rows ≡ Some z.face) (m : Message K) (rest : List (Message K)) (old : waiting_of s q0 ≡ m ∷ rest) (steps : Stepping) where
       abbrev w : ById (List (Message K))
       w = taken q0 s.waiting
 
@@ -163,28 +163,28 @@ module _ {K : Type 0} (cmp : K → K → Ordering) (matching : K → K → Bool)
       At = Follows (record s { waiting = w }) (call_there z node m)
 
       taken_call : (spent : Bool) (c : PlainCall K) (still : opens_face c ≡ false) → call_of_message z.face.number m ≡ Some c → call_face c ≡ Some z.face.number → first_cause (call_causes cmp matching spent c node.rows) ≡ None → Follows (record s { waiting = w }) (Some (record { gateway = z.gateway; rows = node.rows; call = c }))
-      taken_call spent c still says names accepted = called spent z.gateway node c w (λ k h. has_taken q0 k s.waiting h) at_j still accepted (spoken c still says names) (inr (record { speaker = q1; other = q0; joined = joined; at = z; at_is = z_is; here = refl; message = m; says = says }))
+      taken_call spent c still says names accepted = called spent z.gateway node c w (λ k h. has_taken q0 k s.waiting h) at_j still accepted (spoken c still says names) (inr (steps, record { speaker = q1; other = q0; joined = joined; at = z; at_is = z_is; here = refl; message = m; says = says }))
 
     -- the call of each message
-    message_call : (spent : Bool) (q0 q1 : ℕ) (joined : are_joined s q1 q0 ≡ true) (z : FaceAt K) (z_is : face_numbered s q1 ≡ Some z) (node : Node K) (at_j : nth z.gateway s.gateways ≡ Some node) (found : find_face z.face.number node.rows ≡ Some z.face) (m : Message K) (rest : List (Message K)) (old : waiting_of s q0 ≡ m ∷ rest)
+    message_call : (spent : Bool) (q0 q1 : ℕ) (joined : are_joined s q1 q0 ≡ true) (z : FaceAt K) (z_is : face_numbered s q1 ≡ Some z) (node : Node K) (at_j : nth z.gateway s.gateways ≡ Some node) (found : find_face z.face.number node.rows ≡ Some z.face) (m : Message K) (rest : List (Message K)) (old : waiting_of s q0 ≡ m ∷ rest) → Stepping
         → first_cause (causes_of_call cmp matching spent (call_there z node m)) ≡ None → Follows (record s { waiting = taken q0 s.waiting }) (call_there z node m)
-    message_call spent q0 q1 joined z z_is node at_j found (message.DeclareToken id e i n) rest old accepted = taken_call q0 q1 joined z z_is node at_j found (message.DeclareToken id e i n) rest old spent (DeclareToken z.face.number id e n i) refl refl refl accepted
-    message_call spent q0 q1 joined z z_is node at_j found (message.UndeclareToken id e n) rest old accepted = taken_call q0 q1 joined z z_is node at_j found (message.UndeclareToken id e n) rest old spent (UndeclareToken z.face.number id e n) refl refl refl accepted
-    message_call spent q0 q1 joined z z_is node at_j found (message.DeclareFinal id) rest old accepted = taken_call q0 q1 joined z z_is node at_j found (message.DeclareFinal id) rest old spent (DeclareFinal z.face.number id) refl refl refl accepted
-    message_call spent q0 q1 joined z z_is node at_j found (message.Interest id mode options e) rest old accepted = taken_call q0 q1 joined z z_is node at_j found (message.Interest id mode options e) rest old spent (Interest z.face.number id mode options e) refl refl refl accepted
-    message_call spent q0 q1 joined z z_is node at_j found (message.InterestFinal id) rest old accepted = taken_call q0 q1 joined z z_is node at_j found (message.InterestFinal id) rest old spent (InterestFinal z.face.number id) refl refl refl accepted
-    message_call spent q0 q1 joined z z_is node at_j found (message.DeclareSubscriber id e i) rest old accepted = no_call (record s { waiting = taken q0 s.waiting }) (dropped q0 q1 joined z z_is node at_j found (message.DeclareSubscriber id e i) rest old (inl refl))
-    message_call spent q0 q1 joined z z_is node at_j found (message.DeclareQueryable id e info i) rest old accepted = no_call (record s { waiting = taken q0 s.waiting }) (dropped q0 q1 joined z z_is node at_j found (message.DeclareQueryable id e info i) rest old (inl refl))
+    message_call spent q0 q1 joined z z_is node at_j found (message.DeclareToken id e i n) rest old steps accepted = taken_call q0 q1 joined z z_is node at_j found (message.DeclareToken id e i n) rest old steps spent (DeclareToken z.face.number id e n i) refl refl refl accepted
+    message_call spent q0 q1 joined z z_is node at_j found (message.UndeclareToken id e n) rest old steps accepted = taken_call q0 q1 joined z z_is node at_j found (message.UndeclareToken id e n) rest old steps spent (UndeclareToken z.face.number id e n) refl refl refl accepted
+    message_call spent q0 q1 joined z z_is node at_j found (message.DeclareFinal id) rest old steps accepted = taken_call q0 q1 joined z z_is node at_j found (message.DeclareFinal id) rest old steps spent (DeclareFinal z.face.number id) refl refl refl accepted
+    message_call spent q0 q1 joined z z_is node at_j found (message.Interest id mode options e) rest old steps accepted = taken_call q0 q1 joined z z_is node at_j found (message.Interest id mode options e) rest old steps spent (Interest z.face.number id mode options e) refl refl refl accepted
+    message_call spent q0 q1 joined z z_is node at_j found (message.InterestFinal id) rest old steps accepted = taken_call q0 q1 joined z z_is node at_j found (message.InterestFinal id) rest old steps spent (InterestFinal z.face.number id) refl refl refl accepted
+    message_call spent q0 q1 joined z z_is node at_j found (message.DeclareSubscriber id e i) rest old steps accepted = no_call (record s { waiting = taken q0 s.waiting }) (dropped q0 q1 joined z z_is node at_j found (message.DeclareSubscriber id e i) rest old (inl refl))
+    message_call spent q0 q1 joined z z_is node at_j found (message.DeclareQueryable id e info i) rest old steps accepted = no_call (record s { waiting = taken q0 s.waiting }) (dropped q0 q1 joined z z_is node at_j found (message.DeclareQueryable id e info i) rest old (inl refl))
 
-    step_taken : (spent : Bool) (n : ℕ) (back : Bool) (o : Option Link) → nth n s.links ≡ o → is_some_and o (λ l. l.is_open) ≡ true → is_some_and o (λ l. is_some (oldest s l back)) ≡ true → first_cause (causes_of_call cmp matching spent (call_of_step s back o)) ≡ None
+    step_taken : Stepping → (spent : Bool) (n : ℕ) (back : Bool) (o : Option Link) → nth n s.links ≡ o → is_some_and o (λ l. l.is_open) ≡ true → is_some_and o (λ l. is_some (oldest s l back)) ≡ true → first_cause (causes_of_call cmp matching spent (call_of_step s back o)) ≡ None
         → Follows (let t : Fabric K = elim o [ None ↦ s | Some l ↦ record s { waiting = taken (sending_end l back) s.waiting } ] in t) (call_of_step s back o)
-    step_taken spent n back None at_ open_ there accepted = never open_ refl
-    step_taken spent n back (Some l) at_ open_ there accepted =
+    step_taken steps spent n back None at_ open_ there accepted = never open_ refl
+    step_taken steps spent n back (Some l) at_ open_ there accepted =
         let joined = joined_ends cmp matching total equal_is_same s fine agree n l back at_ open_ in
         let old = some_oldest cmp matching total equal_is_same s fine agree n l back there in
         let is = step_is cmp matching total equal_is_same s fine agree back l old.0 old.1 joined old.2 in
         subst (λ at. Follows (record s { waiting = taken (sending_end l back) s.waiting }) at) (sym is.call_is)
-        (message_call spent (sending_end l back) (speaking_end l back) joined is.z is.z_is is.node is.at_j is.found old.0 old.1 old.2 (subst (λ at. first_cause (causes_of_call cmp matching spent at) ≡ None) is.call_is accepted))
+        (message_call spent (sending_end l back) (speaking_end l back) joined is.z is.z_is is.node is.at_j is.found old.0 old.1 old.2 steps (subst (λ at. first_cause (causes_of_call cmp matching spent at) ≡ None) is.call_is accepted))
 
     step_dropped : (spent : Bool) (n : ℕ) (back : Bool) (r : Refusal) (o : Option Link) → nth n s.links ≡ o → is_some_and o (λ l. l.is_open) ≡ true → is_some_and o (λ l. is_some (oldest s l back)) ≡ true → first_cause (causes_of_call cmp matching spent (call_of_step s back o)) ≡ Some r → r ≢ refusal.IdsSpent
         → P [] (let t : Fabric K = elim o [ None ↦ s | Some l ↦ record s { waiting = taken (sending_end l back) s.waiting } ] in t)
@@ -214,7 +214,7 @@ module _ {K : Type 0} (cmp : K → K → Ordering) (matching : K → K → Bool)
         (λ _. itself)
 
     abbrev pub SaidBy : PlainLine K → Type 0
-    SaidBy (Step n back) = Unit {0}
+    SaidBy (Step n back) = Stepping
     SaidBy line = LineSaid cmp matching total equal_is_same s fine agree Said line
 
     accepted_line : (spent : Bool) (line : PlainLine K) → SaidBy line → is_call_or_step line ≡ true → first_cause (built_causes cmp matching spent line s) ≡ None
@@ -223,7 +223,7 @@ module _ {K : Type 0} (cmp : K → K → Ordering) (matching : K → K → Bool)
     accepted_line spent (Step n back) said_ leaves accepted =
         let one = no_cause _ _ _ accepted in
         let two = no_cause _ _ _ one.1 in
-        step_taken spent n back (nth n s.links) refl (not_not one.0) (not_not two.0) two.1
+        step_taken said_ spent n back (nth n s.links) refl (not_not one.0) (not_not two.0) two.1
     accepted_line spent (Speak call) said_ leaves accepted = speech spent call said_ accepted
     accepted_line spent (Moment n now) said_ leaves accepted = at_gateway spent n (Expire now) said_ refl refl (no_cause _ _ _ accepted).1
     accepted_line spent (SetTreesAt n region t) said_ leaves accepted = at_gateway spent n (SetTrees region (table_at s n t)) said_ refl refl (no_cause _ _ _ accepted).1
