@@ -16,3 +16,4 @@ pub mod Taken
 pub mod Refusing
 pub mod Speaking
 pub mod Dropping
+pub mod Absent
