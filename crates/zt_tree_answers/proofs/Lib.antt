@@ -17,3 +17,4 @@ pub mod Refusing
 pub mod Speaking
 pub mod Dropping
 pub mod Absent
+pub mod Pursuing

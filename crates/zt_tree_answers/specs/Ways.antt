@@ -5,14 +5,23 @@ use Rattle.std.specs.declared.cmp.Ordering.{Ordering}
 use Rattle.zt_region.specs.Region.{is_north}
 use Rattle.zt_protocol.specs.Interest.{is_future}
 use Rattle.zt_protocol.specs.declared.messages.Message.TheVariants.{Interest}
-use Rattle.zt_model.specs.Fabric.{Fabric}
+use Rattle.zt_model.specs.Fabric.{Fabric, Node, Place}
 use Rattle.zt_model.specs.Linking.{waiting_of}
-use Rattle.zt_model.specs.Lists.{at_id, has_id, is_among}
+use Rattle.zt_model.specs.Lists.{at_id, has_id, is_among, nth}
+use Rattle.zt_model.specs.Parts.{find_face}
 use Rattle.zt_model.specs.Rows.{Ask, Face, InterestRow}
 use Rattle.zt_model.specs.Transcript.{Each, FaceAt, face_numbered}
 use Rattle.zt_model.specs.TreePromises.{IsMember, is_live_at}
 use Rattle.zt_trees.specs.Joints.{are_joined}
 use Rattle.zt_tree_answers.specs.Steady.{AnswersFirst, FinalIsBelow, IsNoFinal, IsTold, LeavesRow, has_row}
+
+-- a face that was closed
+pub record IsClosedAt {K : Type 0} (s : Fabric K) (k : ℕ) : Type 0 where
+  pub place : Place
+  pub node : Node K
+  pub place_is : nth k s.faces ≡ Some place
+  pub node_is : nth place.gateway s.gateways ≡ Some node
+  pub gone : find_face place.face node.rows ≡ None
 
 -- a face that leads down, the face to the north of its gateway, and the face above that it is joined to
 pub record IsAbove {K : Type 0} (s : Fabric K) (k a b : ℕ) (own lower upper : FaceAt K) : Type 0 where
@@ -89,3 +98,10 @@ module _ {K : Type 0} (cmp : K → K → Ordering) (matching : K → K → Bool)
   abbrev pub IsFollowed : InterestRow K → Fabric K → List (ℕ × ℕ) → ℕ → ℕ → Type 0
   IsFollowed i s [] k id = ⊥
   IsFollowed i s (step ∷ way) k id = AsksAbove i s k id step.0 step.1 (λ pending. IsFollowed i s way step.1 pending)
+
+  -- The ask is pursued up its way to a gateway, up to which the expression is carried from a face where it is live.
+  pub record IsPursued (i : InterestRow K) (s : Fabric K) (face id plain : ℕ) (way up : List (ℕ × ℕ)) (top : ℕ) : Type 0 where
+    pub carried : IsCarriedUp s plain up top
+    pub lives : LivesAt s plain
+    pub leads : LeadsUpTo s face way top
+    pub followed : IsFollowed i s way face id
