@@ -15,7 +15,7 @@ use Rattle.zt_protocol.specs.declared.messages.Message.TheVariants as message
 use Rattle.zt_model.specs.Fabric.{Fabric, Link, Node, Place, call_face, number_from, printed_for}
 use Rattle.zt_model.specs.Hearing.{messages_for}
 use Rattle.zt_model.specs.Linking.{call_of_message, is_end_of}
-use Rattle.zt_model.specs.Lists.{at_id, nth}
+use Rattle.zt_model.specs.Lists.{at_id, nth, same}
 use Rattle.zt_model.specs.Parts.{find_face}
 use Rattle.zt_model.specs.Refusals.{call_causes, first_cause, is_illegal_current}
 use Rattle.zt_model.specs.Rows.{Ask, ById, Face, InterestRow, Rows}
@@ -154,3 +154,116 @@ module _ {K : Type 0} (cmp : K → K → Ordering) (matching : K → K → Bool)
     pub closed_dropped : LeftByDropped cmp matching total equal_is_same s fine agree StaysClosed
     unfolding printed_for
     closed_dropped = λ q0 q1 joined z z_is node at_j found m rest old why. (record { place = closed.place; node = closed.node; place_is = closed.place_is; node_is = closed.node_is; gone = closed.gone }, refl)
+
+  -- ---- an ask that is pursued
+
+  module _ (e : K) (i : InterestRow K) (about : is_about matching i.expr e ≡ true) (tokens : has_tokens i.options ≡ true) (current : is_current i.mode ≡ true) (legal : is_illegal_current i.mode i.options ≡ false)
+      (holds : (k : ℕ) (z : FaceAt K) (id : ℕ) (ask : Ask K) → face_numbered s k ≡ Some z → at_id id z.face.asks ≡ Some ask → is_future ask.interest.mode ≡ true → at_id id z.face.held ≡ Some ask.interest)
+      (k id q : ℕ) (way up : List (ℕ × ℕ)) (top : ℕ) (plain : is_plain_number s k ≡ true) (pursued : IsPursued cmp matching e i s k id q way up top) where
+    -- it is pursued on and sent no final, or is answered first, or its face is closed
+    abbrev pub Outcome : List (Sent K) → Fabric K → Type 0
+    Outcome ms t = (IsPursued cmp matching e i t k id q way up top × Each (IsNoFinal id) (printed_for k ms)) ⊎ (AnswersFirst cmp id e (printed_for k ms) ⊎ (IsClosedAt t k × (printed_for k ms ≡ [])))
+
+    -- where the expression is still live then
+    abbrev pub GoesOn : List (Sent K) → Fabric K → Type 0
+    GoesOn ms t = FabricIsInOrder cmp matching t → LivesAt cmp matching e t q → Outcome ms t
+
+    -- the call lets no time go on, and doesn't end the ask by its interest
+    pub record IsCalm (j : ℕ) (c : PlainCall K) : Type 0 where
+      pub timeless : expires c ≡ false
+      pub held : (z : FaceAt K) → face_numbered s k ≡ Some z → z.gateway ≡ j → c ≡ InterestFinal z.face.number id → is_future i.mode ≡ false
+
+    first_face : (way2 : List (ℕ × ℕ)) (u : Fabric K) → IsFollowed cmp matching e i u way2 k id → (z : FaceAt K) × ((face_numbered u k ≡ Some z) × (is_north z.face.region ≡ false))
+    first_face [] u f = absurd f
+    first_face (step ∷ way2) u f = (f.own, (f.above.own_is, f.above.down))
+
+    -- the face at the gateway to which the expression is carried
+    end_lives : (up2 : List (ℕ × ℕ)) (n : ℕ) → IsCarriedUp cmp matching e s n up2 top → LivesAt cmp matching e s n → (m : ℕ) × ((l : LivesAt cmp matching e s m) × (l.own.gateway ≡ top))
+    end_lives [] n u lives = let same_ : u.0 ≡ lives.own = the_same (sym u.1 ∙ lives.own_is) in (n, (lives, ap (λ (z : FaceAt K). z.gateway) (sym same_) ∙ u.2))
+    end_lives (step ∷ up2) n u lives =
+        let c = u.0 in
+        let ends = agree.links.meet step.0 step.1 c.above.joined in
+        let one : ends.one ≡ c.lower = the_same (sym ends.one_is ∙ c.above.lower_is) in
+        let two : ends.two ≡ c.upper = the_same (sym ends.two_is ∙ c.above.upper_is) in
+        end_lives up2 step.1 u.1 (record {
+          own = c.upper;
+          own_is = c.above.upper_is;
+          down = ap (λ (z : FaceAt K). is_north z.face.region) (sym two) ∙ ends.one_leads_up ∙ ap (λ (z : FaceAt K). not (is_north z.face.region)) one ∙ ap not c.above.up;
+          live = any_weaker (λ row. (c.id == row.0) && same cmp e row.1) (λ row. same cmp e row.1) (λ row both. (and_parts (c.id == row.0) (same cmp e row.1) both).1) c.upper.face.live c.live;
+        })
+
+    -- the call closes the face, or leaves it open
+    closes_or_not : (j : ℕ) (c : PlainCall K) (z : FaceAt K) → ((z.gateway ≡ j) × (c ≡ CloseFace z.face.number)) ⊎ (z.gateway ≡ j → LeavesOpen c z.face.number)
+    closes_or_not j (CloseFace n) z =
+        by_test (z.gateway == j)
+        (λ here.
+        by_test (n == z.face.number)
+        (λ own. inl (eqb-true z.gateway j here, ap CloseFace (eqb-true n z.face.number own)))
+        (λ other. inr (λ _ closes m m_is is. let m_n : Some n ≡ Some m = m_is in let n_is : n ≡ m = the_same m_n in never (eq-eqb n z.face.number (n_is ∙ is)) other)))
+        (λ apart. inr (λ is. never (eq-eqb z.gateway j is) apart))
+    closes_or_not j (NewSession first) z = inr (λ here closes. never closes refl)
+    closes_or_not j (NewTransport zid whatami region bound first) z = inr (λ here closes. never closes refl)
+    closes_or_not j (DeclareToken n x y node_ interest) z = inr (λ here closes. never closes refl)
+    closes_or_not j (UndeclareToken n x given node_) z = inr (λ here closes. never closes refl)
+    closes_or_not j (Interest n x mode options y) z = inr (λ here closes. never closes refl)
+    closes_or_not j (InterestFinal n x) z = inr (λ here closes. never closes refl)
+    closes_or_not j (DeclareFinal n x) z = inr (λ here closes. never closes refl)
+    closes_or_not j (Expire now) z = inr (λ here closes. never closes refl)
+    closes_or_not j (SetTrees region t) z = inr (λ here closes. never closes refl)
+    closes_or_not j (SetEntities n subscribers queryables) z = inr (λ here closes. never closes refl)
+
+    pub pursued_calls : LeftBySpoken cmp matching total equal_is_same s fine agree IsCalm (Unit {0}) GoesOn
+    pursued_calls = λ spent j node c w waits at_j still accepted speaks how order lives_then.
+        let real = calls_nothing cmp matching total c still in
+        let ms = printed_by cmp matching total equal_is_same s fine agree j node c in
+        let prints = prints_sorted s.faces j (said cmp matching c node.rows) in
+        let t = turned_by cmp matching total equal_is_same s fine agree j node c w at_j still in
+        let own = first_face way s pursued.followed in
+        let z = own.0 in
+        let z_is = own.1.0 in
+        let timeless : expires c ≡ false = ⊎_elim (λ calm. calm.timeless) (λ step. step_timeless step.1.at.face.number step.1.message c step.1.says) how in
+        let held : z.gateway ≡ j → c ≡ InterestFinal z.face.number id → is_future i.mode ≡ false = λ here is.
+        ⊎_elim (λ calm. calm.held z z_is here is) (λ step. absurd (not_stepping j node c k z at_j z_is here plain (ap call_face is) step.1)) how in
+        ⊎_elim
+        (λ closes.
+        let here = closes.0 in
+        let th = is_there s k z z_is in
+        let change = λ (x : Node K). record x { rows = rows_after_call cmp matching c x.rows } in
+        let place_here : th.place.gateway ≡ j = th.gateway_is ∙ here in
+        let gone : find_face th.place.face (rows_after_call cmp matching c node.rows) ≡ None = ap (λ n. find_face n (rows_after_call cmp matching c node.rows)) th.number_is ∙ ap (λ d. find_face z.face.number (rows_after_call cmp matching d node.rows)) closes.1 ∙ closed_is_gone cmp matching z.face.number node.rows in
+        let none_ : messages_for z.face.number (said cmp matching c node.rows) ≡ [] = ap (λ d. messages_for z.face.number (said cmp matching d node.rows)) closes.1 ∙ sent_none cmp matching z.face.number (said cmp matching (CloseFace z.face.number) node.rows) (closed_said cmp matching z.face.number node.rows) in
+        inr (inr (
+          record { place = th.place; node = change node; place_is = th.place_is; node_is = ap (λ n. nth n t.gateways) place_here ∙ nth-at_nth j change s.gateways node at_j; gone = gone },
+          printed_here cmp matching total s fine j node at_j c real ms w prints k z z_is here ∙ none_,
+        )))
+        (λ opens.
+        let top_lives = end_lives up q pursued.carried pursued.lives in
+        let on = followed_then cmp matching total equal_is_same e i about tokens current s fine agree holds top top_lives.0 top_lives.1.0 top_lives.1.1 j node at_j c real still timeless spent accepted ms w prints waits speaks way k id z z_is opens held pursued.leads pursued.followed in
+        ⊎_elim
+        (λ both.
+        let y = first_face way t both.0 in
+        inl (
+        record {
+          carried = carried_up cmp matching total equal_is_same e s fine agree j node at_j c real still timeless spent accepted ms w prints waits speaks order up q top pursued.carried pursued.lives lives_then;
+          lives = lives_then;
+          leads = leads_then cmp matching total equal_is_same s fine agree j node at_j c real still timeless spent accepted ms w prints waits speaks way k top y.0 pursued.leads y.1.0 y.1.1;
+          followed = both.0;
+        }, both.1))
+        (λ first. inr (inl first))
+        on)
+        (closes_or_not j c z)
+
+    pub pursued_itself : GoesOn [] s
+    unfolding printed_for
+    pursued_itself = λ order lives_then. inl (record { carried = pursued.carried; lives = lives_then; leads = pursued.leads; followed = pursued.followed }, tt)
+
+    pub pursued_dropped : LeftByDropped cmp matching total equal_is_same s fine agree GoesOn
+    unfolding printed_for
+    pursued_dropped = λ q0 q1 joined z z_is node at_j found m rest old why order lives_then.
+        inl (
+        record {
+          carried = carried_dropped cmp matching total equal_is_same e i tokens legal s fine agree q0 q1 joined z z_is node at_j found m rest old why up q top pursued.carried;
+          lives = lives_then;
+          leads = leads_dropped cmp matching total equal_is_same e i tokens legal s fine agree q0 q1 joined z z_is node at_j found m rest old why way k top pursued.leads;
+          followed = followed_dropped cmp matching total equal_is_same e i tokens legal s fine agree q0 q1 joined z z_is node at_j found m rest old why way k id pursued.followed;
+        }, tt)
