@@ -18,3 +18,4 @@ pub mod Speaking
 pub mod Dropping
 pub mod Absent
 pub mod Pursuing
+pub mod Opening
