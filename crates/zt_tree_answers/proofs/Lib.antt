@@ -19,3 +19,4 @@ pub mod Dropping
 pub mod Absent
 pub mod Pursuing
 pub mod Opening
+pub mod Framing
