@@ -20,3 +20,4 @@ pub mod Absent
 pub mod Pursuing
 pub mod Opening
 pub mod Framing
+pub mod Linking
