@@ -21,3 +21,4 @@ pub mod Pursuing
 pub mod Opening
 pub mod Framing
 pub mod Linking
+pub mod Every
