@@ -22,3 +22,4 @@ pub mod Opening
 pub mod Framing
 pub mod Linking
 pub mod Every
+pub mod Beginning
