@@ -18,7 +18,7 @@ use Rattle.zt_model.specs.Parts.{find_face}
 use Rattle.zt_model.specs.Rows.{ById, Face, InterestRow}
 use Rattle.zt_model.specs.Says.{said}
 use Rattle.zt_model.specs.Transcript.{Each, FaceAt, face_numbered}
-use Rattle.zt_model.specs.TreePromises.{IsMember}
+use Rattle.zt_model.specs.TreePromises.{IsMember, is_plain_number}
 use Rattle.zt_laws.specs.Order.{FabricIsInOrder}
 use Rattle.zt_laws.specs.Sound.{opens_face, rows_after_call}
 use Rattle.zt_laws.proofs.Entries.{nth-at_nth}
@@ -43,6 +43,7 @@ pub record IsFrame {K : Type 0} (s t : Fabric K) (ms : List (Sent K)) : Type 0 w
   pub joined : (a b : ℕ) → are_joined s a b ≡ true → are_joined t a b ≡ true
   pub prints : (k : ℕ) (p : Place) (node : Node K) → nth k s.faces ≡ Some p → nth p.gateway s.gateways ≡ Some node → printed_for k ms ≡ []
   pub closed : (k : ℕ) → IsClosedAt s k → IsClosedAt t k
+  pub plain : (k : ℕ) (p : Place) → nth k s.faces ≡ Some p → is_plain_number s k ≡ true → is_plain_number t k ≡ true
 
 module _ {K : Type 0} (cmp : K → K → Ordering) (matching : K → K → Bool) (e : K) (i : InterestRow K) (s t : Fabric K) (agree : TreesAgree cmp matching s) (ms : List (Sent K)) (frame : IsFrame s t ms) where
   module _ (k a b : ℕ) (own lower upper : FaceAt K) (above : IsAbove s k a b own lower upper) where
@@ -151,7 +152,7 @@ module _ {K : Type 0} (cmp : K → K → Ordering) (matching : K → K → Bool)
 
   pub frame_itself : IsFrame s s []
   unfolding printed_for
-  frame_itself = record { faces = λ k z found. (z, (found, (refl, refl))); waits = λ k z found there. refl; joined = λ a b h. h; prints = λ k p node at_ there. refl; closed = λ k c. c }
+  frame_itself = record { faces = λ k z found. (z, (found, (refl, refl))); waits = λ k z found there. refl; joined = λ a b h. h; prints = λ k p node at_ there. refl; closed = λ k c. c; plain = λ k p at_ h. h }
 
   pub frame_gateway : (node : Node K) → IsFrame s (with_gateway node s) []
   unfolding printed_for
@@ -169,6 +170,7 @@ module _ {K : Type 0} (cmp : K → K → Ordering) (matching : K → K → Bool)
     joined = λ a b h. h;
     prints = λ k p x at_ there. refl;
     closed = λ k c. record { place = c.place; node = c.node; place_is = c.place_is; node_is = nth_front c.place.gateway s.gateways (node ∷ []) c.node c.node_is; gone = c.gone };
+    plain = λ k p at_ h. h;
   }
 
   -- ---- a face is opened
@@ -185,6 +187,7 @@ module _ {K : Type 0} (cmp : K → K → Ordering) (matching : K → K → Bool)
             let at_ = is_there s k z found in
             queue_added s.waiting ms k there ∙ ap (λ xs. queue s.waiting k ++ xs) (none_ k at_.place at_.node at_.place_is (ap (λ g. nth g s.gateways) at_.gateway_is ∙ at_.node_is)) ∙ append-nil (queue s.waiting k);
         joined = λ a b h. h;
+        plain = λ k p at_ h. h;
         prints = none_;
         closed = λ k cl.
             by_test (cl.place.gateway == n)

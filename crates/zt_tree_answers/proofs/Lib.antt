@@ -23,3 +23,4 @@ pub mod Framing
 pub mod Linking
 pub mod Every
 pub mod Beginning
+pub mod Turning

@@ -9,7 +9,7 @@ use Rattle.zt_protocol.specs.Plain.{PlainCall, PlainLine, NewSession, NewTranspo
 use Rattle.zt_protocol.specs.declared.entries.Sent.{Sent}
 use Rattle.zt_protocol.specs.declared.messages.Message.{Message}
 use Rattle.zt_model.specs.Fabric.{CallAt, Fabric, Link, Node, Place, after_hearing, after_opening, altered_at, altered_by_line, at_nth, call_at, gateways_after_hearing, next_face, opened_at, opened_ends, opening_at, printed_for, said_at, said_by_line, said_opening, sorted_by_face, with_place, with_waiting}
-use Rattle.zt_model.specs.Linking.{LinkEnd, end_call, link_ends, waiting_of, with_link}
+use Rattle.zt_model.specs.Linking.{LinkEnd, end_call, is_end_of, link_ends, waiting_of, with_link}
 use Rattle.zt_model.specs.Lists.{at_id, has_id, nth}
 use Rattle.zt_model.specs.Parts.{find_face}
 use Rattle.zt_model.specs.Rows.{ById, Face}
@@ -22,7 +22,7 @@ use Rattle.zt_laws.proofs.Entries.{nth-at_nth}
 use Rattle.zt_laws.proofs.Gateways.{prints_map}
 use Rattle.zt_laws.proofs.LinesOrder.{called_at, gateway_in_order}
 use Rattle.zt_laws.proofs.Lists.{any-append, by_test, never}
-use Rattle.zt_laws.proofs.Numbered.{nth_real}
+use Rattle.zt_laws.proofs.Numbered.{nth_real, nth_within}
 use Rattle.zt_laws.proofs.Sorting.{printed_sorted}
 use Rattle.zt_trees.specs.Facts.{TreesAgree}
 use Rattle.zt_trees.specs.Joints.{are_joined, joins}
@@ -193,6 +193,13 @@ module _ {K : Type 0} (cmp : K → K → Ordering) (matching : K → K → Bool)
           let now_ = after_two node (nth_other p.gateway is.one change1 s.gateways node (nth_real is.one s.gateways is.node1 is.at1) (λ e. never (eq-eqb p.gateway is.one e) not_one) node_is) in
           (node, (now_, ((λ f found. found), (λ none_. none_))))))
 
+      or_none : (a b : Bool) → a ≡ false → b ≡ false → (a || b) ≡ false
+      or_none a b one_ two_ = ap (λ x. x || b) one_ ∙ two_
+
+      was_not : (b : Bool) → not b ≡ true → b ≡ false
+      was_not true h = never h refl
+      was_not false h = refl
+
       pub frame_link : IsFrame s Then ms
       frame_link = record {
         faces = λ k z found.
@@ -209,6 +216,13 @@ module _ {K : Type 0} (cmp : K → K → Ordering) (matching : K → K → Bool)
             ∙ ap (λ w. queue w k) longer.waiting ∙ ap (λ o. (let q : List (Message K) = elim o [ None ↦ [] | Some xs ↦ xs ] in q)) (front_row k s.waiting _ there);
         joined = λ a b h. ap (list_any (λ link. link.is_open && joins a b link)) longer.links ∙ any-append (λ link. link.is_open && joins a b link) s.links _ ∙ or_left (are_joined s a b) _ h;
         prints = λ k p node place_is node_is. prints_none k p node place_is node_is;
+        plain = λ k p at_ h.
+            let within : k ≤ length s.faces = nth_within k s.faces p at_ in
+            ap not (
+              ap (list_any (is_end_of k)) longer.links
+              ∙ any-append (is_end_of k) s.links _
+              ∙ or_none (list_any (is_end_of k) s.links) _ (was_not (list_any (is_end_of k) s.links) h) (or_none ((k == length s.faces + 1) || (k == length s.faces + 1 + 1)) false (or_none (k == length s.faces + 1) (k == length s.faces + 1 + 1) (ne_eqb k (length s.faces + 1) (λ is. omega arith)) (ne_eqb k (length s.faces + 1 + 1) (λ is. omega arith))) refl)
+            );
         closed = λ k cl.
             let n = node_then k cl.place cl.node cl.place_is cl.node_is in
             record { place = cl.place; node = n.0; place_is = place_then k cl.place cl.place_is; node_is = n.1.0; gone = n.1.1.1 cl.gone };
