@@ -24,3 +24,4 @@ pub mod Linking
 pub mod Every
 pub mod Beginning
 pub mod Turning
+pub mod Asked
