@@ -25,3 +25,4 @@ pub mod Every
 pub mod Beginning
 pub mod Turning
 pub mod Asked
+pub mod Gets
