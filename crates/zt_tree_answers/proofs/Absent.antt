@@ -1,18 +1,17 @@
 -- A face that isn't open is sent nothing, and one that is closed is sent nothing then.
-use Rattle.std.proofs.Common.{◌≡◌, ◌≢◌, ℕ, Bool, true, false, if◌then◌else◌, ◌&&◌, ◌==◌, not, List, [], ◌∷◌, ◌++◌, map, filter, Option, Some, None, refl, sym, ap, ◌∙◌, subst, eqb-true, eq-eqb}
+use Rattle.std.proofs.Common.{◌≡◌, ℕ, Bool, true, false, if◌then◌else◌, ◌==◌, not, List, [], ◌∷◌, filter, Option, Some, None, refl, sym, ap, ◌∙◌, subst, eqb-true, eq-eqb}
 use Rattle.std.specs.declared.cmp.Ordering.{Ordering}
 use Rattle.zt_region.specs.declared.region.Region.{Region}
-use Rattle.zt_protocol.specs.Plain.{PlainCall, NewSession, NewTransport, DeclareToken, UndeclareToken, Interest, InterestFinal, DeclareFinal, CloseFace, Expire, SetTrees, SetEntities, Trees}
+use Rattle.zt_protocol.specs.Plain.{PlainCall, NewSession, NewTransport, DeclareToken, UndeclareToken, Interest, InterestFinal, DeclareFinal, CloseFace, Expire, SetTrees, SetEntities}
 use Rattle.zt_protocol.specs.declared.messages.Message.{Message}
-use Rattle.zt_protocol.specs.declared.messages.QueryableInfo.{QueryableInfo}
 use Rattle.zt_model.specs.Closing.{closing, leaving, without_asks, without_face}
-use Rattle.zt_model.specs.Entities.{entities_for, entity_expressions, numbered_by, with_entities, with_numbers}
+use Rattle.zt_model.specs.Entities.{entities_for, entity_expressions, numbered_by, with_numbers}
 use Rattle.zt_model.specs.Hearing.{heard_all, messages_for, rows_heard}
 use Rattle.zt_model.specs.Lists.{first_where}
 use Rattle.zt_model.specs.Parts.{Alter, Part, Say, Sends, find_face, is_routed, said_by, to_each, to_face, unsaid_to, with_face}
 use Rattle.zt_model.specs.Routing.{asked_as, end_upstream_to, ended, final_of, final_of_both, finish_to, initial_finalised, route_to, sent_as, unheld, untell_to}
-use Rattle.zt_model.specs.Rows.{Face, InterestRow, Rows}
-use Rattle.zt_model.specs.Says.{asking, forget_to, parts_of, row_of, said, tell_to}
+use Rattle.zt_model.specs.Rows.{Face, Rows}
+use Rattle.zt_model.specs.Says.{forget_to, parts_of, row_of, said, tell_to}
 use Rattle.zt_model.specs.Telling.{answer_to, answers_of, registered, unregistered}
 use Rattle.zt_model.specs.Transcript.{Each}
 use Rattle.zt_model.specs.Trees.{counted_table, greet_to, hide_to, is_newly_shown, router_regions, show_to, with_own_rows, with_routed, with_table, without_left_out, without_own_rows}

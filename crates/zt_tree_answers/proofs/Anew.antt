@@ -1,13 +1,12 @@
 -- An interest that reaches the next gateway makes an ask there: it is answered at once where the expression is live, and
 -- else followed on.
-use Rattle.std.proofs.Common.{◌≡◌, ◌≢◌, ◌⊎◌, inl, inr, ℕ, ◌≤◌, ◌<◌, ◌+◌, max, Bool, true, false, if◌then◌else◌, ◌&&◌, ◌||◌, ◌==◌, not, List, [], ◌∷◌, ◌++◌, length, filter, Option, Some, None, refl, sym, ap, ◌∙◌, subst, arith, eqb-true, eq-eqb, ne_eqb, ⊎_elim}
-use Rattle.std.proofs.lemmas.Bool.{and_from, and_parts, or_left, or_right}
+use Rattle.std.proofs.Common.{◌≡◌, ◌⊎◌, inl, inr, ℕ, ◌≤◌, ◌+◌, Bool, true, false, ◌&&◌, ◌==◌, not, List, [], ◌∷◌, ◌++◌, length, filter, Some, None, refl, sym, ap, ◌∙◌, subst, arith, ne_eqb, ⊎_elim}
+use Rattle.std.proofs.lemmas.Bool.{and_from, or_left}
 use Rattle.std.specs.Cmp.{IsTotalOrder}
 use Rattle.std.specs.List.{list_any}
 use Rattle.std.specs.declared.cmp.Ordering.{Ordering}
 use Rattle.std.specs.declared.cmp.Ordering.TheVariants.{Equal}
 use Rattle.zt_region.specs.declared.region.Region.{Region}
-use Rattle.zt_region.specs.declared.region.WhatAmI.{WhatAmI}
 use Rattle.zt_region.specs.declared.region.WhatAmI.TheVariants.{Client}
 use Rattle.zt_region.specs.Region.{is_north, region_eq}
 use Rattle.zt_protocol.specs.Interest.{has_tokens, is_current, is_future}
@@ -35,22 +34,22 @@ use Rattle.zt_laws.specs.Sound.{CallHasFirstIds, opens_face, rows_after_call}
 use Rattle.zt_laws.proofs.Gateways.{PrintsSends}
 use Rattle.zt_laws.proofs.Hearing.{find_each, heard_all-region}
 use Rattle.zt_laws.proofs.Keys.{among-filter}
-use Rattle.zt_laws.proofs.Lists.{any-map, any_weaker, by_test, each_append, each_weaker, never}
+use Rattle.zt_laws.proofs.Lists.{any-map, any_weaker, each_append, each_weaker, never}
 use Rattle.zt_laws.proofs.Visible.{among-visible_expressions, any_live_rows}
 use Rattle.zt_kept.proofs.ById.{at_has, at_put}
-use Rattle.zt_trees.specs.Facts.{IsForAbove, IsTreeFace, IsTreeGateway, LeadsDown, TreesAgree}
+use Rattle.zt_trees.specs.Facts.{IsTreeFace, IsTreeGateway, LeadsDown, TreesAgree}
 use Rattle.zt_trees.specs.Joints.{are_joined}
 use Rattle.zt_trees.proofs.Climbing.{any_found}
 use Rattle.zt_trees.proofs.Effects.{own_interest}
 use Rattle.zt_trees.proofs.Lines.{tree_rows}
 use Rattle.zt_trees.proofs.Members.{each_nth}
-use Rattle.zt_trees.proofs.Quiet.{is_live, joined_back}
+use Rattle.zt_trees.proofs.Quiet.{joined_back}
 use Rattle.zt_trees.proofs.Saying.{TreeRows, all_asks, asks_after, find_heard_at}
 use Rattle.zt_trees.proofs.Standing.{After, LeavesOpen, still_there}
 use Rattle.zt_trees.proofs.Turning.{queue}
 use Rattle.zt_tree_answers.specs.Steady.{AnswersFirst, FinalIsBelow, IsNoFinal}
 use Rattle.zt_tree_answers.specs.Ways.{AsksAbove, IsAbove, IsStepUp, LivesAt}
-use Rattle.zt_tree_answers.proofs.Answers.{StandsOn, stands_on}
+use Rattle.zt_tree_answers.proofs.Answers.{stands_on}
 use Rattle.zt_tree_answers.proofs.Asking.{goes_up, sent_ask_stays, sent_up, visible_is_answered}
 use Rattle.zt_tree_answers.proofs.Carrying.{expires}
 use Rattle.zt_tree_answers.proofs.Leading.{new_finals}
@@ -251,28 +250,30 @@ module _ {K : Type 0} (cmp : K → K → Ordering) (matching : K → K → Bool)
         (λ first. inr (subst (AnswersFirst cmp id e) (sym printed_u) first))
         (λ on.
         inl (
-        record {
-          own = y.0;
-          lower = lower_then.face;
-          upper = upper_then.face;
-          above =
-              record {
-                own_is = y.1;
-                lower_is = lower_then.is;
-                upper_is = upper_then.is;
-                down = ap (λ (k : Face K). is_north k.region) y.2 ∙ ap is_north (heard_all-region cmp now said_ after) ∙ above.down;
-                up = ap is_north lower_then.region ∙ above.up;
-                joined = above.joined;
-                beside = lower_then.gateway ∙ above.beside ∙ sym place.0;
-              };
-          ask = on.ask;
-          ask_is = ap (at_id id) asks_are ∙ on.ask_is;
-          interest = on.interest ∙ u_row;
-          unanswered = on.unanswered;
-          pending = low.face.next;
-          pendings = on.pendings ∙ sent ∙ ap (λ k. (k, low.face.next) ∷ []) (sym place_low.1);
-          stands = stands_up;
-          sent = sent_up_then;
-          served = inl (member, subst (Each (IsNoFinal low.face.next)) (sym waits_b) (each_append (IsNoFinal low.face.next) (queue w b2) (printed_for b2 ms) none_old none_new));
-        }, subst (Each (IsNoFinal id)) (sym printed_u) none_said))
+          record {
+            own = y.0;
+            lower = lower_then.face;
+            upper = upper_then.face;
+            above =
+                record {
+                  own_is = y.1;
+                  lower_is = lower_then.is;
+                  upper_is = upper_then.is;
+                  down = ap (λ (k : Face K). is_north k.region) y.2 ∙ ap is_north (heard_all-region cmp now said_ after) ∙ above.down;
+                  up = ap is_north lower_then.region ∙ above.up;
+                  joined = above.joined;
+                  beside = lower_then.gateway ∙ above.beside ∙ sym place.0;
+                };
+            ask = on.ask;
+            ask_is = ap (at_id id) asks_are ∙ on.ask_is;
+            interest = on.interest ∙ u_row;
+            unanswered = on.unanswered;
+            pending = low.face.next;
+            pendings = on.pendings ∙ sent ∙ ap (λ k. (k, low.face.next) ∷ []) (sym place_low.1);
+            stands = stands_up;
+            sent = sent_up_then;
+            served = inl (member, subst (Each (IsNoFinal low.face.next)) (sym waits_b) (each_append (IsNoFinal low.face.next) (queue w b2) (printed_for b2 ms) none_old none_new));
+          },
+          subst (Each (IsNoFinal id)) (sym printed_u) none_said,
+        ))
         (stands_on cmp id e said_ after.asks new at_new none_said refl)

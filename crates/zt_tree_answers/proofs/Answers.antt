@@ -9,9 +9,9 @@ use Rattle.zt_protocol.specs.Plain.{DeclareToken}
 use Rattle.zt_protocol.specs.declared.interests.InterestMode.{InterestMode}
 use Rattle.zt_protocol.specs.declared.messages.Message.{Message}
 use Rattle.zt_protocol.specs.declared.messages.Message.TheVariants as message
-use Rattle.zt_model.specs.Hearing.{asks_answered, messages_for, rows_heard, with_answer}
+use Rattle.zt_model.specs.Hearing.{messages_for, rows_heard, with_answer}
 use Rattle.zt_model.specs.Lists.{at_id, has_id, is_among, same, without_id}
-use Rattle.zt_model.specs.Parts.{Part, Say, Sends, find_face, is_routed, said_by, to_each, told_id}
+use Rattle.zt_model.specs.Parts.{Part, Sends, find_face, is_routed, said_by, to_each, told_id}
 use Rattle.zt_model.specs.Rows.{Ask, ById, Face, Rows}
 use Rattle.zt_model.specs.Says.{declaring_of, parts_of, said}
 use Rattle.zt_model.specs.Telling.{answer_to, answering, answers_from, declaring, is_answered_by, registers, was_sent_as}
@@ -20,11 +20,11 @@ use Rattle.zt_model.specs.Trees.{showing, source_of}
 use Rattle.zt_model.specs.Wants.{asks_token}
 use Rattle.zt_laws.proofs.Hearing.{find_each, messages_for-append}
 use Rattle.zt_laws.proofs.Keys.{same_itself}
-use Rattle.zt_laws.proofs.Lists.{any-append, by_test, each_append, never, of_cond}
+use Rattle.zt_laws.proofs.Lists.{any-append, by_test, never, of_cond}
 use Rattle.zt_kept.proofs.ById.{at_without_other}
 use Rattle.zt_trees.specs.Facts.{IsTreeFace}
 use Rattle.zt_trees.proofs.Knowledge.{is_no_router}
-use Rattle.zt_trees.proofs.Saying.{TreeRows, asks_after, asks_by}
+use Rattle.zt_trees.proofs.Saying.{TreeRows, asks_after}
 use Rattle.zt_trees.proofs.Tracking.{sent_each}
 use Rattle.zt_tree_answers.specs.Steady.{AnswersFirst, IsNoFinal, is_answer}
 

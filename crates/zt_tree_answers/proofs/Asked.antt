@@ -1,5 +1,5 @@
 -- The asking itself, where nothing waits: the ask is answered at once, or it stands and is pursued.
-use Rattle.std.proofs.Common.{◌≡◌, ◌≢◌, ◌⊎◌, inl, inr, ℕ, Bool, true, false, if◌then◌else◌, ◌&&◌, ◌||◌, ◌==◌, not, List, [], ◌∷◌, Option, Some, None, Ok, Err, is_none, refl, sym, ap, ◌∙◌, subst, eqb-true, eq-eqb, ⊎_elim}
+use Rattle.std.proofs.Common.{◌≡◌, ◌≢◌, ◌⊎◌, inl, inr, ℕ, Bool, true, false, if◌then◌else◌, ◌&&◌, ◌||◌, ◌==◌, not, List, [], ◌∷◌, Option, Some, None, refl, sym, ap, ◌∙◌, subst, eqb-true, eq-eqb, ⊎_elim}
 use Rattle.std.proofs.lemmas.Bool.{and_parts}
 use Rattle.std.proofs.lemmas.Nat.{and_assoc}
 use Rattle.std.specs.Cmp.{IsTotalOrder}
@@ -15,9 +15,9 @@ use Rattle.zt_protocol.specs.declared.entries.Sent.{Sent}
 use Rattle.zt_protocol.specs.declared.errors.Refusal.{Refusal}
 use Rattle.zt_protocol.specs.declared.interests.InterestMode.{InterestMode}
 use Rattle.zt_protocol.specs.declared.interests.InterestOptions.{InterestOptions}
-use Rattle.zt_model.specs.Fabric.{CallAt, Fabric, Node, Place, after_hearing, altered_by_line, built_causes, call_at_place, call_face, call_of, causes_of_call, entry_by, entry_of, fabric_after, is_linked_face, line_causes, line_spends_ids, printed_for, said_at, said_by_line, sorted_by_face, with_waiting}
+use Rattle.zt_model.specs.Fabric.{CallAt, Fabric, Node, Place, after_hearing, altered_by_line, built_causes, call_at_place, call_of, causes_of_call, entry_by, entry_of, fabric_after, is_linked_face, line_causes, line_spends_ids, printed_for, said_at, said_by_line, sorted_by_face, with_waiting}
 use Rattle.zt_model.specs.Hearing.{heard_all, messages_for}
-use Rattle.zt_model.specs.Lists.{is_some_and, nth, same}
+use Rattle.zt_model.specs.Lists.{nth, same}
 use Rattle.zt_model.specs.Parts.{find_face}
 use Rattle.zt_model.specs.Promises.{is_accepted}
 use Rattle.zt_model.specs.Refusals.{call_causes, first_cause, is_illegal_current}
@@ -26,15 +26,15 @@ use Rattle.zt_model.specs.Rows.{Face, InterestRow}
 use Rattle.zt_model.specs.Says.{altered, row_of, said}
 use Rattle.zt_model.specs.Shown.{interest_kept}
 use Rattle.zt_model.specs.Transcript.{AllKeepWhatTheyShould, Each, FaceAt, face_numbered, messages_of}
-use Rattle.zt_model.specs.TreePromises.{Beyond, IsInTree, IsTreeFabric, Itself, are_links_empty, is_at_gateway, is_live_at, is_plain_number}
+use Rattle.zt_model.specs.TreePromises.{IsInTree, IsTreeFabric, are_links_empty, is_at_gateway, is_live_at, is_plain_number}
 use Rattle.zt_model.specs.Wants.{is_about, kept_options}
 use Rattle.zt_laws.specs.Order.{FabricIsInOrder}
-use Rattle.zt_laws.specs.Sound.{opens_face, rows_after_call}
+use Rattle.zt_laws.specs.Sound.{rows_after_call}
 use Rattle.zt_laws.proofs.Calls.{no_cause}
 use Rattle.zt_laws.proofs.Gateways.{prints_sorted}
 use Rattle.zt_laws.proofs.Hearing.{heard_all-live}
 use Rattle.zt_laws.proofs.Lists.{any_weaker, by_test, never}
-use Rattle.zt_laws.proofs.LinesOrder.{called_at, calls_nothing}
+use Rattle.zt_laws.proofs.LinesOrder.{calls_nothing}
 use Rattle.zt_trees.specs.Facts.{TreesAgree}
 use Rattle.zt_trees.proofs.After.{after_call}
 use Rattle.zt_trees.proofs.Climbing.{at_gateway, meet_at}
@@ -45,13 +45,13 @@ use Rattle.zt_trees.proofs.Members.{is_there}
 use Rattle.zt_trees.proofs.Saying.{find_heard_at}
 use Rattle.zt_trees.proofs.Standing.{was_there}
 use Rattle.zt_tree_answers.specs.Steady.{AnswersFirst, IsNoFinal}
-use Rattle.zt_tree_answers.specs.Ways.{AsksAbove, IsCarriedUp, IsFollowed, IsPursued, LeadsUpTo, LivesAt}
+use Rattle.zt_tree_answers.specs.Ways.{IsCarriedUp, IsFollowed, LeadsUpTo, LivesAt}
 use Rattle.zt_tree_answers.proofs.Anew.{new_is_answered, new_is_followed}
 use Rattle.zt_tree_answers.proofs.Beginning.{carried_of, plain_down, way_of}
 use Rattle.zt_tree_answers.proofs.Carrying.{carried_up}
 use Rattle.zt_tree_answers.proofs.Leading.{leads_then}
 use Rattle.zt_tree_answers.proofs.Turning.{Stands}
-use Rattle.zt_tree_answers.proofs.Views.{Speaks, leaves_open, rows_before, rows_then, still_elsewhere, still_open}
+use Rattle.zt_tree_answers.proofs.Views.{Speaks, leaves_open, rows_before, still_elsewhere, still_open}
 
 -- what is legal stays so with the options that are kept
 legal_kept : (mode : InterestMode) (who : WhatAmI) (options : InterestOptions) → is_illegal_current mode options ≡ false → is_illegal_current mode (kept_options who options) ≡ false
@@ -68,9 +68,6 @@ legal_kept mode who options legal = cases (whatami_eq who Peer || has_tokens opt
 module _ {K : Type 0} (cmp : K → K → Ordering) (matching : K → K → Bool) (total : IsTotalOrder cmp) (equal_is_same : (a b : K) → cmp a b ≡ Equal → a ≡ b) (e : K) (i : InterestRow K) (about : is_about matching i.expr e ≡ true) (tokens : has_tokens i.options ≡ true) (current : is_current i.mode ≡ true) (s : Fabric K) (fine : FabricIsInOrder cmp matching s)
     (agree : TreesAgree cmp matching s) (trees : IsTreeFabric s) (quiet : are_links_empty s ≡ true) (keep : AllKeepWhatTheyShould cmp matching s) (k id q : ℕ) (plain : is_plain_number s k ≡ true) (z : FaceAt K) (z_is : face_numbered s k ≡ Some z) (options : InterestOptions) (kept : i ≡ interest_kept z.face i.mode options i.expr)
     (own other : ℕ) (own_at : is_at_gateway s k own ≡ true) (tree : IsInTree s own other) (other_at : is_at_gateway s q other ≡ true) (is_built : PlainLine K → Bool) where
-  abbrev Goes : (List (ℕ × ℕ) × List (ℕ × ℕ) × ℕ) → Fabric K → Type 0
-  Goes w t = Stands cmp matching total equal_is_same e i k id q w.0 w.1 w.2 t
-
   -- it is answered, or stands at the end of some way and is sent no final
   abbrev pub Asked : List (Sent K) → Fabric K → Type 0
   Asked ms t = (is_illegal_current i.mode i.options ≡ false) × (AnswersFirst cmp id e (printed_for k ms) ⊎ ((way : List (ℕ × ℕ)) × (up : List (ℕ × ℕ)) × (top : ℕ) × Stands cmp matching total equal_is_same e i k id q way up top t × Each (IsNoFinal id) (printed_for k ms)))
@@ -186,23 +183,24 @@ module _ {K : Type 0} (cmp : K → K → Ordering) (matching : K → K → Bool)
           let on = new_is_followed cmp matching total equal_is_same e i about tokens current s fine agree j node at_j c real refl refl spent accepted ms s.waiting prints (λ m h. h) speaks k step.0 step.1 leads.0 (ap (λ (x : FaceAt K). x.gateway) (sym is)) id options asks (ap (λ (x : FaceAt K). row_of cmp matching x.face i.mode options i.expr) (sym is) ∙ own_row) (λ p. IsFollowed cmp matching e i t way step.1 p) in (
             legal,
             ⊎_elim
-            (λ both.
-            inr (
-              step ∷ way,
-              up,
-              top,
-              inl (
-                plain,
-                record {
-                  carried = carried_up cmp matching total equal_is_same e s fine agree j node at_j c real refl refl spent accepted ms s.waiting prints (λ m h. h) speaks order up q top carried lives lives_then;
-                  lives = lives_then;
-                  leads = leads_then cmp matching total equal_is_same s fine agree j node at_j c real refl refl spent accepted ms s.waiting prints (λ m h. h) speaks (step ∷ way) k top both.0.own leads both.0.above.own_is both.0.above.down;
-                  followed = both.0;
-                }),
-              both.1,
-            ))
-            (λ first. inl first)
-            on,
+                (λ both.
+                inr (
+                  step ∷ way,
+                  up,
+                  top,
+                  inl (
+                    plain,
+                    record {
+                      carried = carried_up cmp matching total equal_is_same e s fine agree j node at_j c real refl refl spent accepted ms s.waiting prints (λ m h. h) speaks order up q top carried lives lives_then;
+                      lives = lives_then;
+                      leads = leads_then cmp matching total equal_is_same s fine agree j node at_j c real refl refl spent accepted ms s.waiting prints (λ m h. h) speaks (step ∷ way) k top both.0.own leads both.0.above.own_is both.0.above.down;
+                      followed = both.0;
+                    },
+                  ),
+                  both.1,
+                ))
+                (λ first. inl first)
+                on,
           )
 
     asks_here : Asks ms t
@@ -229,14 +227,14 @@ module _ {K : Type 0} (cmp : K → K → Ordering) (matching : K → K → Bool)
       let node = th.node in
       let found : find_face n node.rows ≡ Some z.face = ap (find_face n) th.rows_are ∙ th.face_is in
       let speaks : Speaks cmp matching total s fine j node th.node_is c (calls_nothing cmp matching total c refl) (printed_by cmp matching total equal_is_same s fine agree j node c) s.waiting (prints_sorted s.faces j (said cmp matching c node.rows)) =
-          λ a b u u_is link_.
-          inl (record {
-            queue_is = refl;
-            unnamed = λ here m m_is is.
-                let m_n : n ≡ m = the_same m_is in
-                let same_ : a ≡ k = same_number cmp matching total s fine agree k a (record { gateway = j; face = n }) u place_is u_is here (sym is ∙ sym m_n) node th.node_is in
-                never (subst (λ x. is_linked_face s (Some x) ≡ true) same_ (is_linked cmp matching total s fine agree a b link_)) alone;
-          }) in
+      λ a b u u_is link_.
+      inl (record {
+        queue_is = refl;
+        unnamed = λ here m m_is is.
+            let m_n : n ≡ m = the_same m_is in
+            let same_ : a ≡ k = same_number cmp matching total s fine agree k a (record { gateway = j; face = n }) u place_is u_is here (sym is ∙ sym m_n) node th.node_is in
+            never (subst (λ x. is_linked_face s (Some x) ≡ true) same_ (is_linked cmp matching total s fine agree a b link_)) alone;
+      }) in
       subst (Asks (printed_by cmp matching total equal_is_same s fine agree j node c)) (sym (after_is cmp matching total s fine agree j node c (printed_by cmp matching total equal_is_same s fine agree j node c) s.waiting th.node_is refl (prints_sorted s.faces j (said cmp matching c node.rows))))
       (asks_here node th.node_is found spent accepted speaks)
 

@@ -1,9 +1,8 @@
 -- A new ask: it is answered at once what is visible, and is sent no final where it was sent upward.
-use Rattle.std.proofs.Common.{◌≡◌, ◌≢◌, ◌⊎◌, inl, inr, ℕ, ◌≤◌, ◌+◌, Bool, true, false, if◌then◌else◌, ◌&&◌, ◌||◌, ◌==◌, not, cond, List, [], ◌∷◌, ◌++◌, length, map, filter, Option, Some, None, option_map, refl, sym, ap, ◌∙◌, subst, arith, eqb-true, eq-eqb, ne_eqb, ⊎_elim}
-use Rattle.std.proofs.lemmas.Bool.{and_from, and_parts, or_cases, or_left, or_right}
-use Rattle.std.specs.List.{flat_map, list_any}
+use Rattle.std.proofs.Common.{◌≡◌, ◌⊎◌, inl, inr, ℕ, ◌≤◌, ◌+◌, Bool, true, false, ◌&&◌, ◌||◌, ◌==◌, not, cond, List, [], ◌∷◌, ◌++◌, length, map, filter, Option, Some, None, option_map, refl, sym, ap, ◌∙◌, subst, arith, eqb-true, eq-eqb, ⊎_elim}
+use Rattle.std.proofs.lemmas.Bool.{or_cases, or_left, or_right}
+use Rattle.std.specs.List.{list_any}
 use Rattle.std.specs.declared.cmp.Ordering.{Ordering}
-use Rattle.zt_region.specs.declared.region.Region.{Region}
 use Rattle.zt_region.specs.declared.region.WhatAmI.TheVariants.{Client}
 use Rattle.zt_region.specs.Region.{is_north}
 use Rattle.zt_protocol.specs.Interest.{is_current, is_future}
@@ -13,8 +12,8 @@ use Rattle.zt_protocol.specs.declared.interests.InterestOptions.{InterestOptions
 use Rattle.zt_protocol.specs.declared.messages.Message.{Message}
 use Rattle.zt_protocol.specs.declared.messages.Message.TheVariants as message
 use Rattle.zt_model.specs.Entities.{entities_for, numbered_by, with_numbers}
-use Rattle.zt_model.specs.Hearing.{heard_all, messages_for, put_if, rows_heard, with_answer}
-use Rattle.zt_model.specs.Lists.{at_id, first_where, has_id, is_among, same, without_id}
+use Rattle.zt_model.specs.Hearing.{heard_all, messages_for, rows_heard, with_answer}
+use Rattle.zt_model.specs.Lists.{at_id, first_where, is_among, same, without_id}
 use Rattle.zt_model.specs.Parts.{Sends, find_face, said_by, to_each, to_face, told_id, with_face}
 use Rattle.zt_model.specs.Promises.{answered_by, answers_in}
 use Rattle.zt_model.specs.Routing.{asked_as, final_of, is_target, route_to, sent_as}
@@ -28,11 +27,10 @@ use Rattle.zt_laws.proofs.PartsOrder.{each_message_for}
 use Rattle.zt_asked.proofs.AtOnce.{answered_at_once}
 use Rattle.zt_kept.proofs.ById.{at_put, at_without_other}
 use Rattle.zt_kept.proofs.CallsRun.{each_entity}
-use Rattle.zt_trees.specs.Facts.{IsTreeFace}
-use Rattle.zt_trees.proofs.Saying.{TreeRows, all_asks, asks_after, asks_by, find_heard_at}
-use Rattle.zt_trees.proofs.Tracking.{find_with_face, sent_each, sent_face}
+use Rattle.zt_trees.proofs.Saying.{TreeRows, all_asks, asks_after, find_heard_at}
+use Rattle.zt_trees.proofs.Tracking.{find_with_face, sent_each}
 use Rattle.zt_tree_answers.specs.Steady.{AnswersFirst, IsNoFinal, is_answer}
-use Rattle.zt_tree_answers.proofs.Answers.{answers_later, answers_more, at_answered, some_answer}
+use Rattle.zt_tree_answers.proofs.Answers.{at_answered}
 
 -- the one member that passes a test
 pub filter_one : {A : Type 0} (p q : A → Bool) (xs : List A) (x : A) → length (filter q xs) ≤ 1 → first_where p xs ≡ Some x → q x ≡ true → filter q xs ≡ x ∷ []

@@ -1,5 +1,5 @@
 -- Where nothing waits: a token that is live at a plain face is carried up to each gateway above, and ways lead there.
-use Rattle.std.proofs.Common.{◌≡◌, ◌≢◌, ◌⊎◌, inl, inr, ℕ, ◌≤◌, ◌<◌, ◌+◌, Bool, true, false, ◌&&◌, ◌||◌, ◌==◌, not, List, [], ◌∷◌, ◌++◌, Option, Some, None, option_map, map, refl, sym, ap, ◌∙◌, subst, arith, eqb-true, eq-eqb, ⊎_elim}
+use Rattle.std.proofs.Common.{◌≡◌, ◌⊎◌, ℕ, ◌≤◌, ◌<◌, ◌+◌, Bool, true, false, ◌&&◌, ◌==◌, not, List, [], ◌∷◌, ◌++◌, Option, Some, None, refl, sym, ap, ◌∙◌, subst, arith, eqb-true, eq-eqb, ⊎_elim}
 use Rattle.std.proofs.lemmas.Bool.{and_from, and_parts, or_cases, or_left, or_right}
 use Rattle.std.specs.Cmp.{IsTotalOrder}
 use Rattle.std.specs.List.{list_any}
@@ -7,13 +7,10 @@ use Rattle.std.specs.declared.cmp.Ordering.{Ordering}
 use Rattle.std.specs.declared.cmp.Ordering.TheVariants.{Equal}
 use Rattle.zt_region.specs.declared.region.Region.TheVariants.{North}
 use Rattle.zt_region.specs.Region.{is_north, region_eq-same}
-use Rattle.zt_protocol.specs.Interest.{is_future}
-use Rattle.zt_model.specs.Fabric.{Fabric, Node, Place, number_of_place}
-use Rattle.zt_model.specs.Linking.{is_end_of, waiting_of}
-use Rattle.zt_model.specs.Lists.{at_id, is_some_and, nth, same}
+use Rattle.zt_model.specs.Fabric.{Fabric, Node}
+use Rattle.zt_model.specs.Lists.{is_some_and, nth, same}
 use Rattle.zt_model.specs.Parts.{find_face, is_routed}
-use Rattle.zt_model.specs.Promises.{EachGateway}
-use Rattle.zt_model.specs.Rows.{Ask, ById, Face, InterestRow, Rows}
+use Rattle.zt_model.specs.Rows.{ById, Face}
 use Rattle.zt_model.specs.Transcript.{AllKeepWhatTheyShould, Each, FaceAt, FacesKeepWhatTheyShould, KeepsWhatItShould, face_numbered}
 use Rattle.zt_model.specs.TreePromises.{IsTreeFabric, LeadsUpByLink, ServesClients, are_links_empty, is_live_at, is_plain_number, is_plainly_live_at}
 use Rattle.zt_model.specs.Visible.{keeps, shows}
@@ -21,11 +18,9 @@ use Rattle.zt_model.specs.Wants.{covers}
 use Rattle.zt_laws.specs.Order.{FabricIsInOrder}
 use Rattle.zt_laws.specs.Sound.{IsToldInOrder, RiseFrom}
 use Rattle.zt_laws.proofs.Hearing.{find_each}
-use Rattle.zt_laws.proofs.Keys.{same_is, same_itself}
 use Rattle.zt_laws.proofs.LinesOrder.{gateway_in_order}
-use Rattle.zt_laws.proofs.Lists.{any_weaker, by_test, each_weaker, never}
-use Rattle.zt_trees.specs.Facts.{IsTreeFace, IsTreeGateway, JointAgrees, TreesAgree}
-use Rattle.zt_trees.specs.Joints.{are_joined}
+use Rattle.zt_laws.proofs.Lists.{any_weaker, by_test, never}
+use Rattle.zt_trees.specs.Facts.{IsTreeFace, IsTreeGateway, TreesAgree}
 use Rattle.zt_trees.proofs.Climbing.{IsUnder, Same, StepUp, Up, any_found}
 use Rattle.zt_trees.proofs.Knowledge.{is_no_router}
 use Rattle.zt_trees.proofs.Lines.{tree_rows}
@@ -33,7 +28,7 @@ use Rattle.zt_trees.proofs.Members.{each_gateway_nth, each_nth, is_there, number
 use Rattle.zt_trees.proofs.Quiet.{admitted_if_visible, is_live, is_shown_by, nothing_waits, quiet_joint, visible_by_faces}
 use Rattle.zt_trees.proofs.Saying.{IsReal}
 use Rattle.zt_tree_answers.specs.Steady.{FinalIsBelow, IsTold, LeavesRow, has_row}
-use Rattle.zt_tree_answers.specs.Ways.{IsAbove, IsCarried, IsCarriedUp, IsStepUp, LeadsUpTo, LivesAt}
+use Rattle.zt_tree_answers.specs.Ways.{IsAbove, IsCarried, IsCarriedUp, LeadsUpTo, LivesAt}
 
 module _ {K : Type 0} (cmp : K → K → Ordering) (matching : K → K → Bool) (total : IsTotalOrder cmp) (equal_is_same : (a b : K) → cmp a b ≡ Equal → a ≡ b) (s : Fabric K) (fine : FabricIsInOrder cmp matching s) (agree : TreesAgree cmp matching s) (trees : IsTreeFabric s) where
   the_same : {A : Type 0} {u v : A} → Some u ≡ Some v → u ≡ v

@@ -1,6 +1,6 @@
 -- A token that is carried up a way stays so through a call, where its expression is live at the first face after it.
-use Rattle.std.proofs.Common.{◌≡◌, ◌≢◌, ◌⊎◌, inl, inr, ℕ, ◌≤◌, ◌<◌, ◌+◌, Bool, true, false, if◌then◌else◌, ◌&&◌, ◌==◌, not, List, [], ◌∷◌, ◌++◌, Option, Some, None, refl, sym, ap, ◌∙◌, subst, arith, eqb-true, eq-eqb, ⊎_elim}
-use Rattle.std.proofs.lemmas.Bool.{and_from, and_parts, or_left, or_right}
+use Rattle.std.proofs.Common.{◌≡◌, ◌≢◌, ◌⊎◌, inl, inr, ℕ, ◌≤◌, ◌+◌, Bool, true, false, ◌&&◌, ◌==◌, not, List, [], ◌∷◌, ◌++◌, Option, Some, None, refl, sym, ap, ◌∙◌, subst, eqb-true, eq-eqb}
+use Rattle.std.proofs.lemmas.Bool.{and_from, and_parts}
 use Rattle.std.specs.Cmp.{IsTotalOrder}
 use Rattle.std.specs.List.{list_any}
 use Rattle.std.specs.declared.cmp.Ordering.{Ordering}
@@ -17,16 +17,15 @@ use Rattle.zt_model.specs.Linking.{call_of_message, waiting_of}
 use Rattle.zt_model.specs.Lists.{has_id, nth, same}
 use Rattle.zt_model.specs.Parts.{find_face, with_face}
 use Rattle.zt_model.specs.Refusals.{call_causes, first_cause, is_unknown_token}
-use Rattle.zt_model.specs.Rows.{ById, Face, Rows}
+use Rattle.zt_model.specs.Rows.{ById, Face}
 use Rattle.zt_model.specs.Says.{altered, said, unregistered}
 use Rattle.zt_model.specs.Transcript.{Each, FaceAt, face_numbered}
-use Rattle.zt_model.specs.TreePromises.{is_live_at}
 use Rattle.zt_laws.specs.Order.{FabricIsInOrder}
-use Rattle.zt_laws.specs.Sound.{CallHasFirstIds, RiseFrom, opens_face, rows_after_call}
+use Rattle.zt_laws.specs.Sound.{CallHasFirstIds, opens_face, rows_after_call}
 use Rattle.zt_laws.proofs.Calls.{no_cause, not_on_face}
 use Rattle.zt_laws.proofs.Gateways.{PrintsSends}
 use Rattle.zt_laws.proofs.Hearing.{find_each, heard_all-live}
-use Rattle.zt_laws.proofs.Lists.{any_weaker, by_test, each_append, each_weaker, never}
+use Rattle.zt_laws.proofs.Lists.{any_weaker, by_test, each_append, never}
 use Rattle.zt_trees.specs.Facts.{IsTreeFace, TreesAgree}
 use Rattle.zt_trees.specs.Joints.{are_joined}
 use Rattle.zt_trees.proofs.Effects.{own_undeclare}
@@ -38,10 +37,10 @@ use Rattle.zt_trees.proofs.Tracking.{find_with_face}
 use Rattle.zt_trees.proofs.Turning.{queue}
 use Rattle.zt_tree_answers.specs.Steady.{IsTold, LeavesRow, has_row}
 use Rattle.zt_tree_answers.specs.Ways.{IsAbove, IsCarried, IsCarriedUp, LivesAt}
-use Rattle.zt_tree_answers.proofs.Parts.{To, sent_to}
+use Rattle.zt_tree_answers.proofs.Parts.{sent_to}
 use Rattle.zt_tree_answers.proofs.Stays.{SparesRow, is_left, named_undeclared}
 use Rattle.zt_tree_answers.proofs.Told.{Spares, Tells, Told, leaves_row}
-use Rattle.zt_tree_answers.proofs.Views.{IsSpoken, IsUnspoken, Speaks, any_of, closed_is_gone, elsewhere, leaves_open, of_own, own_of, printed_elsewhere, printed_here, rises_then, rows_before, rows_then, same_place, still_waits, then_, waits_then}
+use Rattle.zt_tree_answers.proofs.Views.{IsSpoken, IsUnspoken, Speaks, any_of, closed_is_gone, elsewhere, leaves_open, of_own, own_of, printed_elsewhere, printed_here, rows_before, rows_then, same_place, still_waits, then_, waits_then}
 
 -- the call makes time go on
 abbrev pub expires : {K : Type 0} → PlainCall K → Bool

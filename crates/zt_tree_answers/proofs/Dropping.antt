@@ -1,12 +1,11 @@
 -- A message that leaves its link and comes to nothing: tokens are carried on, and asks are followed on.
-use Rattle.std.proofs.Common.{◌≡◌, ◌≢◌, ◌⊎◌, inl, inr, ℕ, ◌≤◌, max, Bool, true, false, ◌&&◌, ◌==◌, not, List, [], ◌∷◌, length, Option, Some, None, refl, sym, ap, ◌∙◌, subst, arith, eqb-true, eq-eqb, ⊎_elim}
+use Rattle.std.proofs.Common.{◌≡◌, ◌≢◌, ◌⊎◌, inl, inr, ℕ, ◌≤◌, max, Bool, true, false, ◌==◌, not, List, [], ◌∷◌, Some, None, refl, sym, ap, ◌∙◌, subst, eqb-true, ⊎_elim}
 use Rattle.std.proofs.lemmas.Bool.{and_parts}
 use Rattle.std.specs.Cmp.{IsTotalOrder}
 use Rattle.std.specs.declared.cmp.Ordering.{Ordering}
 use Rattle.std.specs.declared.cmp.Ordering.TheVariants.{Equal}
 use Rattle.zt_region.specs.Region.{is_north}
-use Rattle.zt_protocol.specs.Interest.{has_tokens, is_future}
-use Rattle.zt_protocol.specs.Plain.{DeclareToken, Interest}
+use Rattle.zt_protocol.specs.Interest.{has_tokens}
 use Rattle.zt_protocol.specs.declared.errors.Refusal.{Refusal}
 use Rattle.zt_protocol.specs.declared.errors.Refusal.TheVariants as refusal
 use Rattle.zt_protocol.specs.declared.messages.Message.{Message}
@@ -15,24 +14,23 @@ use Rattle.zt_model.specs.Fabric.{Fabric, Node, causes_of_call}
 use Rattle.zt_model.specs.Linking.{call_of_message, waiting_of}
 use Rattle.zt_model.specs.Lists.{at_id, has_id, nth, rest_of, same}
 use Rattle.zt_model.specs.Parts.{find_face}
-use Rattle.zt_model.specs.Refusals.{call_causes, first_cause, is_illegal_current}
-use Rattle.zt_model.specs.Rows.{ById, Face, InterestRow, Pending}
+use Rattle.zt_model.specs.Refusals.{first_cause, is_illegal_current}
+use Rattle.zt_model.specs.Rows.{ById, Face, InterestRow}
 use Rattle.zt_model.specs.Transcript.{Each, FaceAt, face_numbered}
 use Rattle.zt_model.specs.TreePromises.{IsMember}
 use Rattle.zt_laws.specs.Order.{FabricIsInOrder, HasRowsInOrder}
 use Rattle.zt_laws.specs.Sound.{RiseFrom}
 use Rattle.zt_laws.proofs.Hearing.{find_each}
 use Rattle.zt_laws.proofs.LinesOrder.{gateway_in_order}
-use Rattle.zt_laws.proofs.Lists.{by_test, never}
+use Rattle.zt_laws.proofs.Lists.{by_test}
 use Rattle.zt_trees.specs.Facts.{AreClear, FitsFalling, FitsModes, InterestsRise, IsTreeGateway, JointAgrees, TreesAgree, top_of}
 use Rattle.zt_trees.specs.Joints.{are_joined}
 use Rattle.zt_trees.proofs.Lines.{tree_rows}
-use Rattle.zt_trees.proofs.Members.{each_nth, is_there}
+use Rattle.zt_trees.proofs.Members.{each_nth}
 use Rattle.zt_trees.proofs.Quiet.{joined_back}
 use Rattle.zt_trees.proofs.Stepping.{taken}
-use Rattle.zt_trees.proofs.Turning.{queue}
 use Rattle.zt_tree_answers.specs.Steady.{AnswersFirst, FinalIsBelow, IsNoFinal, LeavesRow, is_answer}
-use Rattle.zt_tree_answers.specs.Ways.{AsksAbove, IsAbove, IsCarried, IsCarriedUp, IsFollowed, IsServedBy, IsStepUp, LeadsUpTo, LivesAt}
+use Rattle.zt_tree_answers.specs.Ways.{IsCarried, IsCarriedUp, IsFollowed, IsServedBy, LeadsUpTo}
 use Rattle.zt_tree_answers.proofs.Queues.{member_cases}
 use Rattle.zt_tree_answers.proofs.Refusing.{answer_only_spent, interest_only_spent}
 use Rattle.zt_tree_answers.proofs.Speaking.{call_there}

@@ -1,6 +1,6 @@
 -- An interest that was sent up through a face to the north isn't ended by a call, where a face that leads down goes on
 -- holding one that asks for the same.
-use Rattle.std.proofs.Common.{◌≡◌, ◌≢◌, ℕ, ◌≤◌, ◌<◌, ◌+◌, max, Bool, true, false, if◌then◌else◌, ◌&&◌, ◌||◌, ◌==◌, not, List, [], ◌∷◌, ◌++◌, map, filter, Option, Some, None, refl, sym, ap, ◌∙◌, subst, arith, eqb-true, eq-eqb}
+use Rattle.std.proofs.Common.{◌≡◌, ℕ, ◌<◌, ◌+◌, Bool, true, false, if◌then◌else◌, ◌&&◌, ◌||◌, ◌==◌, not, List, [], ◌∷◌, map, filter, Option, Some, None, refl, sym, ap, ◌∙◌, subst, arith, eqb-true, eq-eqb}
 use Rattle.std.proofs.lemmas.Bool.{and_from, and_parts, or_left, or_right}
 use Rattle.std.specs.Cmp.{IsTotalOrder}
 use Rattle.std.specs.List.{flat_map, list_any}
@@ -11,19 +11,17 @@ use Rattle.zt_region.specs.Region.{is_north, region_eq}
 use Rattle.zt_protocol.specs.Interest.{is_current, is_future}
 use Rattle.zt_protocol.specs.Plain.{PlainCall, NewSession, NewTransport, DeclareToken, UndeclareToken, Interest, InterestFinal, DeclareFinal, CloseFace, Expire, SetTrees, SetEntities, Trees}
 use Rattle.zt_protocol.specs.declared.interests.InterestMode.{InterestMode}
-use Rattle.zt_protocol.specs.declared.interests.InterestOptions.{InterestOptions}
 use Rattle.zt_protocol.specs.declared.messages.Message.{Message}
 use Rattle.zt_protocol.specs.declared.messages.QueryableInfo.{QueryableInfo}
 use Rattle.zt_protocol.specs.declared.messages.Message.TheVariants as message
 use Rattle.zt_model.specs.Closing.{without_asks, without_face}
 use Rattle.zt_model.specs.Entities.{entities_for, entity_expressions, numbered_by, with_entities, with_numbers}
 use Rattle.zt_model.specs.Hearing.{heard, heard_all, put_if, rows_heard}
-use Rattle.zt_model.specs.Lists.{at_id, in_key_order, is_some_and, without_id}
-use Rattle.zt_model.specs.Parts.{Alter, Part, Say, Sends, find_face, to_each, to_face, told_id, with_face}
-use Rattle.zt_model.specs.Refusals.{call_causes, first_cause}
+use Rattle.zt_model.specs.Lists.{at_id, in_key_order, is_some_and}
+use Rattle.zt_model.specs.Parts.{Alter, Part, Say, Sends, to_each, to_face, told_id, with_face}
 use Rattle.zt_model.specs.Routing.{asked_as, asks_same, end_upstream_to, ended, final_of, final_of_both, finish_to, initial_finalised, is_finished_by, is_held_south, is_target, route_to, sent_as, unheld, untell_to}
 use Rattle.zt_model.specs.Rows.{Ask, ById, Face, InterestRow, Rows}
-use Rattle.zt_model.specs.Says.{answered_expressions, asking, forget_to, forget_untold, is_routed, is_told, parts_of, row_of, said, said_by, tell_to}
+use Rattle.zt_model.specs.Says.{answered_expressions, asking, forget_to, forget_untold, is_routed, is_told, row_of, said, tell_to}
 use Rattle.zt_model.specs.Strategy.{is_client_hat, strategy_of}
 use Rattle.zt_model.specs.Telling.{answer_to, answers_from, answers_of, is_answered_by, registered, unregistered}
 use Rattle.zt_model.specs.Transcript.{Each}
@@ -32,7 +30,7 @@ use Rattle.zt_model.specs.Visible.{is_visible, shows}
 use Rattle.zt_model.specs.Wants.{wants}
 use Rattle.zt_laws.specs.Sound.{rows_after_call}
 use Rattle.zt_laws.proofs.Hearing.{heard_all-held, heard_all-number, heard_all-region}
-use Rattle.zt_laws.proofs.Lists.{any_weaker, by_test, each_always, each_filter, each_map, each_weaker, never, of_cond}
+use Rattle.zt_laws.proofs.Lists.{any_weaker, by_test, each_always, each_filter, each_map, never, of_cond}
 use Rattle.zt_laws.proofs.PartsOrder.{each_flat_map}
 use Rattle.zt_kept.proofs.ById.{at_put_other, at_without_other}
 use Rattle.zt_kept.proofs.CallsRun.{each_entity}
@@ -207,9 +205,11 @@ module _ {K : Type 0} (cmp : K → K → Ordering) (matching : K → K → Bool)
         by_test (asks_same cmp matching interest row.1)
         (λ here.
         rw here (
-        by_test (local == row.0)
-        (λ own. never (still_held g interest held (ap (asks_same cmp matching interest) (sym (only.0 own)) ∙ here)) unheld_)
-        (λ apart. apart), ends_others g interest unheld_ held rows only.1))
+          by_test (local == row.0)
+              (λ own. never (still_held g interest held (ap (asks_same cmp matching interest) (sym (only.0 own)) ∙ here)) unheld_)
+              (λ apart. apart),
+          ends_others g interest unheld_ held rows only.1,
+        ))
         (λ here. rw here (ends_others g interest unheld_ held rows only.1))
 
     end_leaves : (interest : InterestRow K) → Fine (Say (λ g. to_each (end_upstream_to cmp matching g interest) g.faces))

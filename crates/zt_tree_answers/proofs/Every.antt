@@ -1,6 +1,6 @@
 -- Every line that doesn't disturb an ask leaves what calls and steps leave, and what lines leave that make something.
-use Rattle.std.proofs.Common.{◌≡◌, ◌≢◌, ◌⊎◌, inl, inr, ℕ, ◌≤◌, Bool, true, false, ◌&&◌, ◌||◌, ◌==◌, not, List, [], ◌∷◌, ◌++◌, map, Option, Some, None, Ok, Err, is_none, refl, sym, ap, ◌∙◌, subst, eqb-true, eq-eqb, ⊎_elim}
-use Rattle.std.proofs.lemmas.Bool.{and_from, and_parts}
+use Rattle.std.proofs.Common.{◌≡◌, ◌≢◌, ℕ, ◌≤◌, Bool, true, false, ◌&&◌, ◌==◌, List, [], Option, Some, None, Ok, Err, is_none, refl, sym, ap, ◌∙◌, subst, eq-eqb}
+use Rattle.std.proofs.lemmas.Bool.{and_from}
 use Rattle.std.specs.Cmp.{IsTotalOrder}
 use Rattle.std.specs.declared.cmp.Ordering.{Ordering}
 use Rattle.std.specs.declared.cmp.Ordering.TheVariants.{Equal}
@@ -14,9 +14,9 @@ use Rattle.zt_protocol.specs.Plain.{PlainCall, NewSession, NewTransport, Declare
 use Rattle.zt_protocol.specs.declared.entries.Sent.{Sent}
 use Rattle.zt_protocol.specs.declared.errors.Refusal.{Refusal}
 use Rattle.zt_protocol.specs.declared.errors.Refusal.TheVariants as refusal
-use Rattle.zt_model.specs.Fabric.{CallAt, Fabric, Node, Place, after_hearing, after_refusal, altered_by_line, built_causes, call_face, call_of, entry_by, entry_of, fabric_after, is_linked_face, line_causes, line_spends_ids, new_rows, opened_at, said_at, said_by_line, sorted_by_face, table_at, with_call_face, with_gateway, with_place, with_session, with_waiting}
+use Rattle.zt_model.specs.Fabric.{CallAt, Fabric, Node, after_hearing, after_refusal, altered_by_line, built_causes, call_of, entry_by, entry_of, fabric_after, line_causes, line_spends_ids, new_rows, opened_at, said_at, said_by_line, sorted_by_face, with_gateway, with_place, with_session, with_waiting}
 use Rattle.zt_model.specs.Lists.{nth}
-use Rattle.zt_model.specs.Promises.{Turn, is_accepted}
+use Rattle.zt_model.specs.Promises.{is_accepted}
 use Rattle.zt_model.specs.Refusals.{first_cause}
 use Rattle.zt_model.specs.Rows.{InterestRow}
 use Rattle.zt_model.specs.Says.{altered_by, parts_of, said, said_by}

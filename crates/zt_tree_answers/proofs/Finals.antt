@@ -1,5 +1,5 @@
 -- An ask isn't finished by a call, where the pending that it was sent as goes on standing; and none that doesn't stand is.
-use Rattle.std.proofs.Common.{◌≡◌, ◌≢◌, ℕ, ◌≤◌, ◌<◌, ◌+◌, max, Bool, true, false, if◌then◌else◌, ◌&&◌, ◌||◌, ◌==◌, not, List, [], ◌∷◌, ◌++◌, map, filter, Option, Some, None, refl, sym, ap, ◌∙◌, subst, arith, eqb-true, eq-eqb}
+use Rattle.std.proofs.Common.{◌≡◌, ℕ, ◌+◌, Bool, true, false, if◌then◌else◌, ◌&&◌, ◌||◌, ◌==◌, not, List, [], ◌∷◌, ◌++◌, map, filter, Option, Some, None, refl, sym, ap, ◌∙◌, subst, eqb-true, eq-eqb}
 use Rattle.std.proofs.lemmas.Bool.{and_from, and_parts, or_left, or_right}
 use Rattle.std.specs.List.{flat_map, list_any}
 use Rattle.std.specs.declared.cmp.Ordering.{Ordering}
@@ -11,7 +11,6 @@ use Rattle.zt_region.specs.Region.{is_north, region_eq}
 use Rattle.zt_protocol.specs.Interest.{is_current, is_future}
 use Rattle.zt_protocol.specs.Plain.{PlainCall, NewSession, NewTransport, DeclareToken, UndeclareToken, Interest, InterestFinal, DeclareFinal, CloseFace, Expire, SetTrees, SetEntities, Trees}
 use Rattle.zt_protocol.specs.declared.interests.InterestMode.{InterestMode}
-use Rattle.zt_protocol.specs.declared.interests.InterestOptions.{InterestOptions}
 use Rattle.zt_protocol.specs.declared.messages.Message.{Message}
 use Rattle.zt_protocol.specs.declared.messages.QueryableInfo.{QueryableInfo}
 use Rattle.zt_protocol.specs.declared.messages.Message.TheVariants as message
@@ -19,11 +18,10 @@ use Rattle.zt_model.specs.Closing.{without_asks, without_face}
 use Rattle.zt_model.specs.Entities.{entities_for, entity_expressions, numbered_by, with_entities, with_numbers}
 use Rattle.zt_model.specs.Hearing.{heard, heard_all, messages_for, put_if, rows_heard, with_answer}
 use Rattle.zt_model.specs.Lists.{at_id, first_where, has_id, in_key_order, is_among, is_some_and, without_id}
-use Rattle.zt_model.specs.Parts.{Alter, Part, Say, Sends, find_face, to_each, to_face, told_id, with_face}
-use Rattle.zt_model.specs.Refusals.{call_causes, first_cause}
+use Rattle.zt_model.specs.Parts.{Alter, Part, Say, Sends, to_each, to_face, told_id, with_face}
 use Rattle.zt_model.specs.Routing.{asked_as, asks_same, end_upstream_to, ended, final_of, final_of_both, finish_to, initial_finalised, is_finished_by, is_held_south, is_target, route_to, sent_as, stands, unheld, untell_to}
 use Rattle.zt_model.specs.Rows.{Ask, ById, Face, InterestRow, Rows}
-use Rattle.zt_model.specs.Says.{answered_expressions, asking, forget_to, forget_untold, is_routed, is_told, parts_of, row_of, said, said_by, tell_to}
+use Rattle.zt_model.specs.Says.{answered_expressions, asking, forget_to, forget_untold, is_routed, is_told, row_of, said, tell_to}
 use Rattle.zt_model.specs.Strategy.{is_client_hat, strategy_of}
 use Rattle.zt_model.specs.Telling.{answer_to, answers_from, answers_of, is_answered_by, registered, unregistered, was_sent_as}
 use Rattle.zt_model.specs.Transcript.{Each}
@@ -31,7 +29,7 @@ use Rattle.zt_model.specs.Trees.{counted_table, greet_to, hide_to, is_child, is_
 use Rattle.zt_model.specs.Visible.{is_visible, shows}
 use Rattle.zt_model.specs.Wants.{wants}
 use Rattle.zt_laws.specs.Sound.{rows_after_call}
-use Rattle.zt_laws.proofs.Hearing.{heard_all-held, heard_all-number, heard_all-region}
+use Rattle.zt_laws.proofs.Hearing.{heard_all-number}
 use Rattle.zt_laws.proofs.Lists.{any-filter, any_weaker, by_test, each_always, each_filter, each_map, each_weaker, never, of_cond}
 use Rattle.zt_laws.proofs.PartsOrder.{each_flat_map}
 use Rattle.zt_kept.proofs.ById.{at_each}
@@ -227,12 +225,14 @@ module _ {K : Type 0} (cmp : K → K → Ordering) (matching : K → K → Bool)
         by_test (is_finished_by g k i row.1)
         (λ here.
         rw here (
-        by_test (id == row.0)
-        (λ own.
-        let served = all.0 own in
-        let some : list_any (stands g) row.1.pendings ≡ true = ap (list_any (stands g)) served.pendings ∙ or_left (stands g (north, pending)) false (stands_ served.stands) in
-        never (and_parts (was_sent_as k i row.1) (not (list_any (stands g) row.1.pendings)) here).1 (ap not some))
-        (λ apart. apart), not_finished g k i stands_ rows all.1))
+          by_test (id == row.0)
+              (λ own.
+              let served = all.0 own in
+              let some : list_any (stands g) row.1.pendings ≡ true = ap (list_any (stands g)) served.pendings ∙ or_left (stands g (north, pending)) false (stands_ served.stands) in
+              never (and_parts (was_sent_as k i row.1) (not (list_any (stands g) row.1.pendings)) here).1 (ap not some))
+              (λ apart. apart),
+          not_finished g k i stands_ rows all.1,
+        ))
         (λ here. rw here (not_finished g k i stands_ rows all.1))
 
     finish_leaves : (k i : ℕ) → Fine (Say (λ g. to_each (finish_to g k i) g.faces))

@@ -1,12 +1,12 @@
 -- An ask is followed up the whole of its way through a call, or is answered by it before any final.
-use Rattle.std.proofs.Common.{◌≡◌, ◌≢◌, ◌⊎◌, inl, inr, ℕ, ◌≤◌, ◌<◌, ◌+◌, max, Bool, true, false, ◌&&◌, ◌==◌, not, List, [], ◌∷◌, ◌++◌, Option, Some, None, refl, sym, ap, ◌∙◌, subst, arith, eqb-true, eq-eqb, ⊎_elim}
+use Rattle.std.proofs.Common.{◌≡◌, ◌⊎◌, inl, inr, ℕ, ◌<◌, max, Bool, true, false, ◌==◌, not, List, [], ◌∷◌, Some, None, refl, sym, ap, ◌∙◌, subst, arith}
 use Rattle.std.specs.Cmp.{IsTotalOrder}
 use Rattle.std.specs.declared.cmp.Ordering.{Ordering}
 use Rattle.std.specs.declared.cmp.Ordering.TheVariants.{Equal}
 use Rattle.zt_region.specs.declared.region.WhatAmI.TheVariants.{Client}
 use Rattle.zt_region.specs.Region.{is_north}
 use Rattle.zt_protocol.specs.Interest.{has_tokens, is_current, is_future}
-use Rattle.zt_protocol.specs.Plain.{PlainCall, DeclareToken, UndeclareToken, DeclareFinal, Interest, InterestFinal}
+use Rattle.zt_protocol.specs.Plain.{PlainCall, Interest, InterestFinal}
 use Rattle.zt_protocol.specs.declared.entries.Sent.{Sent}
 use Rattle.zt_protocol.specs.declared.messages.Message.{Message}
 use Rattle.zt_protocol.specs.declared.messages.Message.TheVariants as message
@@ -23,16 +23,15 @@ use Rattle.zt_laws.specs.Order.{FabricIsInOrder}
 use Rattle.zt_laws.specs.Sound.{CallHasFirstIds, opens_face}
 use Rattle.zt_laws.proofs.Gateways.{PrintsSends}
 use Rattle.zt_laws.proofs.Hearing.{find_each}
-use Rattle.zt_laws.proofs.Lists.{by_test, never}
+use Rattle.zt_laws.proofs.Lists.{by_test}
 use Rattle.zt_trees.specs.Facts.{InterestsRise, IsForAbove, IsTreeFace, TreesAgree, interests_after, token_interests, top_of}
 use Rattle.zt_trees.specs.Joints.{are_joined}
 use Rattle.zt_trees.proofs.Lines.{tree_rows}
 use Rattle.zt_trees.proofs.Quiet.{joined_back}
 use Rattle.zt_trees.proofs.Standing.{LeavesOpen}
 use Rattle.zt_trees.proofs.Turning.{queue}
-use Rattle.zt_trees.proofs.Waiting.{rise_within}
 use Rattle.zt_tree_answers.specs.Steady.{AnswersFirst, IsNoFinal}
-use Rattle.zt_tree_answers.specs.Ways.{AsksAbove, IsAbove, IsFollowed, IsStepUp, LeadsUpTo, LivesAt}
+use Rattle.zt_tree_answers.specs.Ways.{IsFollowed, LeadsUpTo, LivesAt}
 use Rattle.zt_tree_answers.proofs.Anew.{member_is, new_is_answered, new_is_followed, row_is}
 use Rattle.zt_tree_answers.proofs.Carrying.{expires}
 use Rattle.zt_tree_answers.proofs.Following.{step_follows}

@@ -1,12 +1,10 @@
 -- An ask that is followed up its way is followed through a call, or is answered by it before any final.
-use Rattle.std.proofs.Common.{◌≡◌, ◌≢◌, ◌⊎◌, inl, inr, ℕ, ◌≤◌, ◌<◌, ◌+◌, max, Bool, true, false, if◌then◌else◌, ◌&&◌, ◌||◌, ◌==◌, not, List, [], ◌∷◌, ◌++◌, Option, Some, None, refl, sym, ap, ◌∙◌, subst, arith, eqb-true, eq-eqb, ne_eqb, ⊎_elim}
+use Rattle.std.proofs.Common.{◌≡◌, ◌≢◌, ◌⊎◌, inl, inr, ℕ, ◌≤◌, ◌<◌, ◌+◌, max, Bool, true, false, if◌then◌else◌, ◌&&◌, ◌==◌, not, List, [], ◌∷◌, ◌++◌, Option, Some, None, refl, sym, ap, ◌∙◌, subst, arith, eqb-true, eq-eqb, ne_eqb, ⊎_elim}
 use Rattle.std.proofs.lemmas.Bool.{and_from, and_parts, or_left, or_right}
 use Rattle.std.specs.Cmp.{IsTotalOrder}
 use Rattle.std.specs.List.{list_any}
 use Rattle.std.specs.declared.cmp.Ordering.{Ordering}
 use Rattle.std.specs.declared.cmp.Ordering.TheVariants.{Equal}
-use Rattle.zt_region.specs.declared.region.Region.{Region}
-use Rattle.zt_region.specs.declared.region.WhatAmI.TheVariants.{Client}
 use Rattle.zt_region.specs.Region.{is_north}
 use Rattle.zt_protocol.specs.Interest.{has_tokens, is_current, is_future}
 use Rattle.zt_protocol.specs.declared.interests.InterestMode.{InterestMode}
@@ -18,7 +16,7 @@ use Rattle.zt_protocol.specs.declared.messages.Message.TheVariants as message
 use Rattle.zt_model.specs.Fabric.{Fabric, Node, call_face, printed_for}
 use Rattle.zt_model.specs.Hearing.{heard, heard_all, messages_for, put_if}
 use Rattle.zt_model.specs.Linking.{call_of_message, waiting_of}
-use Rattle.zt_model.specs.Lists.{at_id, has_id, is_among, is_some_and, nth, same, without_id}
+use Rattle.zt_model.specs.Lists.{at_id, has_id, is_among, is_some_and, nth, same}
 use Rattle.zt_model.specs.Parts.{find_face}
 use Rattle.zt_model.specs.Refusals.{call_causes, first_cause, is_interest_id_in_use}
 use Rattle.zt_model.specs.Routing.{asks_same, stands}
@@ -37,7 +35,7 @@ use Rattle.zt_laws.proofs.Keys.{same_is}
 use Rattle.zt_laws.proofs.LinesOrder.{gateway_in_order}
 use Rattle.zt_laws.proofs.Lists.{by_test, each_append, each_weaker, never}
 use Rattle.zt_kept.proofs.ById.{at_has, at_put_other, at_without_other, each_at}
-use Rattle.zt_trees.specs.Facts.{InterestsRise, IsTreeFace, TreesAgree, top_of}
+use Rattle.zt_trees.specs.Facts.{InterestsRise, TreesAgree, top_of}
 use Rattle.zt_trees.specs.Joints.{are_joined}
 use Rattle.zt_trees.proofs.Lines.{tree_rows}
 use Rattle.zt_trees.proofs.Quiet.{joined_back}
@@ -45,9 +43,9 @@ use Rattle.zt_trees.proofs.Saying.{all_asks, asks_after, find_heard_at}
 use Rattle.zt_trees.proofs.Standing.{After, LeavesOpen, closes_face, still_there}
 use Rattle.zt_trees.proofs.Turning.{queue}
 use Rattle.zt_tree_calls.proofs.Inside.{asks_itself}
-use Rattle.zt_tree_answers.specs.Steady.{AnswersFirst, FinalIsBelow, IsNoFinal, IsSentUp, LeavesInterest, is_answer}
-use Rattle.zt_tree_answers.specs.Ways.{AsksAbove, IsAbove, IsFollowed, IsServedBy, IsStepUp, LeadsUpTo, LivesAt}
-use Rattle.zt_tree_answers.proofs.Answers.{StandsOn, answers_ask, answers_later, answers_more, some_answer, stands_on}
+use Rattle.zt_tree_answers.specs.Steady.{AnswersFirst, IsNoFinal, LeavesInterest, is_answer}
+use Rattle.zt_tree_answers.specs.Ways.{AsksAbove, IsAbove, IsServedBy}
+use Rattle.zt_tree_answers.proofs.Answers.{answers_ask, answers_later, answers_more, some_answer, stands_on}
 use Rattle.zt_tree_answers.proofs.Carrying.{expires}
 use Rattle.zt_tree_answers.proofs.Ends.{IsUp, SentUp, leaves_interest}
 use Rattle.zt_tree_answers.proofs.Ends as ends_
@@ -55,8 +53,8 @@ use Rattle.zt_tree_answers.proofs.Finals.{AsksServed, IsServed, Serves, Spares, 
 use Rattle.zt_tree_answers.proofs.Leading.{asks_free, finals_none}
 use Rattle.zt_tree_answers.proofs.Parts.{To, sent_to}
 use Rattle.zt_tree_answers.proofs.Queues.{member_cases, member_front, member_rises}
-use Rattle.zt_tree_answers.proofs.Stays.{IsLeft, is_left}
-use Rattle.zt_tree_answers.proofs.Views.{IsSpoken, IsUnspoken, Speaks, any_of, elsewhere, leaves_open, of_own, own_of, printed_elsewhere, printed_here, rows_before, rows_then, same_place, still_elsewhere, still_open, still_waits, then_, waits_then}
+use Rattle.zt_tree_answers.proofs.Stays.{is_left}
+use Rattle.zt_tree_answers.proofs.Views.{IsSpoken, IsUnspoken, Speaks, any_of, elsewhere, leaves_open, own_of, printed_elsewhere, printed_here, rows_before, rows_then, same_place, still_elsewhere, still_open, still_waits, then_, waits_then}
 
 -- ---- rows
 
@@ -498,21 +496,23 @@ module _ {K : Type 0} (cmp : K → K → Ordering) (matching : K → K → Bool)
           let place = same_place cmp matching total s fine j node at_j c real ms w prints k own on.own above.own_is on.own_is in
           let place_low = same_place cmp matching total s fine j node at_j c real ms w prints a lower lower_then.face above.lower_is lower_then.is in
           inl (
-          record {
-            own = on.own;
-            lower = lower_then.face;
-            upper = upper_then.face;
-            above = record { own_is = on.own_is; lower_is = lower_then.is; upper_is = upper_then.is; down = on.down; up = ap is_north lower_then.region ∙ above.up; joined = above.joined; beside = lower_then.gateway ∙ above.beside ∙ sym place.0 };
-            ask = on.ask;
-            ask_is = on.ask_is;
-            interest = on.interest;
-            unanswered = on.unanswered;
-            pending = f.pending;
-            pendings = on.pendings ∙ ap (λ n. (n, f.pending) ∷ []) (sym place_low.1);
-            stands = stands_then;
-            sent = sent_then;
-            served = served;
-          }, on.none_))
+            record {
+              own = on.own;
+              lower = lower_then.face;
+              upper = upper_then.face;
+              above = record { own_is = on.own_is; lower_is = lower_then.is; upper_is = upper_then.is; down = on.down; up = ap is_north lower_then.region ∙ above.up; joined = above.joined; beside = lower_then.gateway ∙ above.beside ∙ sym place.0 };
+              ask = on.ask;
+              ask_is = on.ask_is;
+              interest = on.interest;
+              unanswered = on.unanswered;
+              pending = f.pending;
+              pendings = on.pendings ∙ ap (λ n. (n, f.pending) ∷ []) (sym place_low.1);
+              stands = stands_then;
+              sent = sent_then;
+              served = served;
+            },
+            on.none_,
+          ))
           own_then)
           (λ answer. inr (answered_here answer.0 answer.1.0 answer.1.1 answer.1.2))
           served_then

@@ -1,40 +1,36 @@
 -- Lines that make a gateway, a face or a link: an ask is pursued on, and what is closed stays closed.
-use Rattle.std.proofs.Common.{◌≡◌, ◌≢◌, ◌⊎◌, inl, inr, ℕ, ◌≤◌, ◌<◌, ◌+◌, ◌-◌, Bool, true, false, if◌then◌else◌, ◌&&◌, ◌||◌, ◌==◌, not, List, [], ◌∷◌, ◌++◌, length, map, Option, Some, None, is_none, Ok, Err, refl, sym, ap, ◌∙◌, subst, arith, append-nil, append_assoc, eqb-true, eq-eqb, ne_eqb, ⊎_elim}
-use Rattle.std.proofs.lemmas.Bool.{or_left}
+use Rattle.std.proofs.Common.{◌≡◌, inl, inr, ℕ, ◌+◌, ◌-◌, Bool, true, ◌==◌, List, [], ◌∷◌, ◌++◌, Some, refl, sym, ap, ◌∙◌, subst, append-nil, eqb-true, eq-eqb}
 use Rattle.std.specs.Cmp.{IsTotalOrder}
-use Rattle.std.specs.List.{list_any}
 use Rattle.std.specs.declared.cmp.Ordering.{Ordering}
 use Rattle.std.specs.declared.cmp.Ordering.TheVariants.{Equal}
 use Rattle.zt_region.specs.Region.{is_north}
-use Rattle.zt_protocol.specs.Interest.{is_future}
-use Rattle.zt_protocol.specs.Plain.{PlainCall, PlainLine, NewSession, NewTransport, Link as LinkLine}
+use Rattle.zt_protocol.specs.Plain.{PlainCall}
 use Rattle.zt_protocol.specs.declared.entries.Sent.{Sent}
-use Rattle.zt_protocol.specs.declared.messages.Message.{Message}
 use Rattle.zt_protocol.specs.declared.messages.Message.TheVariants as message
-use Rattle.zt_model.specs.Fabric.{CallAt, Fabric, next_face, Link, Node, Place, after_hearing, after_opening, altered_by_line, at_nth, opened_at, opened_ends, opening_at, printed_for, said_at, said_by_line, said_opening, sorted_by_face, with_gateway, with_place, with_waiting}
-use Rattle.zt_model.specs.Linking.{LinkEnd, end_call, end_region, link_ends, waiting_of, with_link}
+use Rattle.zt_model.specs.Fabric.{Fabric, next_face, Node, Place, printed_for, with_gateway, with_place}
+use Rattle.zt_model.specs.Linking.{waiting_of}
 use Rattle.zt_model.specs.Lists.{at_id, has_id, nth}
 use Rattle.zt_model.specs.Parts.{find_face}
-use Rattle.zt_model.specs.Rows.{ById, Face, InterestRow}
+use Rattle.zt_model.specs.Rows.{Face, InterestRow}
 use Rattle.zt_model.specs.Says.{said}
 use Rattle.zt_model.specs.Transcript.{Each, FaceAt, face_numbered}
 use Rattle.zt_model.specs.TreePromises.{IsMember, is_plain_number}
 use Rattle.zt_laws.specs.Order.{FabricIsInOrder}
 use Rattle.zt_laws.specs.Sound.{opens_face, rows_after_call}
 use Rattle.zt_laws.proofs.Entries.{nth-at_nth}
-use Rattle.zt_laws.proofs.Gateways.{PrintsSends, prints_map}
-use Rattle.zt_laws.proofs.Lists.{any-append, by_test, never}
+use Rattle.zt_laws.proofs.Gateways.{PrintsSends}
+use Rattle.zt_laws.proofs.Lists.{by_test, never}
 use Rattle.zt_laws.proofs.Numbered.{nth_real}
 use Rattle.zt_trees.specs.Facts.{TreesAgree}
-use Rattle.zt_trees.specs.Joints.{are_joined, joins}
+use Rattle.zt_trees.specs.Joints.{are_joined}
 use Rattle.zt_trees.proofs.Making.{nth_front, seen}
 use Rattle.zt_trees.proofs.Making as making
 use Rattle.zt_trees.proofs.Members.{is_there, numbered}
 use Rattle.zt_trees.proofs.Quiet.{joined_back}
 use Rattle.zt_trees.proofs.Turning.{nth_other, queue, queue_added}
 use Rattle.zt_tree_answers.specs.Steady.{AnswersFirst, FinalIsBelow, IsNoFinal, IsTold, LeavesRow, has_row}
-use Rattle.zt_tree_answers.specs.Ways.{AsksAbove, IsAbove, IsCarried, IsCarriedUp, IsClosedAt, IsFollowed, IsPursued, IsServedBy, IsStepUp, LeadsUpTo, LivesAt}
-use Rattle.zt_tree_answers.proofs.Opening.{found_stays, none_stays, opened_prints_none, within}
+use Rattle.zt_tree_answers.specs.Ways.{IsAbove, IsCarriedUp, IsClosedAt, IsFollowed, IsPursued, IsServedBy, LeadsUpTo, LivesAt}
+use Rattle.zt_tree_answers.proofs.Opening.{none_stays, opened_prints_none, within}
 
 -- faces, what waits for them and links stay, and nothing is printed for faces that were made
 pub record IsFrame {K : Type 0} (s t : Fabric K) (ms : List (Sent K)) : Type 0 where

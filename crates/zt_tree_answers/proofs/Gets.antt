@@ -1,21 +1,19 @@
 -- What asks of trees are answered: what a plain face of the tree has live from the asking to the final.
-use Rattle.std.proofs.Common.{◌≡◌, ◌≢◌, ◌⊎◌, inl, inr, ℕ, ◌+◌, ◌-◌, Bool, true, false, ◌&&◌, ◌||◌, ◌==◌, not, List, [], ◌∷◌, ◌++◌, length, filter, map, Option, Some, None, Ok, Err, refl, sym, ap, ◌∙◌, subst, arith, append_assoc, eqb-true, ⊎_elim}
-use Rattle.std.proofs.lemmas.Bool.{and_from, and_parts, or_left, or_right}
+use Rattle.std.proofs.Common.{◌≡◌, ◌⊎◌, inl, inr, ℕ, ◌+◌, ◌-◌, Bool, true, false, ◌||◌, ◌==◌, List, [], ◌∷◌, ◌++◌, map, Option, Some, None, refl, sym, ap, ◌∙◌, subst, arith, append_assoc, eqb-true, ⊎_elim}
+use Rattle.std.proofs.lemmas.Bool.{and_parts, or_left, or_right}
 use Rattle.std.specs.Cmp.{IsTotalOrder}
 use Rattle.std.specs.List.{list_all, list_any}
 use Rattle.std.specs.Option.{option_to_list}
 use Rattle.std.specs.declared.cmp.Ordering.{Ordering}
 use Rattle.std.specs.declared.cmp.Ordering.TheVariants.{Equal}
 use Rattle.zt_protocol.specs.Interest.{is_current, is_future, has_tokens}
-use Rattle.zt_protocol.specs.Plain.{PlainEntry, PlainLine, Speak, Interest}
-use Rattle.zt_protocol.specs.declared.entries.Sent.{Sent}
-use Rattle.zt_protocol.specs.declared.interests.InterestOptions.{InterestOptions}
+use Rattle.zt_protocol.specs.Plain.{PlainLine, Speak, Interest}
 use Rattle.zt_protocol.specs.declared.messages.Message.{Message}
 use Rattle.zt_protocol.specs.declared.messages.Message.TheVariants as message
-use Rattle.zt_model.specs.Fabric.{Fabric, Node, Place, entries_from, entry_of, fabric_after, printed_for}
+use Rattle.zt_model.specs.Fabric.{Fabric, Node, entries_from, entry_of, fabric_after, printed_for}
 use Rattle.zt_model.specs.Lists.{at_id, is_among, is_some_and, nth}
 use Rattle.zt_model.specs.Parts.{find_face}
-use Rattle.zt_model.specs.Promises.{Turn, answers_in, finals_in, is_accepted, is_final_of, printed, turns_from}
+use Rattle.zt_model.specs.Promises.{Turn, answers_in, finals_in, is_accepted, turns_from}
 use Rattle.zt_model.specs.Refusals.{is_illegal_current}
 use Rattle.zt_model.specs.Rows.{Ask, Face, InterestRow}
 use Rattle.zt_model.specs.Shown.{interest_kept}
@@ -23,7 +21,7 @@ use Rattle.zt_model.specs.Transcript.{Each, FaceAt, fabric_shown, face_numbered,
 use Rattle.zt_model.specs.TreePromises.{Beyond, GetsWhatStays, IsFinishedBy, IsInTree, IsTreeFabric, IsTreeTurn, Itself, MakesAsk, answers_of_turn, are_links_empty, disturbs, finals_of, is_at_gateway, is_live_at, is_plain_number, is_plainly_live_at}
 use Rattle.zt_model.specs.Wants.{is_about}
 use Rattle.zt_laws.specs.Order.{FabricIsInOrder}
-use Rattle.zt_laws.specs.Shown.{as_shown, node_shown, without_own}
+use Rattle.zt_laws.specs.Shown.{as_shown, node_shown}
 use Rattle.zt_laws.specs.Sound.{HasFirstIds}
 use Rattle.zt_laws.proofs.Hearing.{find_each}
 use Rattle.zt_laws.proofs.Lists.{by_test, each_weaker, never}

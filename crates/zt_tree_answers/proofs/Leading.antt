@@ -1,12 +1,10 @@
 -- A way up stays one through a call: no final falls of an interest that wasn't sent up yet.
-use Rattle.std.proofs.Common.{◌≡◌, ◌≢◌, ◌⊎◌, inl, inr, ℕ, ◌≤◌, ◌<◌, ◌+◌, max, Bool, true, false, if◌then◌else◌, ◌&&◌, ◌==◌, not, nat_lt, List, [], ◌∷◌, ◌++◌, Option, Some, None, is_none, refl, sym, ap, ◌∙◌, subst, arith, eqb-true, eq-eqb, ne_eqb, ⊎_elim}
-use Rattle.std.proofs.lemmas.Bool.{and_from, and_parts, ltb-false, ltb-true, or_left, or_right}
+use Rattle.std.proofs.Common.{◌≡◌, ◌⊎◌, inl, inr, ℕ, ◌≤◌, ◌<◌, ◌+◌, max, Bool, true, false, ◌==◌, not, nat_lt, List, [], ◌∷◌, ◌++◌, Option, Some, None, is_none, refl, sym, ap, ◌∙◌, subst, arith, eqb-true, eq-eqb, ne_eqb, ⊎_elim}
+use Rattle.std.proofs.lemmas.Bool.{ltb-false, ltb-true}
 use Rattle.std.specs.Cmp.{IsTotalOrder}
-use Rattle.std.specs.List.{list_any}
 use Rattle.std.specs.declared.cmp.Ordering.{Ordering}
 use Rattle.std.specs.declared.cmp.Ordering.TheVariants.{Equal}
 use Rattle.zt_region.specs.Region.{is_north}
-use Rattle.zt_protocol.specs.Interest.{is_current, is_future}
 use Rattle.zt_protocol.specs.declared.interests.InterestMode.{InterestMode}
 use Rattle.zt_protocol.specs.declared.interests.InterestOptions.{InterestOptions}
 use Rattle.zt_protocol.specs.Plain.{PlainCall, NewSession, NewTransport, DeclareToken, UndeclareToken, Interest, InterestFinal, DeclareFinal, CloseFace, Expire, SetTrees, SetEntities}
@@ -20,7 +18,7 @@ use Rattle.zt_model.specs.Lists.{first_where, has_id, nth}
 use Rattle.zt_model.specs.Parts.{find_face}
 use Rattle.zt_model.specs.Refusals.{call_causes, first_cause, is_unknown_face}
 use Rattle.zt_model.specs.Routing.{stands}
-use Rattle.zt_model.specs.Rows.{Ask, ById, Face, Rows}
+use Rattle.zt_model.specs.Rows.{Ask, ById, Face}
 use Rattle.zt_model.specs.Says.{altered, said}
 use Rattle.zt_model.specs.Transcript.{Each, FaceAt, face_numbered}
 use Rattle.zt_laws.specs.Order.{FabricIsInOrder}
@@ -28,11 +26,11 @@ use Rattle.zt_laws.specs.Sound.{CallHasFirstIds, RiseFrom, opens_face, rows_afte
 use Rattle.zt_laws.proofs.Calls.{no_cause}
 use Rattle.zt_laws.proofs.Gateways.{PrintsSends}
 use Rattle.zt_laws.proofs.Lists.{any_none, by_test, each_append, each_fails, each_weaker, never, rise_above}
-use Rattle.zt_trees.specs.Facts.{InterestsRise, TreesAgree, top_of}
+use Rattle.zt_trees.specs.Facts.{TreesAgree, top_of}
 use Rattle.zt_trees.specs.Joints.{are_joined}
 use Rattle.zt_trees.proofs.Lines.{tree_rows}
 use Rattle.zt_trees.proofs.Quiet.{joined_back}
-use Rattle.zt_trees.proofs.Saying.{TreeRows, find_heard_at}
+use Rattle.zt_trees.proofs.Saying.{find_heard_at}
 use Rattle.zt_trees.proofs.Standing.{After, LeavesOpen, closes_face, still_there}
 use Rattle.zt_trees.proofs.Turning.{queue}
 use Rattle.zt_trees.proofs.Waiting.{IsBelow, below_top, rise_below, rise_within}
@@ -40,7 +38,7 @@ use Rattle.zt_tree_answers.specs.Steady.{FinalIsBelow, IsNoFinal}
 use Rattle.zt_tree_answers.specs.Ways.{IsAbove, IsStepUp, LeadsUpTo}
 use Rattle.zt_tree_answers.proofs.Carrying.{expires}
 use Rattle.zt_tree_answers.proofs.Finals.{IsServed, Serves, Spares, leaves_asks}
-use Rattle.zt_tree_answers.proofs.Parts.{To, sent_to}
+use Rattle.zt_tree_answers.proofs.Parts.{sent_to}
 use Rattle.zt_tree_answers.proofs.Stays.{is_left}
 use Rattle.zt_tree_answers.proofs.Views.{IsSpoken, IsUnspoken, Speaks, elsewhere, leaves_open, own_of, printed_elsewhere, printed_here, rows_before, rows_then, same_place, still_waits, then_, waits_then}
 

@@ -1,22 +1,21 @@
 -- A link that opens leaves what was there: faces, what waits for them, and closed ones.
-use Rattle.std.proofs.Common.{◌≡◌, ◌≢◌, ◌⊎◌, inl, inr, ℕ, ◌≤◌, ◌<◌, ◌+◌, ◌-◌, Bool, true, false, if◌then◌else◌, ◌&&◌, ◌||◌, ◌==◌, not, List, [], ◌∷◌, ◌++◌, length, map, Option, Some, None, Ok, Err, refl, sym, ap, ◌∙◌, subst, arith, append-nil, append_assoc, eqb-true, eq-eqb, ne_eqb}
+use Rattle.std.proofs.Common.{◌≡◌, ◌≢◌, ℕ, ◌≤◌, ◌+◌, ◌-◌, Bool, true, false, ◌&&◌, ◌||◌, ◌==◌, not, List, [], ◌∷◌, ◌++◌, length, Option, Some, None, refl, sym, ap, ◌∙◌, subst, arith, append-nil, append_assoc, eqb-true, eq-eqb, ne_eqb}
 use Rattle.std.proofs.lemmas.Bool.{or_left}
 use Rattle.std.specs.Cmp.{IsTotalOrder}
 use Rattle.std.specs.List.{list_any}
 use Rattle.std.specs.declared.cmp.Ordering.{Ordering}
-use Rattle.std.specs.declared.cmp.Ordering.TheVariants.{Equal}
-use Rattle.zt_protocol.specs.Plain.{PlainCall, PlainLine, NewSession, NewTransport, Link as LinkLine}
+use Rattle.zt_protocol.specs.Plain.{PlainCall, PlainLine, NewTransport, Link as LinkLine}
 use Rattle.zt_protocol.specs.declared.entries.Sent.{Sent}
 use Rattle.zt_protocol.specs.declared.messages.Message.{Message}
-use Rattle.zt_model.specs.Fabric.{CallAt, Fabric, Link, Node, Place, after_hearing, after_opening, altered_at, altered_by_line, at_nth, call_at, gateways_after_hearing, next_face, opened_at, opened_ends, opening_at, printed_for, said_at, said_by_line, said_opening, sorted_by_face, with_place, with_waiting}
-use Rattle.zt_model.specs.Linking.{LinkEnd, end_call, is_end_of, link_ends, waiting_of, with_link}
+use Rattle.zt_model.specs.Fabric.{CallAt, Fabric, Node, Place, after_hearing, after_opening, altered_by_line, at_nth, call_at, gateways_after_hearing, next_face, opened_at, opened_ends, opening_at, printed_for, said_at, said_by_line, said_opening, sorted_by_face, with_waiting}
+use Rattle.zt_model.specs.Linking.{LinkEnd, is_end_of, link_ends, with_link}
 use Rattle.zt_model.specs.Lists.{at_id, has_id, nth}
 use Rattle.zt_model.specs.Parts.{find_face}
 use Rattle.zt_model.specs.Rows.{ById, Face}
 use Rattle.zt_model.specs.Says.{altered, said}
-use Rattle.zt_model.specs.Transcript.{Each, FaceAt, face_numbered}
+use Rattle.zt_model.specs.Transcript.{Each}
 use Rattle.zt_laws.specs.Order.{FabricIsInOrder}
-use Rattle.zt_laws.specs.Sound.{opens_face, rows_after_call}
+use Rattle.zt_laws.specs.Sound.{rows_after_call}
 use Rattle.zt_laws.proofs.Ends.{by_end, end_in_order, printed_for-append}
 use Rattle.zt_laws.proofs.Entries.{nth-at_nth}
 use Rattle.zt_laws.proofs.Gateways.{prints_map}
@@ -24,13 +23,11 @@ use Rattle.zt_laws.proofs.LinesOrder.{called_at, gateway_in_order}
 use Rattle.zt_laws.proofs.Lists.{any-append, by_test, never}
 use Rattle.zt_laws.proofs.Numbered.{nth_real, nth_within}
 use Rattle.zt_laws.proofs.Sorting.{printed_sorted}
-use Rattle.zt_trees.specs.Facts.{TreesAgree}
 use Rattle.zt_trees.specs.Joints.{are_joined, joins}
 use Rattle.zt_trees.proofs.Making.{nth_front}
 use Rattle.zt_trees.proofs.Members.{is_there, numbered}
 use Rattle.zt_trees.proofs.Turning.{nth_other, queue, queue_added}
 use Rattle.zt_tree_lines.proofs.Linked.{LinkIs}
-use Rattle.zt_tree_answers.specs.Ways.{IsClosedAt}
 use Rattle.zt_tree_answers.proofs.Framing.{IsFrame}
 use Rattle.zt_tree_answers.proofs.Opening.{found_stays, none_stays, opened_prints_none, placed_fact}
 
@@ -219,9 +216,9 @@ module _ {K : Type 0} (cmp : K → K → Ordering) (matching : K → K → Bool)
         plain = λ k p at_ h.
             let within : k ≤ length s.faces = nth_within k s.faces p at_ in
             ap not (
-              ap (list_any (is_end_of k)) longer.links
-              ∙ any-append (is_end_of k) s.links _
-              ∙ or_none (list_any (is_end_of k) s.links) _ (was_not (list_any (is_end_of k) s.links) h) (or_none ((k == length s.faces + 1) || (k == length s.faces + 1 + 1)) false (or_none (k == length s.faces + 1) (k == length s.faces + 1 + 1) (ne_eqb k (length s.faces + 1) (λ is. omega arith)) (ne_eqb k (length s.faces + 1 + 1) (λ is. omega arith))) refl)
+            ap (list_any (is_end_of k)) longer.links
+            ∙ any-append (is_end_of k) s.links _
+            ∙ or_none (list_any (is_end_of k) s.links) _ (was_not (list_any (is_end_of k) s.links) h) (or_none ((k == length s.faces + 1) || (k == length s.faces + 1 + 1)) false (or_none (k == length s.faces + 1) (k == length s.faces + 1 + 1) (ne_eqb k (length s.faces + 1) (λ is. omega arith)) (ne_eqb k (length s.faces + 1 + 1) (λ is. omega arith))) refl)
             );
         closed = λ k cl.
             let n = node_then k cl.place cl.node cl.place_is cl.node_is in

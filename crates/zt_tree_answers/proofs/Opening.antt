@@ -1,19 +1,16 @@
 -- What lines that make a gateway, a face or a link leave as it was: open faces, what waits for them, and closed ones.
-use Rattle.std.proofs.Common.{◌≡◌, ◌≢◌, ◌⊎◌, inl, inr, ℕ, ◌≤◌, ◌<◌, ◌+◌, ◌-◌, Bool, true, false, if◌then◌else◌, ◌&&◌, ◌||◌, ◌==◌, not, List, [], ◌∷◌, ◌++◌, length, map, Option, Some, None, is_none, option_map, refl, sym, ap, ◌∙◌, subst, arith, eqb-true, eq-eqb, ne_eqb, ⊎_elim}
-use Rattle.std.specs.Cmp.{IsTotalOrder}
-use Rattle.std.specs.List.{list_any}
+use Rattle.std.proofs.Common.{◌≡◌, ℕ, ◌≤◌, ◌+◌, ◌-◌, Bool, true, false, ◌==◌, List, [], ◌∷◌, ◌++◌, map, Option, Some, None, option_map, refl, sym, ap, ◌∙◌, subst, arith, eqb-true, eq-eqb, ne_eqb}
 use Rattle.std.specs.declared.cmp.Ordering.{Ordering}
 use Rattle.zt_protocol.specs.Plain.{PlainCall, NewSession, NewTransport, DeclareToken, UndeclareToken, Interest, InterestFinal, DeclareFinal, CloseFace, Expire, SetTrees, SetEntities}
 use Rattle.zt_protocol.specs.declared.entries.Sent.{Sent}
 use Rattle.zt_protocol.specs.declared.messages.Message.{Message}
-use Rattle.zt_model.specs.Fabric.{Fabric, Link, Node, Place, number_from, printed_for}
+use Rattle.zt_model.specs.Fabric.{Fabric, Node, Place, number_from, printed_for}
 use Rattle.zt_model.specs.Hearing.{heard_all, messages_for, rows_heard}
-use Rattle.zt_model.specs.Linking.{waiting_of}
-use Rattle.zt_model.specs.Lists.{first_where, has_id, nth}
+use Rattle.zt_model.specs.Lists.{first_where, nth}
 use Rattle.zt_model.specs.Parts.{Sends, altered_by, find_face, said_by, to_face}
-use Rattle.zt_model.specs.Rows.{ById, Face, Rows}
+use Rattle.zt_model.specs.Rows.{Face, Rows}
 use Rattle.zt_model.specs.Says.{altered, parts_of, said}
-use Rattle.zt_model.specs.Transcript.{Each, FaceAt, face_numbered}
+use Rattle.zt_model.specs.Transcript.{Each}
 use Rattle.zt_laws.specs.Order.{FabricIsInOrder}
 use Rattle.zt_laws.specs.Sound.{is_placed, opens_face, places_of, rows_after_call}
 use Rattle.zt_laws.proofs.Gateways.{PrintsSends}

@@ -10,14 +10,14 @@ use Rattle.zt_protocol.specs.declared.interests.InterestOptions.{InterestOptions
 use Rattle.zt_protocol.specs.declared.messages.Message.{Message}
 use Rattle.zt_protocol.specs.declared.messages.QueryableInfo.{QueryableInfo}
 use Rattle.zt_model.specs.Closing.{closing, leaving, without_asks, without_face}
-use Rattle.zt_model.specs.Entities.{entities_for, numbered_by, with_entities, with_numbers}
+use Rattle.zt_model.specs.Entities.{with_entities}
 use Rattle.zt_model.specs.Hearing.{heard, heard_all, messages_for, rows_heard}
 use Rattle.zt_model.specs.Lists.{at_id, has_id}
 use Rattle.zt_model.specs.Parts.{Alter, Part, Say, Sends, altered_by, find_face, is_routed, said_by, to_each, to_face, unsaid_to, with_face}
-use Rattle.zt_model.specs.Routing.{asked_as, end_upstream_to, ended, ending, final_of, final_of_both, finalising, finish_to, finishing, initial_finalised, route_to, sent_as, unheld, untell_to}
+use Rattle.zt_model.specs.Routing.{end_upstream_to, ended, ending, final_of_both, finalising, finish_to, finishing, initial_finalised, unheld, untell_to}
 use Rattle.zt_model.specs.Rows.{Face, InterestRow, Pending, Rows}
 use Rattle.zt_model.specs.Says.{asking, declaring_of, finalising_held, forget_to, hiding_undeclared, parts_of, row_of, said, tell_to, undeclaring_of}
-use Rattle.zt_model.specs.Telling.{answer_to, answering, answers_of, declaring, registered, registers, undeclared, undeclaring, unregistered}
+use Rattle.zt_model.specs.Telling.{answer_to, answering, declaring, registered, registers, undeclared, undeclaring, unregistered}
 use Rattle.zt_model.specs.Transcript.{Each}
 use Rattle.zt_model.specs.Trees.{counted_table, forgetting, greet_to, hide_to, hiding, left_out, table_of, with_table, without_left_out, is_newly_shown, router_regions, show_to, showing, source_of, with_own_rows, without_own_rows}
 use Rattle.zt_laws.specs.Sound.{rows_after_call}
@@ -294,10 +294,10 @@ module _ {K : Type 0} (cmp : K → K → Ordering) (matching : K → K → Bool)
     unfolding parts_of
     trees_fine region t g forget leaves sets greets of_kind =
         called_fine rules.hear (SetTrees region t) g (
-        leaves,
-        each_append IsFine (forgetting cmp matching region (left_out cmp region (counted_table t) g)) (Alter (with_table cmp region t) ∷ Say (λ h. to_each (greet_to cmp h region (table_of g region)) h.faces) ∷ [])
-            (each_flat_map IsFine (λ (e : K). Say (λ h. to_each (forget_to cmp matching h region e) h.faces) ∷ hiding cmp region e) (left_out cmp region (counted_table t) g) (λ e. (forget region e, hiding_fine region e)))
-            (sets, (greets (table_of g region), tt)),
+          leaves,
+          each_append IsFine (forgetting cmp matching region (left_out cmp region (counted_table t) g)) (Alter (with_table cmp region t) ∷ Say (λ h. to_each (greet_to cmp h region (table_of g region)) h.faces) ∷ [])
+              (each_flat_map IsFine (λ (e : K). Say (λ h. to_each (forget_to cmp matching h region e) h.faces) ∷ hiding cmp region e) (left_out cmp region (counted_table t) g) (λ e. (forget region e, hiding_fine region e)))
+              (sets, (greets (table_of g region), tt)),
         ) of_kind
 
 -- closing a face leaves the others

@@ -1,6 +1,6 @@
 -- An ask that is pursued is pursued on through each call and step that doesn't disturb it, or is answered, or its face is
 -- closed; and what is closed stays closed and is sent nothing.
-use Rattle.std.proofs.Common.{◌≡◌, ◌≢◌, ◌⊎◌, inl, inr, ℕ, Bool, true, false, ◌&&◌, ◌||◌, ◌==◌, not, List, [], ◌∷◌, ◌++◌, Option, Some, None, refl, sym, ap, ◌∙◌, subst, eqb-true, eq-eqb, ne_eqb, ⊎_elim}
+use Rattle.std.proofs.Common.{◌≡◌, ◌≢◌, ◌⊎◌, inl, inr, ℕ, Bool, true, false, ◌&&◌, ◌==◌, not, List, [], ◌∷◌, Option, Some, None, refl, sym, ap, ◌∙◌, subst, eqb-true, eq-eqb, ⊎_elim}
 use Rattle.std.proofs.lemmas.Bool.{and_parts, or_cases, or_left, or_right}
 use Rattle.std.specs.Cmp.{IsTotalOrder}
 use Rattle.std.specs.List.{list_any}
@@ -12,19 +12,19 @@ use Rattle.zt_protocol.specs.Plain.{PlainCall, NewSession, NewTransport, Declare
 use Rattle.zt_protocol.specs.declared.entries.Sent.{Sent}
 use Rattle.zt_protocol.specs.declared.messages.Message.{Message}
 use Rattle.zt_protocol.specs.declared.messages.Message.TheVariants as message
-use Rattle.zt_model.specs.Fabric.{Fabric, Link, Node, Place, call_face, number_from, printed_for}
+use Rattle.zt_model.specs.Fabric.{Fabric, Node, Place, call_face, number_from, printed_for}
 use Rattle.zt_model.specs.Hearing.{messages_for}
 use Rattle.zt_model.specs.Linking.{call_of_message, is_end_of}
 use Rattle.zt_model.specs.Lists.{at_id, nth, same}
 use Rattle.zt_model.specs.Parts.{find_face}
-use Rattle.zt_model.specs.Refusals.{call_causes, first_cause, is_illegal_current}
-use Rattle.zt_model.specs.Rows.{Ask, ById, Face, InterestRow, Rows}
+use Rattle.zt_model.specs.Refusals.{is_illegal_current}
+use Rattle.zt_model.specs.Rows.{Ask, Face, InterestRow}
 use Rattle.zt_model.specs.Says.{said}
 use Rattle.zt_model.specs.Transcript.{Each, FaceAt, face_numbered}
 use Rattle.zt_model.specs.TreePromises.{is_plain_number}
 use Rattle.zt_model.specs.Wants.{is_about}
 use Rattle.zt_laws.specs.Order.{FabricIsInOrder}
-use Rattle.zt_laws.specs.Sound.{is_placed, opens_face, rows_after_call}
+use Rattle.zt_laws.specs.Sound.{is_placed, rows_after_call}
 use Rattle.zt_laws.proofs.Entries.{nth-at_nth}
 use Rattle.zt_laws.proofs.Gateways.{prints_sorted}
 use Rattle.zt_laws.proofs.LinesOrder.{calls_nothing, gateway_in_order}
@@ -36,10 +36,10 @@ use Rattle.zt_trees.specs.Joints.{are_joined, joins}
 use Rattle.zt_trees.proofs.Lasting.{printed_by, turned_by}
 use Rattle.zt_trees.proofs.Lines.{same_number, tree_rows}
 use Rattle.zt_trees.proofs.Members.{is_there, numbered}
-use Rattle.zt_trees.proofs.Standing.{LeavesOpen, closes_face, was_there}
+use Rattle.zt_trees.proofs.Standing.{LeavesOpen, was_there}
 use Rattle.zt_trees.proofs.Turning.{nth_other}
 use Rattle.zt_tree_answers.specs.Steady.{AnswersFirst, IsNoFinal}
-use Rattle.zt_tree_answers.specs.Ways.{AsksAbove, IsAbove, IsCarriedUp, IsClosedAt, IsFollowed, IsPursued, LeadsUpTo, LivesAt}
+use Rattle.zt_tree_answers.specs.Ways.{IsCarriedUp, IsClosedAt, IsFollowed, IsPursued, LivesAt}
 use Rattle.zt_tree_answers.proofs.Absent.{absent_of, absent_said, closed_said, sent_none}
 use Rattle.zt_tree_answers.proofs.Carrying.{carried_up, expires}
 use Rattle.zt_tree_answers.proofs.Dropping.{carried_dropped, followed_dropped, leads_dropped}
@@ -243,27 +243,27 @@ module _ {K : Type 0} (cmp : K → K → Ordering) (matching : K → K → Bool)
         (λ both.
         let y = first_face way t both.0 in
         inl (
-        record {
-          carried = carried_up cmp matching total equal_is_same e s fine agree j node at_j c real still timeless spent accepted ms w prints waits speaks order up q top pursued.carried pursued.lives lives_then;
-          lives = lives_then;
-          leads = leads_then cmp matching total equal_is_same s fine agree j node at_j c real still timeless spent accepted ms w prints waits speaks way k top y.0 pursued.leads y.1.0 y.1.1;
-          followed = both.0;
-        }, both.1))
+          record {
+            carried = carried_up cmp matching total equal_is_same e s fine agree j node at_j c real still timeless spent accepted ms w prints waits speaks order up q top pursued.carried pursued.lives lives_then;
+            lives = lives_then;
+            leads = leads_then cmp matching total equal_is_same s fine agree j node at_j c real still timeless spent accepted ms w prints waits speaks way k top y.0 pursued.leads y.1.0 y.1.1;
+            followed = both.0;
+          },
+          both.1,
+        ))
         (λ first. inr (inl first))
         on)
         (closes_or_not j c z)
-
-    pub pursued_itself : GoesOn [] s
-    unfolding printed_for
-    pursued_itself = λ order lives_then. inl (record { carried = pursued.carried; lives = lives_then; leads = pursued.leads; followed = pursued.followed }, tt)
 
     pub pursued_dropped : LeftByDropped cmp matching total equal_is_same s fine agree GoesOn
     unfolding printed_for
     pursued_dropped = λ q0 q1 joined z z_is node at_j found m rest old why order lives_then.
         inl (
-        record {
-          carried = carried_dropped cmp matching total equal_is_same e i tokens legal s fine agree q0 q1 joined z z_is node at_j found m rest old why up q top pursued.carried;
-          lives = lives_then;
-          leads = leads_dropped cmp matching total equal_is_same e i tokens legal s fine agree q0 q1 joined z z_is node at_j found m rest old why way k top pursued.leads;
-          followed = followed_dropped cmp matching total equal_is_same e i tokens legal s fine agree q0 q1 joined z z_is node at_j found m rest old why way k id pursued.followed;
-        }, tt)
+          record {
+            carried = carried_dropped cmp matching total equal_is_same e i tokens legal s fine agree q0 q1 joined z z_is node at_j found m rest old why up q top pursued.carried;
+            lives = lives_then;
+            leads = leads_dropped cmp matching total equal_is_same e i tokens legal s fine agree q0 q1 joined z z_is node at_j found m rest old why way k top pursued.leads;
+            followed = followed_dropped cmp matching total equal_is_same e i tokens legal s fine agree q0 q1 joined z z_is node at_j found m rest old why way k id pursued.followed;
+          },
+          tt,
+        )

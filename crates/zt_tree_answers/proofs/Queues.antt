@@ -1,21 +1,17 @@
 -- What waits on a joint: interests rise in order, and one that stands sent up and above isn't ended by what rises.
-use Rattle.std.proofs.Common.{◌≡◌, ◌≢◌, ◌⊎◌, inl, inr, ℕ, ◌≤◌, ◌<◌, ◌+◌, max, Bool, true, false, if◌then◌else◌, ◌&&◌, ◌==◌, not, List, [], ◌∷◌, ◌++◌, filter, Option, Some, None, refl, sym, ap, ◌∙◌, subst, arith, eqb-true, eq-eqb, ne_eqb, ⊎_elim}
-use Rattle.std.specs.Ordering.{nat_cmp}
-use Rattle.std.specs.FinMap.Entries.{put}
-use Rattle.zt_protocol.specs.Interest.{is_current, is_future, has_tokens}
+use Rattle.std.proofs.Common.{◌≡◌, ◌⊎◌, inl, inr, ℕ, ◌≤◌, ◌<◌, ◌+◌, Bool, true, false, ◌&&◌, ◌==◌, List, [], ◌∷◌, ◌++◌, Option, Some, None, refl, sym, ap, ◌∙◌, arith, eqb-true, ne_eqb, ⊎_elim}
+use Rattle.zt_protocol.specs.Interest.{is_future, has_tokens}
 use Rattle.zt_protocol.specs.declared.interests.InterestMode.{InterestMode}
 use Rattle.zt_protocol.specs.declared.interests.InterestOptions.{InterestOptions}
 use Rattle.zt_protocol.specs.declared.messages.Message.{Message}
 use Rattle.zt_protocol.specs.declared.messages.Message.TheVariants as message
 use Rattle.zt_model.specs.Hearing.{put_if}
-use Rattle.zt_model.specs.Lists.{at_id, has_id, without_id}
-use Rattle.zt_model.specs.Rows.{Ask, ById, Face, InterestRow}
-use Rattle.zt_model.specs.Transcript.{Each}
+use Rattle.zt_model.specs.Lists.{at_id, without_id}
+use Rattle.zt_model.specs.Rows.{ById, InterestRow}
 use Rattle.zt_model.specs.TreePromises.{Here, IsMember, There}
-use Rattle.zt_laws.proofs.Lists.{by_test, never, of_cond}
+use Rattle.zt_laws.proofs.Lists.{by_test}
 use Rattle.zt_kept.proofs.ById.{at_put_other, at_without_other}
-use Rattle.zt_trees.specs.Facts.{InterestsRise, interests_after, interests_by, token_interests, top_of}
-use Rattle.zt_trees.proofs.Waiting.{rise_within}
+use Rattle.zt_trees.specs.Facts.{InterestsRise, interests_after, token_interests, top_of}
 
 -- ---- members
 
@@ -104,4 +100,3 @@ module _ {K : Type 0} where
       let gone : at_id id (interests_after ms (without_id id held)) ≡ None = not_again id low high ms (without_id id held) less rises (at_without_own id held) in
       let bad : None ≡ Some i = sym gone ∙ ap (at_id id) is ∙ there in
       cc
-

@@ -1,6 +1,6 @@
 -- An interest that is followed and an answer to its ask are refused only for want of ids.
-use Rattle.std.proofs.Common.{◌≡◌, ◌≢◌, ℕ, ◌≤◌, ◌<◌, max, Bool, true, false, cond, if◌then◌else◌, ◌&&◌, ◌||◌, ◌==◌, not, nat_lt, List, [], ◌∷◌, length, Option, Some, None, is_none, is_some, refl, sym, ap, ◌∙◌, subst, arith, eqb-true, eq-eqb, ne_eqb}
-use Rattle.std.proofs.lemmas.Bool.{and_parts, le-ltb}
+use Rattle.std.proofs.Common.{◌≡◌, ℕ, ◌≤◌, max, Bool, true, false, if◌then◌else◌, ◌&&◌, ◌||◌, ◌==◌, not, nat_lt, [], ◌∷◌, length, Option, Some, None, is_none, refl, sym, ap, ◌∙◌, arith}
+use Rattle.std.proofs.lemmas.Bool.{le-ltb}
 use Rattle.std.specs.Option.{option_to_list}
 use Rattle.std.proofs.lemmas.Nat.{and_assoc}
 use Rattle.std.specs.Int.Bits.{and_zero_r}
@@ -14,22 +14,20 @@ use Rattle.zt_protocol.specs.declared.errors.Refusal.{Refusal}
 use Rattle.zt_protocol.specs.declared.errors.Refusal.TheVariants as refusal
 use Rattle.zt_protocol.specs.declared.interests.InterestOptions.{InterestOptions}
 use Rattle.zt_protocol.specs.Plain.{DeclareToken, Interest}
-use Rattle.zt_protocol.specs.declared.messages.Message.{Message}
 use Rattle.zt_protocol.specs.declared.messages.Message.TheVariants as message
 use Rattle.zt_model.specs.Entities.{numbered_by, numbered_with}
 use Rattle.zt_model.specs.Lists.{at_id, has_id, is_some_and, same}
 use Rattle.zt_model.specs.Parts.{find_face, is_routed}
-use Rattle.zt_model.specs.Refusals.{Causes, GREATEST_DICTIONARY, adds_row, answers_nothing, asks_from_north, call_causes, fills_dictionary, first_cause, is_illegal_current, is_interest_id_in_use, is_token_id_in_use, is_unknown_ask, is_unknown_face, is_unknown_router, names_nothing, on_face}
-use Rattle.zt_model.specs.Rows.{ById, Face, InterestRow, Pending, Rows}
+use Rattle.zt_model.specs.Refusals.{Causes, GREATEST_DICTIONARY, adds_row, asks_from_north, call_causes, fills_dictionary, first_cause, is_illegal_current, is_interest_id_in_use, is_token_id_in_use, is_unknown_ask, is_unknown_face, is_unknown_router, on_face}
+use Rattle.zt_model.specs.Rows.{Face, InterestRow, Pending, Rows}
 use Rattle.zt_model.specs.Says.{row_of}
 use Rattle.zt_model.specs.Telling.{registers}
-use Rattle.zt_model.specs.Transcript.{Each}
 use Rattle.zt_model.specs.Wants.{kept_options}
 use Rattle.zt_laws.specs.Sound.{RiseFrom}
 use Rattle.zt_laws.proofs.Hearing.{find_each}
 use Rattle.zt_laws.proofs.Keys.{same_itself}
 use Rattle.zt_laws.proofs.Lists.{by_test, never}
-use Rattle.zt_trees.specs.Facts.{FitsFalling, FitsModes, IsClear, IsTreeFace, JointAgrees, top_of}
+use Rattle.zt_trees.specs.Facts.{IsClear, IsTreeFace, top_of}
 use Rattle.zt_trees.proofs.Knowledge.{is_no_router}
 use Rattle.zt_trees.proofs.Saying.{TreeRows}
 use Rattle.zt_trees.proofs.Speaks.{not_in_use}

@@ -1,6 +1,6 @@
 -- Calls and steps: a fact that calls leave, known who speaks them, and that a message leaves which comes to nothing, is left
 -- by each such line.
-use Rattle.std.proofs.Common.{◌≡◌, ◌≢◌, ◌⊎◌, inl, inr, ℕ, Bool, true, false, if◌then◌else◌, ◌&&◌, ◌||◌, ◌==◌, not, nat_lt, List, [], ◌∷◌, Option, Some, None, Err, is_some, refl, sym, ap, ◌∙◌, subst, eq-eqb, eqb-true, ⊎_elim}
+use Rattle.std.proofs.Common.{◌≡◌, ◌≢◌, ◌⊎◌, inl, inr, ℕ, Bool, true, false, ◌==◌, not, nat_lt, List, [], ◌∷◌, Option, Some, None, Err, is_some, refl, sym, ap, ◌∙◌, subst, eq-eqb, eqb-true, ⊎_elim}
 use Rattle.std.specs.Cmp.{IsTotalOrder}
 use Rattle.std.specs.declared.cmp.Ordering.{Ordering}
 use Rattle.std.specs.declared.cmp.Ordering.TheVariants.{Equal}
@@ -16,9 +16,9 @@ use Rattle.zt_model.specs.Linking.{call_of_message, oldest, sending_end, speakin
 use Rattle.zt_model.specs.Lists.{has_id, is_some_and, nth, rest_of}
 use Rattle.zt_model.specs.Parts.{find_face}
 use Rattle.zt_model.specs.Refusals.{Causes, call_causes, first_cause}
-use Rattle.zt_model.specs.Rows.{ById, Face}
+use Rattle.zt_model.specs.Rows.{ById}
 use Rattle.zt_model.specs.Says.{said}
-use Rattle.zt_model.specs.Transcript.{Each, FaceAt, face_numbered, messages_of}
+use Rattle.zt_model.specs.Transcript.{FaceAt, face_numbered, messages_of}
 use Rattle.zt_laws.specs.Order.{FabricIsInOrder}
 use Rattle.zt_laws.specs.Sound.{opens_face}
 use Rattle.zt_laws.proofs.Calls.{no_cause}
@@ -35,7 +35,7 @@ use Rattle.zt_trees.proofs.Quiet.{joined_back}
 use Rattle.zt_trees.proofs.Stepping.{has_taken, taken}
 use Rattle.zt_trees.proofs.Turning.{queue}
 use Rattle.zt_tree_answers.proofs.Taken.{queue_still, queue_taken}
-use Rattle.zt_tree_answers.proofs.Views.{IsSpoken, IsUnspoken, Speaks}
+use Rattle.zt_tree_answers.proofs.Views.{Speaks}
 
 not_not : {b : Bool} → not b ≡ false → b ≡ true
 not_not {b} h = by_test b (λ e. e) (λ e. let t : not b ≡ true = ap not e in never t h)

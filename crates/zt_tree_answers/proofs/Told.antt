@@ -1,9 +1,9 @@
 -- A row that a face to the north was told stays there through a call, where its expression stays live at a face that
 -- leads down: nothing that the face is sent takes it.
-use Rattle.std.proofs.Common.{◌≡◌, ◌≢◌, ℕ, ◌≤◌, ◌<◌, ◌+◌, max, Bool, true, false, if◌then◌else◌, ◌&&◌, ◌||◌, ◌==◌, not, List, [], ◌∷◌, ◌++◌, map, filter, Option, Some, None, refl, sym, ap, ◌∙◌, subst, arith, eqb-true, eq-eqb}
+use Rattle.std.proofs.Common.{◌≡◌, ℕ, ◌≤◌, ◌<◌, ◌+◌, Bool, true, false, if◌then◌else◌, ◌&&◌, ◌||◌, ◌==◌, not, List, [], ◌∷◌, ◌++◌, map, filter, Option, Some, None, refl, sym, ap, ◌∙◌, subst, arith, eqb-true, eq-eqb}
 use Rattle.std.proofs.lemmas.Bool.{and_from, and_parts, or_left, or_right}
 use Rattle.std.specs.Cmp.{IsTotalOrder}
-use Rattle.std.specs.List.{flat_map, list_any}
+use Rattle.std.specs.List.{list_any}
 use Rattle.std.specs.declared.cmp.Ordering.{Ordering}
 use Rattle.std.specs.declared.cmp.Ordering.TheVariants.{Equal}
 use Rattle.zt_region.specs.declared.region.Region.{Region}
@@ -13,29 +13,28 @@ use Rattle.zt_region.specs.Region.{is_north, region_eq, region_eq-same}
 use Rattle.zt_protocol.specs.Interest.{is_current, is_future}
 use Rattle.zt_protocol.specs.Plain.{PlainCall, NewSession, NewTransport, DeclareToken, UndeclareToken, Interest, InterestFinal, DeclareFinal, CloseFace, Expire, SetTrees, SetEntities, Trees}
 use Rattle.zt_protocol.specs.declared.interests.InterestMode.{InterestMode}
-use Rattle.zt_protocol.specs.declared.interests.InterestOptions.{InterestOptions}
 use Rattle.zt_protocol.specs.declared.messages.Message.{Message}
 use Rattle.zt_protocol.specs.declared.messages.QueryableInfo.{QueryableInfo}
 use Rattle.zt_protocol.specs.declared.messages.Message.TheVariants as message
 use Rattle.zt_model.specs.Closing.{without_asks, without_face}
 use Rattle.zt_model.specs.Entities.{entities_for, entity_expressions, numbered_by, with_entities, with_numbers}
-use Rattle.zt_model.specs.Hearing.{asks_answered, heard, heard_all, rows_heard, told_pair, with_answer}
+use Rattle.zt_model.specs.Hearing.{asks_answered, heard, heard_all, rows_heard}
 use Rattle.zt_model.specs.Lists.{at_id, is_some_and, same, without_id}
-use Rattle.zt_model.specs.Parts.{Alter, Part, Say, Sends, find_face, to_each, to_face, told_id, with_face}
+use Rattle.zt_model.specs.Parts.{Alter, Part, Say, Sends, to_each, to_face, told_id, with_face}
 use Rattle.zt_model.specs.Routing.{asked_as, asks_same, end_upstream_to, ended, final_of, final_of_both, finish_to, initial_finalised, is_finished_by, is_held_south, is_target, route_to, sent_as, unheld, untell_to}
 use Rattle.zt_model.specs.Rows.{Ask, ById, Face, InterestRow, Rows}
 use Rattle.zt_model.specs.Refusals.{call_causes, first_cause}
-use Rattle.zt_model.specs.Says.{answered_expressions, asking, forget_to, forget_untold, is_routed, is_told, parts_of, row_of, said, said_by, tell_to}
-use Rattle.zt_model.specs.Strategy.{is_broker, is_client_hat, is_router_hat, strategy_of}
+use Rattle.zt_model.specs.Says.{answered_expressions, asking, forget_to, forget_untold, is_routed, is_told, row_of, said, tell_to}
+use Rattle.zt_model.specs.Strategy.{is_client_hat, is_router_hat, strategy_of}
 use Rattle.zt_model.specs.Telling.{answer_to, answers_from, answers_of, registered, unregistered}
 use Rattle.zt_model.specs.Transcript.{Each}
-use Rattle.zt_model.specs.Trees.{counted_table, greet_to, hide_to, is_child, is_hidden, routed_expressions, routers_in_order, table_of, with_table, without_left_out, is_newly_shown, pass_to, router_regions, show_to, unpass_to, with_own_rows, with_routed, without_own_rows}
+use Rattle.zt_model.specs.Trees.{counted_table, greet_to, hide_to, is_child, is_hidden, routed_expressions, routers_in_order, table_of, with_table, without_left_out, is_newly_shown, router_regions, show_to, with_own_rows, with_routed, without_own_rows}
 use Rattle.zt_model.specs.Visible.{is_visible, rows_of_face, routed_rows, shows}
 use Rattle.zt_model.specs.Wants.{wants}
 use Rattle.zt_laws.specs.Sound.{rows_after_call}
 use Rattle.zt_laws.proofs.Hearing.{find_each, find_passes, heard_all-live, heard_all-number, heard_all-region}
 use Rattle.zt_laws.proofs.Keys.{same_is, same_itself}
-use Rattle.zt_laws.proofs.Lists.{any-append, any-filter, any-map, any_member, any_weaker, by_test, each_always, each_append, each_filter, each_map, each_weaker, never, of_cond}
+use Rattle.zt_laws.proofs.Lists.{any-append, any-filter, any-map, any_member, any_weaker, by_test, each_always, each_append, each_filter, each_map, never, of_cond}
 use Rattle.zt_laws.proofs.PartsOrder.{each_flat_map}
 use Rattle.zt_laws.proofs.Told.{told_id_row}
 use Rattle.zt_laws.proofs.Visible.{any_live_rows}

@@ -1,5 +1,5 @@
 -- One turn of an ask that is pursued: it is answered, or pursued on and sent no final, unless its face is closed.
-use Rattle.std.proofs.Common.{◌≡◌, ◌≢◌, ◌⊎◌, inl, inr, ℕ, Bool, true, false, ◌==◌, List, [], ◌∷◌, Option, Some, None, Err, refl, sym, ap, ◌∙◌, subst, ⊎_elim}
+use Rattle.std.proofs.Common.{◌≡◌, ◌≢◌, ◌⊎◌, inl, inr, ℕ, Bool, true, false, List, [], ◌∷◌, Some, Err, sym, ap, ◌∙◌, subst, ⊎_elim}
 use Rattle.std.specs.Cmp.{IsTotalOrder}
 use Rattle.std.specs.declared.cmp.Ordering.{Ordering}
 use Rattle.std.specs.declared.cmp.Ordering.TheVariants.{Equal}
@@ -7,7 +7,7 @@ use Rattle.zt_protocol.specs.Interest.{is_current, is_future, has_tokens}
 use Rattle.zt_protocol.specs.Plain.{PlainLine}
 use Rattle.zt_protocol.specs.declared.entries.Sent.{Sent}
 use Rattle.zt_protocol.specs.declared.errors.Refusal.TheVariants as refusal
-use Rattle.zt_model.specs.Fabric.{Fabric, Node, entry_of, fabric_after, printed_for}
+use Rattle.zt_model.specs.Fabric.{Fabric, entry_of, fabric_after, printed_for}
 use Rattle.zt_model.specs.Lists.{at_id, nth}
 use Rattle.zt_model.specs.Refusals.{is_illegal_current}
 use Rattle.zt_model.specs.Rows.{Ask, InterestRow}

@@ -1,6 +1,6 @@
 -- What a call at a gateway of a fabric makes of its faces, and of what waits for them.
-use Rattle.std.proofs.Common.{◌≡◌, ◌≢◌, ◌⊎◌, inl, inr, ℕ, Bool, true, false, if◌then◌else◌, ◌&&◌, ◌==◌, not, List, [], ◌∷◌, ◌++◌, map, filter, Option, Some, None, option_map, refl, sym, ap, ◌∙◌, subst, eqb-true, eq-eqb}
-use Rattle.std.proofs.lemmas.Bool.{and_from, and_parts, or_left, or_right}
+use Rattle.std.proofs.Common.{◌≡◌, ◌≢◌, ◌⊎◌, inl, inr, ℕ, Bool, true, if◌then◌else◌, ◌&&◌, ◌==◌, not, List, [], ◌∷◌, ◌++◌, filter, Option, Some, None, option_map, refl, sym, ap, ◌∙◌, subst}
+use Rattle.std.proofs.lemmas.Bool.{and_from, or_left, or_right}
 use Rattle.std.specs.Cmp.{IsTotalOrder}
 use Rattle.std.specs.List.{list_any}
 use Rattle.std.specs.declared.cmp.Ordering.{Ordering}
@@ -13,21 +13,19 @@ use Rattle.zt_model.specs.Fabric.{Fabric, Node, call_face, number_from, printed_
 use Rattle.zt_model.specs.Hearing.{heard_all, messages_for, rows_heard}
 use Rattle.zt_model.specs.Linking.{call_of_message, waiting_of}
 use Rattle.zt_model.specs.Lists.{first_where, has_id, nth}
-use Rattle.zt_model.specs.Parts.{Alter, Part, altered_by, find_face, is_routed, unsaid_to}
-use Rattle.zt_model.specs.Refusals.{call_causes, first_cause}
+use Rattle.zt_model.specs.Parts.{Part, altered_by, find_face, is_routed, unsaid_to}
 use Rattle.zt_model.specs.Rows.{ById, Face, Rows}
 use Rattle.zt_model.specs.Says.{altered, parts_of, said}
 use Rattle.zt_model.specs.Transcript.{Each, FaceAt, face_numbered}
 use Rattle.zt_laws.specs.Order.{FabricIsInOrder}
-use Rattle.zt_laws.specs.Sound.{CallHasFirstIds, RiseFrom, is_placed, opens_face, rows_after_call}
+use Rattle.zt_laws.specs.Sound.{CallHasFirstIds, RiseFrom, is_placed, rows_after_call}
 use Rattle.zt_laws.proofs.Entries.{nth-at_nth}
 use Rattle.zt_laws.proofs.Gateways.{PrintsSends}
 use Rattle.zt_laws.proofs.Hearing.{find_each, find_only, find_passes, heard_all-number}
 use Rattle.zt_laws.proofs.LinesOrder.{gateway_in_order}
-use Rattle.zt_laws.proofs.Lists.{any_member, by_test, each_weaker, never, of_cond}
+use Rattle.zt_laws.proofs.Lists.{by_test, each_weaker, never}
 use Rattle.zt_laws.proofs.Numbered.{nth_real}
 use Rattle.zt_laws.proofs.PartsOrder.{altered_by_last}
-use Rattle.zt_trees.specs.Facts.{TreesAgree}
 use Rattle.zt_trees.specs.Joints.{are_joined}
 use Rattle.zt_trees.proofs.Members.{is_there, number_is_its, numbered}
 use Rattle.zt_trees.proofs.Saying.{find_map}
@@ -49,11 +47,6 @@ module _ {K : Type 0} where
       by_test (p == h.number)
       (λ here. let e : Some h ≡ Some f = rw here at found in let is : h ≡ f = cc in or_left ((p == h.number) && test h) (list_any (λ h. (p == h.number) && test h) fs) (and_from (p == h.number) (test h) here (ap test is ∙ passes)))
       (λ here. or_right ((p == h.number) && test h) (list_any (λ h. (p == h.number) && test h) fs) (any_of test p fs f (rw here at found) passes))
-
-  pub of_any : (test : Face K → Bool) (p : ℕ) (g : Rows K) (f : Face K) → RiseFrom (λ f. f.number) 1 g.faces → find_face p g ≡ Some f → list_any (λ h. (p == h.number) && test h) g.faces ≡ true → test f ≡ true
-  of_any test p g f rises found some =
-      any_member (λ h. (p == h.number) ≡ true → h ≡ f) (λ h. (p == h.number) && test h) g.faces (find_only p 1 g.faces f rises found) some
-      (λ h same_ both. let parts = and_parts (p == h.number) (test h) both in ap test (sym (same_ parts.0)) ∙ parts.1)
 
 -- ---- a face that is closed is gone
 
@@ -105,9 +98,6 @@ module _ {K : Type 0} (cmp : K → K → Ordering) (matching : K → K → Bool)
       let at_ = is_there then_ k y found in
       let same_ : at_.node ≡ change node = some_is (sym at_.node_is ∙ ap (λ i. nth i then_.gateways) here ∙ nth-at_nth j change s.gateways node at_j) in
       ap (λ (x : Node K). find_face y.face.number x.rows) (sym same_) ∙ ap (find_face y.face.number) at_.rows_are ∙ at_.face_is
-
-  pub rises_then : FabricIsInOrder cmp matching then_ → RiseFrom (λ f. f.number) 1 (rows_after_call cmp matching c node.rows).faces
-  rises_then order = (gateway_in_order cmp matching then_ j (change node) (nth-at_nth j change s.gateways node at_j) order).rows.lists.faces_rise
 
   -- faces of other gateways stay
   pub elsewhere : (k : ℕ) (z y : FaceAt K) → face_numbered s k ≡ Some z → face_numbered then_ k ≡ Some y → z.gateway ≢ j → y.face ≡ z.face

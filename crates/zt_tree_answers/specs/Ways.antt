@@ -1,6 +1,6 @@
 -- Ways up a tree, from face to face: a token that stays live along one, and an ask that is followed along another. A way
 -- is the faces that it takes, two for each joint: the face to the north of a gateway, and the face above that it leads to.
-use Rattle.std.specs.Prelude.{◌≡◌, ◌⊎◌, ℕ, ◌≤◌, Bool, true, false, ◌==◌, List, [], ◌∷◌, Option, Some, None}
+use Rattle.std.specs.Prelude.{◌≡◌, ◌⊎◌, ℕ, ◌≤◌, Bool, true, false, List, [], ◌∷◌, Some, None}
 use Rattle.std.specs.declared.cmp.Ordering.{Ordering}
 use Rattle.zt_region.specs.Region.{is_north}
 use Rattle.zt_protocol.specs.Interest.{is_future}
@@ -9,7 +9,7 @@ use Rattle.zt_model.specs.Fabric.{Fabric, Node, Place}
 use Rattle.zt_model.specs.Linking.{waiting_of}
 use Rattle.zt_model.specs.Lists.{at_id, has_id, is_among, nth}
 use Rattle.zt_model.specs.Parts.{find_face}
-use Rattle.zt_model.specs.Rows.{Ask, Face, InterestRow}
+use Rattle.zt_model.specs.Rows.{Ask, InterestRow}
 use Rattle.zt_model.specs.Transcript.{Each, FaceAt, face_numbered}
 use Rattle.zt_model.specs.TreePromises.{IsMember, is_live_at}
 use Rattle.zt_trees.specs.Joints.{are_joined}
