@@ -18,7 +18,7 @@ use Rattle.zt_model.specs.Refusals.{is_illegal_current}
 use Rattle.zt_model.specs.Rows.{Ask, Face, InterestRow}
 use Rattle.zt_model.specs.Shown.{interest_kept}
 use Rattle.zt_model.specs.Transcript.{Each, FaceAt, fabric_shown, face_numbered, messages_of}
-use Rattle.zt_model.specs.TreePromises.{Beyond, GetsWhatStays, IsFinishedBy, IsInTree, IsTreeFabric, IsTreeTurn, Itself, MakesAsk, answers_of_turn, are_links_empty, disturbs, finals_of, is_at_gateway, is_live_at, is_plain_number, is_plainly_live_at}
+use Rattle.zt_model.specs.TreePromises.{Beyond, GetsWhatStays, IsFinishedBy, IsInTree, IsTreeFabric, IsTreeTurn, Itself, KeepTreePromises, MakesAsk, answers_of_turn, are_links_empty, disturbs, finals_of, is_at_gateway, is_live_at, is_plain_number, is_plainly_live_at}
 use Rattle.zt_model.specs.Wants.{is_about}
 use Rattle.zt_laws.specs.Order.{FabricIsInOrder}
 use Rattle.zt_laws.specs.Shown.{as_shown, node_shown}
@@ -32,7 +32,8 @@ use Rattle.zt_kept.proofs.Sound.{sound_after_line, sound_gateways_keep}
 use Rattle.zt_trees.specs.Facts.{TreesAgree}
 use Rattle.zt_trees.proofs.Members.{each_nth, is_there, numbered}
 use Rattle.zt_tree_lines.proofs.Lines.{trees_after_each}
-use Rattle.zt_tree_lines.proofs.Turns.{SoundFabric, live_shown, not_spent, tree_unshown}
+use Rattle.zt_tree_lines.proofs.Turns.{SoundFabric, live_shown, not_spent, tree_unshown, turns_know}
+use Rattle.zt_tree_asks.proofs.Asks.{gets_only}
 use Rattle.zt_tree_answers.specs.Steady.{AnswersFirst, IsNoFinal}
 use Rattle.zt_tree_answers.proofs.Asked.{asked_line}
 use Rattle.zt_tree_answers.proofs.Asking.{answers_are_messages, first_is_some}
@@ -254,3 +255,12 @@ module _ {K : Type 0} (cmp : K → K → Ordering) (matching : K → K → Bool)
       let is = a.turns_are ∙ ap (λ ts. ts ++ a.later) (append_assoc a.earlier (a.asking ∷ a.between) (option_to_list a.ending)) in
       ⊎_elim (λ some. some) (λ none_. absurd (final_came a.face a.id a.asking a.between a.ending a.finished none_))
       (asked is_built e a.interest about a.face a.id face own other lines s real sound agree trees_s a.earlier a.asking rest a.later is trees a.made a.quiet own_at tree other_at calm.1 live)
+
+  -- The three promises over trees.
+  pub keep_tree_promises : (is_built : PlainLine K → Bool) (lines : List (PlainLine K)) (s : Fabric K) → Each HasFirstIds lines → SoundFabric cmp matching total equal_is_same s → TreesAgree cmp matching s → IsTreeFabric s
+      → KeepTreePromises cmp matching (turns_from cmp matching lines (entries_from cmp matching is_built lines s) (as_shown s))
+  keep_tree_promises is_built lines s real sound agree trees_s = λ trees. record {
+    knowledge = turns_know cmp matching total equal_is_same is_built lines s real sound agree trees;
+    gets = gets_what_stays is_built lines s real sound agree trees_s trees;
+    gets_only = gets_only cmp matching total equal_is_same is_built lines s real sound agree trees_s trees;
+  }
