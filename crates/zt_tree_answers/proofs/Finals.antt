@@ -242,8 +242,11 @@ module _ {K : Type 0} (cmp : K → K → Ordering) (matching : K → K → Bool)
     final_leaves : (k : ℕ) (f : Face K) → AsksServed f → Each Leaves (final_of k f)
     final_leaves k f served = by_test (id == k) (λ own. cases own (at_id k f.asks) refl) (λ apart. others apart (at_id k f.asks))
       where
+        filled : {A : Type 0} {x : A} {xs : List A} → x ∷ xs ≡ [] → ⊥
+        filled bad = cc
+
         no_pendings : (ask : Ask K) → IsServed ask → (ps : List (ℕ × ℕ)) → ask.pendings ≡ ps → (let ms : List (Message K) = elim ps [ [] ↦ message.DeclareFinal k ∷ [] | q ∷ qs ↦ [] ] in Each Leaves ms)
-        no_pendings ask own [] is = let bad : (north, pending) ∷ [] ≡ [] = sym own.pendings ∙ is in cc
+        no_pendings ask own [] is = absurd (filled (sym own.pendings ∙ is))
         no_pendings ask own (q ∷ qs) is = tt
 
         cases : (id == k) ≡ true → (o : Option (Ask K)) → at_id k f.asks ≡ o → (let ms : List (Message K) = elim o [ None ↦ [] | Some ask ↦ elim ask.pendings [ [] ↦ message.DeclareFinal k ∷ [] | q ∷ qs ↦ [] ] ] in Each Leaves ms)

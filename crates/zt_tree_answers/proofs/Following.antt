@@ -1,5 +1,5 @@
 -- An ask that is followed up its way is followed through a call, or is answered by it before any final.
-use Rattle.std.proofs.Common.{◌≡◌, ◌≢◌, ◌⊎◌, inl, inr, ℕ, ◌≤◌, ◌<◌, ◌+◌, max, Bool, true, false, if◌then◌else◌, ◌&&◌, ◌==◌, not, List, [], ◌∷◌, ◌++◌, Option, Some, None, refl, sym, ap, ◌∙◌, subst, arith, eqb-true, eq-eqb, ne_eqb, ⊎_elim}
+use Rattle.std.proofs.Common.{◌≡◌, ◌≢◌, ◌⊎◌, inl, inr, ℕ, ◌≤◌, ◌<◌, ◌+◌, max, Bool, true, false, ◌&&◌, ◌==◌, not, List, [], ◌∷◌, ◌++◌, Option, Some, None, refl, sym, ap, ◌∙◌, subst, arith, eqb-true, eq-eqb, ne_eqb, ⊎_elim}
 use Rattle.std.proofs.lemmas.Bool.{and_from, and_parts, or_left, or_right}
 use Rattle.std.specs.Cmp.{IsTotalOrder}
 use Rattle.std.specs.List.{list_any}
@@ -19,7 +19,7 @@ use Rattle.zt_model.specs.Linking.{call_of_message, waiting_of}
 use Rattle.zt_model.specs.Lists.{at_id, has_id, is_among, is_some_and, nth, same}
 use Rattle.zt_model.specs.Parts.{find_face}
 use Rattle.zt_model.specs.Refusals.{call_causes, first_cause, is_interest_id_in_use}
-use Rattle.zt_model.specs.Routing.{asks_same, stands}
+use Rattle.zt_model.specs.Routing.{asks_same}
 use Rattle.zt_model.specs.Rows.{Ask, ById, Face, InterestRow, Rows}
 use Rattle.zt_model.specs.Says.{altered, said}
 use Rattle.zt_model.specs.Telling.{was_sent_as}
@@ -470,8 +470,8 @@ module _ {K : Type 0} (cmp : K → K → Ordering) (matching : K → K → Bool)
           on left = inl (inr (inl (subst (AnswersFirst cmp f.pending e) (sym waits_b) (answers_more cmp f.pending e (queue w b) (printed_for b ms) left))))
 
           spoken : (m : Message K) → lower.gateway ≡ j → call_of_message lower.face.number m ≡ Some c → AnswersFirst cmp f.pending e (m ∷ queue w b) → Serves_ ⊎ IsAnswerSpoken
-          spoken m low_here says (inl here) = inr (sym above.beside ∙ low_here, answer_spoken m here says)
-          spoken m low_here says (inr later) = on later.1
+          spoken m at_low says (inl here) = inr (sym above.beside ∙ at_low, answer_spoken m here says)
+          spoken m at_low says (inr later) = on later.1
 
           cases : IsUnspoken cmp matching total s fine j node at_j c real ms w prints b lower ⊎ IsSpoken cmp matching total s fine j node at_j c real ms w prints b lower → Serves_ ⊎ IsAnswerSpoken
           cases (inl un) = on (subst (AnswersFirst cmp f.pending e) (sym un.queue_is) first)

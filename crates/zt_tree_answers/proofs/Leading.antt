@@ -1,5 +1,5 @@
 -- A way up stays one through a call: no final falls of an interest that wasn't sent up yet.
-use Rattle.std.proofs.Common.{◌≡◌, ◌⊎◌, inl, inr, ℕ, ◌≤◌, ◌<◌, ◌+◌, max, Bool, true, false, ◌==◌, not, nat_lt, List, [], ◌∷◌, ◌++◌, Option, Some, None, is_none, refl, sym, ap, ◌∙◌, subst, arith, eqb-true, eq-eqb, ne_eqb, ⊎_elim}
+use Rattle.std.proofs.Common.{◌≡◌, ◌⊎◌, inl, inr, ℕ, ◌≤◌, ◌<◌, max, Bool, true, false, ◌==◌, not, nat_lt, List, [], ◌∷◌, ◌++◌, Option, Some, None, is_none, refl, sym, ap, ◌∙◌, subst, arith, eqb-true, eq-eqb, ne_eqb, ⊎_elim}
 use Rattle.std.proofs.lemmas.Bool.{ltb-false, ltb-true}
 use Rattle.std.specs.Cmp.{IsTotalOrder}
 use Rattle.std.specs.declared.cmp.Ordering.{Ordering}
@@ -17,7 +17,6 @@ use Rattle.zt_model.specs.Linking.{call_of_message, waiting_of}
 use Rattle.zt_model.specs.Lists.{first_where, has_id, nth}
 use Rattle.zt_model.specs.Parts.{find_face}
 use Rattle.zt_model.specs.Refusals.{call_causes, first_cause, is_unknown_face}
-use Rattle.zt_model.specs.Routing.{stands}
 use Rattle.zt_model.specs.Rows.{Ask, ById, Face}
 use Rattle.zt_model.specs.Says.{altered, said}
 use Rattle.zt_model.specs.Transcript.{Each, FaceAt, face_numbered}
