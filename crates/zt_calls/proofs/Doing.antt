@@ -137,6 +137,27 @@ module _ {K : Type 0} (cmp : K → K → Ordering) (matching : K → K → Bool)
   unfolding Leads
   leads-all work xs g s = λ k u all. all
 
+  -- ---- one piece of work for each row of a map
+
+  -- whatever does the pieces left has done all of them
+  pub LeadsOver : {A : Type 0} (work : A → List (Part K)) (xs left : List A) (g h : Rows K) (s t : Speech K) → Type 0
+  LeadsOver work xs left g h s t = (k : Rows K) (u : Speech K) → Does cmp matching (flat_map work left) h k t u → Does cmp matching (flat_map work xs) g k s u
+
+  pub leads_over-more : {A : Type 0} (work : A → List (Part K)) (xs left later : List A) (x : A) (g h k : Rows K) (s t u : Speech K) → left ≡ x ∷ later
+      → LeadsOver work xs left g h s t → Does cmp matching (work x) h k t u → LeadsOver work xs later g k s u
+  unfolding LeadsOver
+  leads_over-more work xs left later x g h k s t u first leads one =
+      λ last end rest. leads last end
+      (subst (λ ys. Does cmp matching (flat_map work ys) h last t end) (sym first) (does-both (work x) (flat_map work later) h k last t u end one rest))
+
+  pub leads_over-done : {A : Type 0} (work : A → List (Part K)) (xs left : List A) (g h : Rows K) (s t : Speech K) → left ≡ [] → LeadsOver work xs left g h s t → Does cmp matching (flat_map work xs) g h s t
+  unfolding LeadsOver
+  leads_over-done work xs left g h s t past leads = leads h t (subst (λ ys. Does cmp matching (flat_map work ys) h h t t) (sym past) (does-nothing h t))
+
+  pub leads_over-all : {A : Type 0} (work : A → List (Part K)) (xs left : List A) (g : Rows K) (s : Speech K) → left ≡ xs → LeadsOver work xs left g g s s
+  unfolding LeadsOver
+  leads_over-all work xs left g s whole = λ k u all. subst (λ ys. Does cmp matching (flat_map work ys) g k s u) whole all
+
   -- ---- what isn't said to a face
 
   -- work during which a face isn't spoken to

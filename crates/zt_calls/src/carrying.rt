@@ -15,7 +15,7 @@ use crate::asking::ask;
 use crate::closing::leave;
 use crate::ending::{declare_final, finalise};
 use crate::expiring::expire;
-use crate::finding::{find, held_at, is_pending};
+use crate::finding::find;
 use crate::opening::open;
 use crate::routed::change_table;
 use crate::speaking::{declare_token, undeclare_token};
@@ -107,7 +107,7 @@ fn interest_final<K: Key>(
     let Some(f) = find(g, face) else {
         return Ok(());
     };
-    let Some(held) = held_at(f, id) else {
+    let Some(held) = f.held().at(id) else {
         return Ok(());
     };
     let interest = held.copy(alloc)?;
@@ -129,7 +129,7 @@ fn final_from_north<K: Key>(
     let Some(f) = find(g, face) else {
         return Ok(());
     };
-    let waits = is_pending(f, id);
+    let waits = f.pendings().has(id);
     declare_final(alloc, g, speech, face, id, waits)
 }
 

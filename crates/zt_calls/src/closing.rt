@@ -11,7 +11,8 @@ use crate::speech::Speech;
 use crate::tokens::{hide_token, undeclare_found};
 use std::alloc::Global;
 use zt_keys::{Key, Memory};
-use zt_state::{FaceState, GatewayState, PendingInterest, RemoteInterest};
+use zt_protocol::TokenId;
+use zt_state::{FaceState, GatewayState, PendingInterest, RemoteInterest, RowsById};
 
 // One of the tokens of a face that closes goes. The only error is want of memory.
 fn leave_token<K: Key>(
@@ -19,13 +20,15 @@ fn leave_token<K: Key>(
     g: &mut GatewayState<K>,
     speech: &mut Speech<K>,
     f: &FaceState<K>,
-    row: &(u32, K),
+    id: TokenId,
+    expr: &K,
 ) -> Result<(), Memory>
-    ensures { OnOk result (Does K.cmp K.matching (leaving_token K.cmp K.matching f.now row.now)
+    ensures { OnOk result (Does K.cmp K.matching
+        (leaving_token K.cmp K.matching f.now (id, expr.now))
         g.old g.new speech.old speech.new) }
 {
-    undeclare_found(alloc, g, speech, f, row.0, &None)?;
-    hide_token(alloc, g, speech, f.region(), &row.1)
+    undeclare_found(alloc, g, speech, f, id, &None)?;
+    hide_token(alloc, g, speech, f.region(), expr)
 }
 
 // The tokens of a face that closes go. The only error is want of memory.
@@ -39,8 +42,8 @@ fn leave_tokens<K: Key>(
         (flat_map (leaving_token K.cmp K.matching f.now) f.now.live)
         g.old g.new speech.old speech.new) }
 {
-    for row in f.live() {
-        leave_token(alloc, g, speech, f, row)?;
+    for (id, expr) in f.live().iter() {
+        leave_token(alloc, g, speech, f, *id, expr)?;
     }
     Ok(())
 }
@@ -51,14 +54,14 @@ fn leave_interests<K: Key>(
     g: &mut GatewayState<K>,
     speech: &mut Speech<K>,
     face: u32,
-    held: &[(u32, RemoteInterest<K>)],
+    held: &RowsById<RemoteInterest<K>>,
 ) -> Result<(), Memory>
     ensures { OnOk result (Does K.cmp K.matching
         (flat_map (leaving_interest K.cmp K.matching face) held.now)
         g.old g.new speech.old speech.new) }
 {
-    for row in held {
-        finalise(alloc, g, speech, face, row.0, &row.1)?;
+    for (id, interest) in held.iter() {
+        finalise(alloc, g, speech, face, *id, interest)?;
     }
     Ok(())
 }
@@ -69,14 +72,14 @@ fn leave_pendings<K: Key>(
     g: &mut GatewayState<K>,
     speech: &mut Speech<K>,
     face: u32,
-    pendings: &[(u32, PendingInterest)],
+    pendings: &RowsById<PendingInterest>,
 ) -> Result<(), Memory>
     ensures { OnOk result (Does K.cmp K.matching
         (flat_map (leaving_pending face) pendings.now)
         g.old g.new speech.old speech.new) }
 {
-    for row in pendings {
-        end_pending(alloc, g, speech, face, row.0)?;
+    for (id, _) in pendings.iter() {
+        end_pending(alloc, g, speech, face, *id)?;
     }
     Ok(())
 }

@@ -1,5 +1,5 @@
 // What time ends.
-ghost use Rattle.std.specs.Prelude.{◌≡◌, ◌++◌, IfOk, OnOk};
+ghost use Rattle.std.specs.Prelude.{◌≡◌, ℕ, ◌++◌, IfOk, OnOk};
 ghost use Rattle.std.specs.List.{flat_map};
 ghost use Rattle.zt_calls.specs.Does.{Does};
 ghost use Rattle.zt_calls.specs.Expired.{ending_each, expired_at, expired_in};
@@ -12,10 +12,10 @@ use zt_keys::{Key, Memory};
 use zt_state::{FaceState, GatewayState, PendingInterest};
 
 // Whether a pending has waited for the timeout.
-fn is_expired(now: u64, timeout: u64, row: &(u32, PendingInterest)) -> bool
-    ensures { result ≡ is_expired now timeout row.now }
+fn is_expired(now: u64, timeout: u64, pending: &PendingInterest) -> bool
+    ensures { (id : ℕ) → result ≡ is_expired now timeout (id, pending.now) }
 {
-    timeout <= now.saturating_sub(row.1.since())
+    timeout <= now.saturating_sub(pending.since())
 }
 
 // Adds the pendings of a face that have waited for the timeout. The only error is want of memory.
@@ -27,9 +27,9 @@ fn expire_face<K: Key>(
 ) -> Result<(), Memory>
     ensures { OnOk result (ended.new.items ≡ ended.old.items ++ expired_at now timeout f.now) }
 {
-    for row in f.pendings() {
-        if is_expired(now, timeout, row) {
-            ended.push((f.number(), row.0))?;
+    for (id, pending) in f.pendings().iter() {
+        if is_expired(now, timeout, pending) {
+            ended.push((f.number(), *id))?;
         }
     }
     Ok(())

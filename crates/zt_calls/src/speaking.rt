@@ -6,7 +6,7 @@ ghost use Rattle.zt_model.specs.Says.{hiding_undeclared, parts_of};
 ghost use Rattle.zt_model.specs.Telling.{answering, registers, undeclaring};
 ghost use Rattle.zt_protocol.specs.Plain as plain;
 
-use crate::finding::{find, is_pending, pending_at, undeclared};
+use crate::finding::{find, undeclared};
 use crate::routed::{declare_routed, undeclare_routed};
 use crate::speech::{Speech, say};
 use crate::tokens::{declare, hide_token, undeclare_found};
@@ -24,7 +24,7 @@ fn asked_by<K: Key>(f: &FaceState<K>, interest: Option<InterestId>) -> Option<In
         ≡ answering K.cmp K.matching n interest e f.now }
 {
     match interest {
-        Some(id) if is_pending(f, id) => Some(id),
+        Some(id) if f.pendings().has(id) => Some(id),
         _ => None,
     }
 }
@@ -36,7 +36,7 @@ fn registers<K: Key>(f: &FaceState<K>, interest: Option<InterestId>) -> bool
 {
     match interest {
         None => true,
-        Some(id) => match pending_at(f, id) {
+        Some(id) => match f.pendings().at(id) {
             None => true,
             Some(pending) => pending.mode().is_future(),
         },

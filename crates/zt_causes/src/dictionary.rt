@@ -7,8 +7,7 @@ use bitflags::Flags;
 use std::alloc::Global;
 use zt_keys::{Key, Memory};
 use zt_protocol::{InterestOptions, QueryableInfo};
-use zt_state::{GatewayState, RemoteInterest};
-use zt_tokens::is_among;
+use zt_state::{GatewayState, RemoteInterest, is_among};
 
 // A dictionary has at most so many expressions.
 const GREATEST_DICTIONARY: usize = 65535;

@@ -4,7 +4,6 @@
 mod asking;
 mod declaring;
 mod dictionary;
-mod finding;
 mod opening;
 mod questions;
 mod refusing;

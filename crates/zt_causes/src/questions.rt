@@ -4,7 +4,6 @@ ghost use Rattle.zt_model.specs.Refusals.{adds_row, answers_nothing, asks_from_n
 ghost use Rattle.zt_model.specs.Telling.{registers};
 ghost use Rattle.zt_region.specs.Region.{is_north};
 
-use crate::finding::{at_id, has_id};
 use bitflags::Flags;
 use std::alloc::Global;
 use zt_keys::{Key, Memory};
@@ -46,14 +45,14 @@ pub(crate) fn is_interest_id_in_use<K: Key>(
 ) -> bool
     ensures { result ≡ is_interest_id_in_use id mode f.now }
 {
-    (mode.is_future() && has_id(f.held(), id)) || (mode.is_current() && has_id(f.asks(), id))
+    (mode.is_future() && f.held().has(id)) || (mode.is_current() && f.asks().has(id))
 }
 
 /// Whether the id names no interest that stands at the face, sent to it and not ended.
 pub(crate) fn names_nothing<K: Key>(f: &FaceState<K>, id: InterestId) -> bool
     ensures { result ≡ names_nothing id f.now }
 {
-    !has_id(f.pendings(), id) && !has_id(f.locals(), id) && !(id == 0 && f.initial().is_some())
+    !f.pendings().has(id) && !f.locals().has(id) && !(id == 0 && f.initial().is_some())
 }
 
 // Whether a token without an id answers no interest that was sent to the face.
@@ -105,7 +104,7 @@ pub(crate) fn registers<K: Key>(f: &FaceState<K>, interest: Option<InterestId>) 
 {
     match interest {
         None => true,
-        Some(interest) => match at_id(f.pendings(), interest) {
+        Some(interest) => match f.pendings().at(interest) {
             None => true,
             Some(pending) => pending.mode().is_future(),
         },
@@ -127,7 +126,7 @@ pub(crate) fn adds_row<K: Key>(
 pub(crate) fn is_token_id_in_use<K: Key>(f: &FaceState<K>, id: TokenId, expr: &K) -> bool
     ensures { result ≡ is_token_id_in_use K.cmp id expr.now f.now }
 {
-    match at_id(f.live(), id) {
+    match f.live().at(id) {
         None => false,
         Some(live) => expr != live,
     }
@@ -137,5 +136,5 @@ pub(crate) fn is_token_id_in_use<K: Key>(f: &FaceState<K>, id: TokenId, expr: &K
 pub(crate) fn is_unknown_token<K: Key>(f: &FaceState<K>, id: TokenId, given: &Option<K>) -> bool
     ensures { result ≡ is_unknown_token id given.now f.now }
 {
-    given.is_none() && !has_id(f.live(), id)
+    given.is_none() && !f.live().has(id)
 }

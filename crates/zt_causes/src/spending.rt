@@ -12,7 +12,6 @@ ghost use Rattle.zt_model.specs.Visible.{keeps};
 
 use crate::asking::row_of;
 use crate::dictionary::are_above;
-use crate::finding::has_id;
 use crate::questions::registers;
 use std::alloc::Global;
 use zt_interests::is_target;
@@ -31,17 +30,12 @@ pub(crate) fn left_ids<K: Key>(f: &FaceState<K>) -> u32
 // ---- tokens
 
 // Whether a token that the face declares for the interest answers an ask for what comes later too.
-fn is_answered_for_later<K: Key>(
-    row: &(u32, AskState<K>),
-    face: u32,
-    id: InterestId,
-    expr: &K,
-) -> bool
+fn is_answered_for_later<K: Key>(ask: &AskState<K>, face: u32, id: InterestId, expr: &K) -> bool
     ensures { result
-        ≡ (is_future row.now.1.interest.mode
-        && is_answered_by K.cmp K.matching face id expr.now row.now.1) }
+        ≡ (is_future ask.now.interest.mode
+        && is_answered_by K.cmp K.matching face id expr.now ask.now) }
 {
-    row.1.interest().mode().is_future() && is_answered_by(face, id, expr, &row.1)
+    ask.interest().mode().is_future() && is_answered_by(face, id, expr, ask)
 }
 
 // Whether such a token answers an ask of this face for what comes later too.
@@ -53,7 +47,7 @@ fn answers_for_later<K: Key>(f: &FaceState<K>, face: u32, id: InterestId, expr: 
 {
     f.asks()
         .iter()
-        .any(|row| is_answered_for_later(row, face, id, expr))
+        .any(|(_, ask)| is_answered_for_later(ask, face, id, expr))
 }
 
 // Whether the token answers an ask of the face anew, for which it needs an id.
@@ -69,7 +63,7 @@ fn is_answered_anew<K: Key>(
     match interest {
         None => false,
         Some(id) => {
-            has_id(from.pendings(), id) && !keeps(f, expr) && answers_for_later(f, face, id, expr)
+            from.pendings().has(id) && !keeps(f, expr) && answers_for_later(f, face, id, expr)
         }
     }
 }

@@ -3,7 +3,6 @@ ghost use Rattle.std.specs.Prelude.{◌≡◌, IfOk};
 ghost use Rattle.zt_model.specs.Journal.{cause_of};
 ghost use Rattle.zt_protocol.specs.Plain.{CloseFace, DeclareFinal, InterestFinal, UndeclareToken};
 
-use crate::finding::has_id;
 use crate::questions::{is_north, is_unknown_router, is_unknown_token, names_nothing};
 use std::alloc::Global;
 use zt_keys::{Key, Memory};
@@ -49,7 +48,7 @@ pub(crate) fn finalising_cause<K: Key>(
     let Some(f) = find_face(g, face) else {
         return Some(Refusal::UnknownFace);
     };
-    if !has_id(f.held(), id) {
+    if !f.held().has(id) {
         return Some(Refusal::UnknownInterest);
     }
     None

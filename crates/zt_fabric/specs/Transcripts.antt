@@ -13,8 +13,9 @@ use Rattle.zt_protocol.specs.declared.errors.RunError.TheVariants as errors
 use Rattle.zt_wire.specs.Reading.{line_read}
 use Rattle.zt_wire.specs.Text.{entries_text, report_text}
 use Rattle.zt_model.specs.Fabric.{empty_fabric, entries_from}
-use Rattle.zt_model.specs.Promises.{AnswersAsks, IsSparing, KeepsExactly, SendsUpstream, TellsOfRouters, TellsTheFuture, Turn, UndeclaresWhatIsGone, turns_from}
+use Rattle.zt_model.specs.Promises.{MeetsPromises, MeetsStricterPromises, turns_from}
 use Rattle.zt_model.specs.Transcript.{Each, IsFaithfulFrom, IsStrictFrom, report_of}
+use Rattle.zt_model.specs.TreePromises.{KeepTreePromises}
 use Rattle.zt_links.specs.Lines.{every_line}
 
 -- the most bytes of a script
@@ -39,32 +40,22 @@ BeginsWith left read texts =
     ((others : List (List ℕ)) × (whole_lines (take most_bytes read) ≡ texts ++ others))
     ⊎ ((others : List (List ℕ)) × IsAtEnd left × (length read ≤ most_bytes) × (lines_of read ≡ texts ++ others))
 
-module _ {K : Type 0} (cmp : K → K → Ordering) (matching : K → K → Bool) where
-  -- The promises of a turn, a line with its entry, that are kept. Of what a face covers it keeps exactly what is visible,
-  -- where an admission table refuses no pair. Faces are told only of tokens that they seek, and answered only what they
-  -- ask for. After an accepted declaration that registers, whoever wants its token keeps it, and after one of a router
-  -- region too. Asks for tokens are answered, interests go upstream where they are due, and what is undeclared by
-  -- expression is gone.
-  pub record KeepsPromises (t : Turn K) : Type 0 where
-    pub exact : KeepsExactly cmp matching t
-    pub sparing : IsSparing cmp matching t
-    pub future : TellsTheFuture cmp matching t
-    pub routers : TellsOfRouters cmp matching t
-    pub asks : AnswersAsks cmp matching t
-    pub upstream : SendsUpstream cmp matching t
-    pub undeclarations : UndeclaresWhatIsGone cmp matching t
-
 module _ {K : Type 0} (cmp : K → K → Ordering) (matching : K → K → Bool) (reading : List ℕ → Result K KeyError) where
   -- Each of these texts is a line of the grammar, and the entries are what the machine comes to on these lines:
   -- each is refused exactly by its cause, and after each entry every face keeps what it should. Each message names an
-  -- open face and its gateway, and too few ids are left only for a line's own call. And each turn keeps its promises.
+  -- open face and its gateway, and too few ids are left only for a line's own call. And each turn, a line with its
+  -- entry, keeps all promises, those that are kept beside them too. Where the fabric is one of trees after each line, and
+  -- none is refused for want of ids, whoever asked for tokens now and later knows its tree where all links are empty, and
+  -- asks get what stays in their tree, and only what was there.
   pub record IsTranscript (texts : List (List ℕ)) (entries : List (PlainEntry K)) : Type 0 where
     pub lines : List (PlainLine K)
     pub are_read : map (line_read reading) texts ≡ map (λ line. Ok line) lines
     pub are_the_machines : entries ≡ entries_from cmp matching every_line lines empty_fabric
     pub are_faithful : IsFaithfulFrom cmp matching every_line lines entries empty_fabric
     pub are_strict : IsStrictFrom cmp matching every_line lines entries empty_fabric
-    pub keep_promises : Each (KeepsPromises cmp matching) (turns_from cmp matching lines entries empty_fabric)
+    pub keep_promises : Each (MeetsPromises cmp matching) (turns_from cmp matching lines entries empty_fabric)
+    pub keep_stricter_promises : Each (MeetsStricterPromises cmp matching) (turns_from cmp matching lines entries empty_fabric)
+    pub keep_tree_promises : KeepTreePromises cmp matching (turns_from cmp matching lines entries empty_fabric)
 
 module _ {K : Type 0} (cmp : K → K → Ordering) (matching : K → K → Bool) (reading : List ℕ → Result K KeyError) (printed : K → List ℕ) where
   -- The source was read to its end. Exactly the transcript of all its lines was written, with its totals, which

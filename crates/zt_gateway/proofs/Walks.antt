@@ -21,6 +21,18 @@ pub walk_done : {A B : Type 0} (whole : List A → List B) → whole [] ≡ []
 walk_done whole nothing xs i before all past left =
     sym (append-nil before) ∙ ap (λ ys. before ++ ys) (sym (ap whole (drop_all i xs past) ∙ nothing)) ∙ left
 
+-- the same over a map's rows, of which those left are known
+pub rest_more : {A B : Type 0} (rule : A → List B) (whole : List A → List B) → ((x : A) (xs : List A) → whole (x ∷ xs) ≡ rule x ++ whole xs)
+    → (rest left : List A) (x : A) (before after all : List B) → before ++ whole rest ≡ all → rest ≡ x ∷ left → after ≡ before ++ rule x → after ++ whole left ≡ all
+rest_more rule whole split rest left x before after all so_far first more =
+    ap (λ ys. ys ++ whole left) more
+    ∙ append_assoc before (rule x) (whole left)
+    ∙ ap (λ ys. before ++ ys) (sym (ap whole first ∙ split x left))
+    ∙ so_far
+
+pub rest_done : {A B : Type 0} (whole : List A → List B) → whole [] ≡ [] → (rest : List A) (before all : List B) → rest ≡ [] → before ++ whole rest ≡ all → before ≡ all
+rest_done whole nothing rest before all past so_far = sym (append-nil before) ∙ ap (λ ys. before ++ ys) (sym (ap whole past ∙ nothing)) ∙ so_far
+
 drop_one_more : {A : Type 0} (xs : List A) (i : ℕ) (x : A) → 0 < i → i ≤ length xs → x ≡ get_or xs (i - 1) x → drop (i - 1) xs ≡ x ∷ drop i xs
 drop_one_more xs zero x pos le is = absurd (omega arith)
 drop_one_more xs (suc i) x pos le is =

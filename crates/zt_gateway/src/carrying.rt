@@ -1,4 +1,4 @@
-// What a call comes to on a copy of what a gateway keeps.
+// What a call comes to beside what a gateway keeps.
 ghost use Rattle.std.specs.Prelude.{◌≡◌, ◌+◌, ◌<◌, ◌^◌, ◌≤◌, [], length, map, vec_capacity, IfErr, IfOk, None, Ok, OnOk, true};
 ghost use Rattle.zt_gateway.specs.Running.{IsRefusedBy, by_face, closed_by, sent_alone};
 ghost use Rattle.zt_laws.specs.Sound.{CallHasFirstIds, opens_face};
@@ -8,11 +8,11 @@ ghost use Rattle.zt_model.specs.Says.{said};
 ghost use Rattle.zt_protocol.specs.Plain.{plain_call};
 
 use std::alloc::Global;
-use zt_calls::carry_out;
 use zt_causes::cause_of;
 use zt_keys::{Key, Memory};
 use zt_protocol::{Call, CallError, Message};
 use zt_state::GatewayState;
+use zt_twins::TwinState;
 
 // The number of the face that a call makes, where it makes one.
 fn face_of<K: Key>(state: &GatewayState<K>, call: &Call<K>) -> Option<u32>
@@ -26,36 +26,34 @@ fn face_of<K: Key>(state: &GatewayState<K>, call: &Call<K>) -> Option<u32>
 }
 
 // What a call leaves of what a gateway keeps, what it says and the face that it makes, where nothing
-// refuses it.
+// refuses it. The gateway keeps what it did.
 pub(crate) fn carried<K: Key>(
     alloc: Global,
-    state: &GatewayState<K>,
+    twin: &mut TwinState<K>,
     call: &Call<K>,
 ) -> Result<(GatewayState<K>, Vec<(u32, Message<K>)>, Option<u32>), CallError>
     requires first { CallHasFirstIds (plain_call call.now) }
-    requires sound { IsSound K.cmp K.matching state.now }
-    ensures refused { IfErr result (IsRefusedBy K.cmp K.matching (plain_call call.now) state.now) }
-    ensures accepted { OnOk result (cause_of K.cmp K.matching (plain_call call.now) state.now ≡ None) }
-    ensures rows { IfOk result (λ r. r.0 ≡ rows_after K.cmp K.matching (plain_call call.now) state.now) }
-    ensures said { IfOk result (λ r. r.1.items ≡ said K.cmp K.matching (plain_call call.now) state.now) }
-    ensures made { IfOk result (λ r. r.2 ≡ made_by K.cmp K.matching (plain_call call.now) state.now) }
+    requires sound { IsSound K.cmp K.matching twin.old }
+    ensures same { twin.new ≡ twin.old }
+    ensures refused { IfErr result (IsRefusedBy K.cmp K.matching (plain_call call.now) twin.old) }
+    ensures accepted { OnOk result (cause_of K.cmp K.matching (plain_call call.now) twin.old ≡ None) }
+    ensures rows { IfOk result (λ r. r.0 ≡ rows_after K.cmp K.matching (plain_call call.now) twin.old) }
+    ensures said { IfOk result (λ r. r.1.items ≡ said K.cmp K.matching (plain_call call.now) twin.old) }
+    ensures made { IfOk result (λ r. r.2 ≡ made_by K.cmp K.matching (plain_call call.now) twin.old) }
     ensures sound { IfOk result (λ r. IsSound K.cmp K.matching r.0) }
-    ensures outcome { OnOk result (outcome_of K.cmp K.matching (plain_call call.now) state.now
-        ≡ Ok (map sent_alone (by_face (said K.cmp K.matching (plain_call call.now) state.now)))) }
+    ensures outcome { OnOk result (outcome_of K.cmp K.matching (plain_call call.now) twin.old
+        ≡ Ok (map sent_alone (by_face (said K.cmp K.matching (plain_call call.now) twin.old)))) }
 {
-    match cause_of(alloc, state, call) {
+    match cause_of(alloc, twin.state(), call) {
         Err(Memory) => return Err(CallError::Memory),
         Ok(Some(refusal)) => return Err(CallError::Refused(refusal)),
         Ok(None) => {}
     }
-    let made = face_of(state, call);
-    let Ok(mut working) = state.copy(alloc) else {
-        return Err(CallError::Memory);
-    };
-    let Ok(said) = carry_out(alloc, &mut working, call) else {
-        return Err(CallError::Memory);
-    };
-    Ok((working, said, made))
+    let made = face_of(twin.state(), call);
+    match twin.prepare(alloc, call) {
+        Ok(ahead) => Ok((ahead.state, ahead.said, made)),
+        Err(Memory) => Err(CallError::Memory),
+    }
 }
 
 // The face that a call closes.

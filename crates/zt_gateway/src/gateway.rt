@@ -2,7 +2,7 @@
 ghost use Rattle.std.specs.Prelude.{◌≡◌, [], Ok, map, IfErr, IfOk, None, OnErr, OnOk};
 ghost use Rattle.zt_gateway.specs.Running.{IsRefusedBy, by_face, called, next_waiting, oldest_for, planned, without_oldest, sent_alone};
 ghost use Rattle.zt_kept.specs.Sound.{IsSound};
-ghost use Rattle.zt_laws.specs.Sound.{CallHasFirstIds};
+ghost use Rattle.zt_laws.specs.Sound.{CallHasFirstIds, rows_after_call};
 ghost use Rattle.zt_model.specs.Journal.{cause_of, made_by, outcome_of};
 ghost use Rattle.zt_model.specs.Says.{said};
 ghost use Rattle.zt_model.specs.Transcript.{FacesKeepWhatTheyShould};
@@ -20,13 +20,14 @@ use std::snapshot::Snapshot;
 use zt_keys::{Key, Memory};
 use zt_protocol::{Call, CallError, Message};
 use zt_state::GatewayState;
+use zt_twins::TwinState;
 
 /// A gateway: what it keeps, and the messages that it has for its faces until they are taken. Its faces
 /// are numbered from 1 in order of making.
 #[derive(Drop)]
 pub struct Gateway<K: Key> {
     pub(crate) alloc: Global,
-    pub(crate) state: GatewayState<K>,
+    pub(crate) twin: TwinState<K>,
     // Each with the number of its face, the oldest first.
     pub(crate) outbox: Vec<(u32, Message<K>)>,
 }
@@ -37,23 +38,24 @@ impl<K: Key> Model for Gateway<K> {
 
     ghost Value = { Running K };
 
-    ghost view = { λ g. record { rows = g.state; waiting = g.outbox.items } };
+    ghost view = { λ g. record { rows = g.twin; waiting = g.outbox.items } };
 
-    ghost invariant = { λ g. IsSound K.cmp K.matching g.state };
+    ghost invariant = { λ g. IsSound K.cmp K.matching g.twin };
 }
 
 // What a call comes to at a gateway, where nothing refuses it.
-fn plan<K: Key>(gateway: &Gateway<K>, call: &Call<K>) -> Result<Prepared<K>, CallError>
+fn plan<K: Key>(gateway: &mut Gateway<K>, call: &Call<K>) -> Result<Prepared<K>, CallError>
     requires { CallHasFirstIds (plain_call call.now) }
-    ensures refused { IfErr result (IsRefusedBy K.cmp K.matching (plain_call call.now) gateway.now.rows) }
-    ensures accepted { OnOk result (cause_of K.cmp K.matching (plain_call call.now) gateway.now.rows ≡ None) }
-    ensures planned { IfOk result (λ p. p ≡ planned K.cmp K.matching (plain_call call.now) gateway.now) }
-    ensures outcome { OnOk result (outcome_of K.cmp K.matching (plain_call call.now) gateway.now.rows
-        ≡ Ok (map sent_alone (by_face (said K.cmp K.matching (plain_call call.now) gateway.now.rows)))) }
+    ensures same { gateway.new ≡ gateway.old }
+    ensures refused { IfErr result (IsRefusedBy K.cmp K.matching (plain_call call.now) gateway.old.rows) }
+    ensures accepted { OnOk result (cause_of K.cmp K.matching (plain_call call.now) gateway.old.rows ≡ None) }
+    ensures planned { IfOk result (λ p. p ≡ planned K.cmp K.matching (plain_call call.now) gateway.old) }
+    ensures outcome { OnOk result (outcome_of K.cmp K.matching (plain_call call.now) gateway.old.rows
+        ≡ Ok (map sent_alone (by_face (said K.cmp K.matching (plain_call call.now) gateway.old.rows)))) }
 {
     let before = Snapshot::of(gateway);
     let alloc = gateway.alloc;
-    let (state, said, made) = carried(alloc, &gateway.state, call)?;
+    let (state, said, made) = carried(alloc, &mut gateway.twin, call)?;
     let Ok(order) = places_by_face(alloc, said.as_slice()) else {
         return Err(CallError::Memory);
     };
@@ -95,6 +97,17 @@ impl<K: Key> Gateway<K> {
         ensures made { result ≡ prepared.made }
         ensures sound { FacesKeepWhatTheyShould K.cmp K.matching self.new.rows }
     {
+        self.exchange(prepared).0
+    }
+
+    // Carries out a call that this gateway prepared, and answers besides what it kept before.
+    fn exchange(&mut self, prepared: Prepared<K>) -> (Option<u32>, GatewayState<K>)
+        requires { prepared.before ≡ self.old }
+        ensures done { self.new ≡ prepared.after }
+        ensures made { result.0 ≡ prepared.made }
+        ensures former { result.1 ≡ self.old.rows }
+        ensures sound { FacesKeepWhatTheyShould K.cmp K.matching self.new.rows }
+    {
         let Prepared {
             before: _,
             state,
@@ -106,8 +119,16 @@ impl<K: Key> Gateway<K> {
         } = prepared;
         let waiting = mem::replace(&mut self.outbox, Vec::new(self.alloc));
         self.outbox = moved(room, waiting, said, closed);
-        self.state = state;
-        made
+        let former = self.twin.put(state);
+        (made, former)
+    }
+
+    // What it kept before a call that was carried out last is brought up to date by the same call.
+    fn catch_up(&mut self, former: GatewayState<K>, call: &Call<K>)
+        requires { self.old.rows ≡ rows_after_call K.cmp K.matching (plain_call call.now) former }
+        ensures { self.new ≡ self.old }
+    {
+        self.twin.catch_up(self.alloc, former, call);
     }
 
     /// Carries out a call; a first id is at least 1. The answer is the number of the face that it makes,
@@ -124,7 +145,11 @@ impl<K: Key> Gateway<K> {
         ensures sound { OnOk result (FacesKeepWhatTheyShould K.cmp K.matching self.new.rows) }
     {
         match self.prepare(call) {
-            Ok(prepared) => Ok(self.commit(prepared)),
+            Ok(prepared) => {
+                let (made, former) = self.exchange(prepared);
+                self.catch_up(former, call);
+                Ok(made)
+            }
             Err(error) => Err(error),
         }
     }
@@ -133,11 +158,11 @@ impl<K: Key> Gateway<K> {
     pub fn copy(&self, alloc: Global) -> Result<Self, Memory>
         ensures { IfOk result (λ copy. copy ≡ self.now) }
     {
-        let state = self.state.copy(alloc)?;
+        let state = self.twin.state().copy(alloc)?;
         let outbox = copy_messages(alloc, self.outbox.as_slice())?;
         Ok(Gateway {
             alloc,
-            state,
+            twin: TwinState::new(state),
             outbox,
         })
     }

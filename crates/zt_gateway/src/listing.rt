@@ -9,7 +9,7 @@ use std::alloc::Global;
 use std::marker::Model;
 use zt_keys::{Key, Memory};
 use zt_region::{Region, WhatAmI, Zid};
-use zt_state::{FaceState, GatewayState, RoutedToken};
+use zt_state::{FaceState, GatewayState, RoutedToken, RowsById};
 use zt_tokens::is_router_region;
 
 // A declarer's token: what the declarer is listed as, its number and the expression.
@@ -70,17 +70,17 @@ fn add_live<K: Key>(
     alloc: Global,
     kind: WhatAmI,
     zid: Zid,
-    live: &[(u32, K)],
+    live: &RowsById<K>,
     rows: &mut Vec<SourcedToken<K>>,
 ) -> Result<(), Memory>
     ensures { OnOk result (rows.new.items
         ≡ rows.old.items ++ map (λ row. record { kind = kind; zid = zid; expr = row.1 }) live.now) }
 {
-    for row in live {
+    for (_, expr) in live.iter() {
         rows.push(SourcedToken {
             kind,
             zid,
-            expr: row.1.copy(alloc)?,
+            expr: expr.copy(alloc)?,
         })?;
     }
     Ok(())

@@ -141,10 +141,10 @@ impl<K: Key> Gateway<K> {
         ensures known { OnOk result (is_region_of self.now.rows.regions region ≡ true) }
         ensures sourced { IfOk result (λ found. plain_found found.items ≡ sourced K.cmp self.now.rows region) }
     {
-        if !is_region_of(self.state.regions(), region) {
+        if !is_region_of(self.twin.state().regions(), region) {
             return Err(CallError::Refused(Refusal::NoSuchRegion));
         }
-        match find_sources(alloc, &self.state, region) {
+        match find_sources(alloc, self.twin.state(), region) {
             Ok(found) => Ok(found),
             Err(Memory) => Err(CallError::Memory),
         }

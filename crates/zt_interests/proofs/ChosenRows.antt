@@ -30,6 +30,22 @@ pub chosen_done : {A B : Type 0} (p : A → Bool) (give : A → B) (xs : List A)
 chosen_done p give xs i before all past left =
     sym (append-nil before) ∙ ap (λ ys. before ++ all_chosen p give ys) (sym (drop_all i xs past)) ∙ left
 
+-- the same over a map's rows
+pub chosen_one_less : {A B : Type 0} (p : A → Bool) (give : A → B) (rest left : List A) (x : A) (before after all : List B)
+    → before ++ all_chosen p give rest ≡ all
+    → rest ≡ x ∷ left
+    → after ≡ before ++ chosen p give x
+    → after ++ all_chosen p give left ≡ all
+chosen_one_less p give rest left x before after all so_far first more =
+    ap (λ given. given ++ all_chosen p give left) more
+    ∙ append_assoc before (chosen p give x) (all_chosen p give left)
+    ∙ ap (λ given. before ++ given) (sym (chosen_first p give x left))
+    ∙ ap (λ ys. before ++ all_chosen p give ys) (sym first)
+    ∙ so_far
+
+pub chosen_all : {A B : Type 0} (p : A → Bool) (give : A → B) (rest : List A) (before all : List B) → rest ≡ [] → before ++ all_chosen p give rest ≡ all → before ≡ all
+chosen_all p give rest before all past left = sym (append-nil before) ∙ ap (λ ys. before ++ all_chosen p give ys) (sym past) ∙ left
+
 -- what rows give is sent to a face
 pub chosen_sends : {A B : Type 0} (p : A → Bool) (say : A → B) (n : ℕ) (xs : List A) → all_chosen {B = ℕ × B} p (λ x. (n, say x)) xs ≡ map (λ m. (n, m)) (all_chosen p say xs)
 chosen_sends p say n xs = sym (map-map (λ m. (n, m)) say (filter p xs))

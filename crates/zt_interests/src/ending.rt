@@ -1,5 +1,4 @@
 // How interests and asks end.
-ghost use Rattle.std.specs.Option.{option_copied};
 ghost use Rattle.std.specs.Prelude.{◌≡◌, ◌==◌, ◌&&◌, IfOk, length, map};
 ghost use Rattle.zt_model.specs.Lists.{at_id, is_some_and};
 ghost use Rattle.zt_model.specs.Parts.{to_face};
@@ -9,26 +8,14 @@ ghost use Rattle.zt_protocol.specs.Interest.{is_current, is_future};
 use std::alloc::Global;
 use zt_keys::{Key, Memory};
 use zt_protocol::{InterestId, Message};
-use zt_state::{AskState, FaceState, GatewayState, RemoteInterest};
+use zt_state::{FaceState, GatewayState, RemoteInterest};
 use zt_tokens::find_face;
-
-// The face's ask under this id.
-fn ask_at<'a, K: Key>(f: &'a FaceState<K>, id: InterestId) -> Option<&'a AskState<K>>
-    ensures { option_copied result ≡ at_id id f.now.asks }
-{
-    for row in f.asks() {
-        if id == row.0 {
-            return Some(&row.1);
-        }
-    }
-    None
-}
 
 // Whether the face has an ask under this id that was sent to nobody.
 fn asks_nobody<K: Key>(f: &FaceState<K>, id: InterestId) -> bool
     ensures { result ≡ is_some_and (at_id id f.now.asks) (λ ask. length ask.pendings == 0) }
 {
-    match ask_at(f, id) {
+    match f.asks().at(id) {
         None => false,
         Some(ask) => ask.pendings().is_empty(),
     }
@@ -71,7 +58,7 @@ pub fn final_of<K: Key>(
 fn asks_on<K: Key>(f: &FaceState<K>, id: InterestId) -> bool
     ensures { result ≡ is_some_and (at_id id f.now.asks) (λ ask. is_future ask.interest.mode) }
 {
-    match ask_at(f, id) {
+    match f.asks().at(id) {
         None => false,
         Some(ask) => ask.interest().mode().is_future(),
     }

@@ -16,7 +16,7 @@ use std::alloc::Global;
 use zt_keys::{Key, Memory};
 use zt_protocol::{InterestMode, Message, copy_expression};
 use zt_region::{Bound, WhatAmI};
-use zt_state::{FaceState, GatewayState, RemoteInterest};
+use zt_state::{FaceState, GatewayState, RemoteInterest, RowsById};
 use zt_tokens::{find_face, visible_expressions};
 
 // Whether the face, to the north of a client or a peer, is told of what is there.
@@ -43,17 +43,15 @@ fn insert_held<K: Key>(
 // Puts these interests in their places, asked for now and later.
 fn insert_rows<K: Key>(
     alloc: Global,
-    rows: &[(u32, RemoteInterest<K>)],
+    rows: &RowsById<RemoteInterest<K>>,
     interests: &mut Vec<RemoteInterest<K>>,
 ) -> Result<(), Memory>
     ensures { OnOk result (interests.new.items
         ≡ with_keys (interest_order K.cmp K.matching) (map (λ row. in_both row.1) rows.now)
         interests.old.items) }
 {
-    let mut left = rows.len();
-    while left > 0 {
-        left -= 1;
-        insert_held(alloc, &rows[left].1, interests)?;
+    for (_, interest) in rows.iter().rev() {
+        insert_held(alloc, interest, interests)?;
     }
     Ok(())
 }

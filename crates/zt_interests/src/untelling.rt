@@ -11,7 +11,7 @@ use std::alloc::Global;
 use zt_keys::{Key, Memory};
 use zt_protocol::Message;
 use zt_state::{FaceState, GatewayState};
-use zt_tokens::{find_face, insert_live, told_id, wants};
+use zt_tokens::{KeysInOrder, find_face, wants};
 
 // The expressions that the face was told, in key order, each once.
 #[tactic(auto, using(zt_tokens::proofs::Gathering::in_key_order_is))]
@@ -19,9 +19,11 @@ fn told_in_order<K: Key>(alloc: Global, f: &FaceState<K>) -> Result<Vec<K>, Memo
     ensures { IfOk result (λ exprs. exprs.items
         ≡ in_key_order K.cmp (map (λ row. row.1) f.now.told)) }
 {
-    let mut exprs = Vec::new(alloc);
-    insert_live(alloc, f.told(), &mut exprs)?;
-    Ok(exprs)
+    let mut exprs = KeysInOrder::new(alloc);
+    for (_, expr) in f.told().iter().rev() {
+        exprs.insert(alloc, expr)?;
+    }
+    exprs.into_vec(alloc)
 }
 
 // Adds that the expression is gone, where the face was told it and doesn't want it.
@@ -37,7 +39,7 @@ fn untell_one<K: Key>(
     if wants(f, expr) {
         return Ok(());
     }
-    match told_id(f.told(), expr) {
+    match f.told().id_of(expr) {
         None => Ok(()),
         Some(id) => {
             let message = Message::UndeclareToken {

@@ -1,10 +1,10 @@
 // An interest ends upstream, and the end of what was sent upstream ends asks.
-ghost use Rattle.std.specs.Prelude.{◌≡◌, ◌==◌, ◌&&◌, ◌++◌, IfOk, OnOk, map, not};
+ghost use Rattle.std.specs.Prelude.{◌≡◌, ℕ, ◌&&◌, ◌++◌, IfOk, OnOk, map, not};
 ghost use Rattle.std.specs.List.{list_any};
 ghost use Rattle.zt_interests.specs.Chosen.{all_chosen, chosen};
-ghost use Rattle.zt_model.specs.Lists.{has_id};
 ghost use Rattle.zt_model.specs.Routing.{asks_same, end_upstream, end_upstream_to, finish, finish_to};
 ghost use Rattle.zt_model.specs.Routing.{is_finished_by, is_held_south, stands};
+ghost use Rattle.zt_model.specs.Rows.{Ask, InterestRow};
 ghost use Rattle.zt_model.specs.Telling.{was_sent_as};
 ghost use Rattle.zt_region.specs.Region.{is_north};
 ghost use Rattle.zt_protocol.specs.declared.messages.Message.TheVariants as message;
@@ -13,21 +13,14 @@ use crate::routing::is_north;
 use std::alloc::Global;
 use zt_keys::{Key, Memory};
 use zt_protocol::{InterestId, Message};
-use zt_state::{AskState, FaceState, GatewayState, PendingInterest, RemoteInterest};
+use zt_state::{AskState, FaceState, GatewayState, RemoteInterest};
 use zt_tokens::find_face;
-
-// Whether the row asks for the same as the interest.
-fn is_same<K: Key>(row: &(u32, RemoteInterest<K>), interest: &RemoteInterest<K>) -> bool
-    ensures { result ≡ asks_same K.cmp K.matching interest.now row.now.1 }
-{
-    interest.asks_same(&row.1)
-}
 
 // Whether the face holds such an interest.
 fn holds<K: Key>(f: &FaceState<K>, interest: &RemoteInterest<K>) -> bool
     ensures { result ≡ list_any (λ row. asks_same K.cmp K.matching interest.now row.1) f.now.held }
 {
-    f.held().iter().any(|row| is_same(row, interest))
+    f.held().iter().any(|(_, held)| interest.asks_same(held))
 }
 
 // Whether the face, to the south, holds such an interest.
@@ -46,19 +39,20 @@ fn is_held_south<K: Key>(g: &GatewayState<K>, interest: &RemoteInterest<K>) -> b
     g.faces().iter().any(|f| holds_south(f, interest))
 }
 
-// Adds that the interest under the row's id ends at the face, where it asks for the same.
+// Adds that the interest under this id ends at the face, where it asks for the same.
 fn end_row<K: Key>(
     interest: &RemoteInterest<K>,
     f: &FaceState<K>,
-    row: &(u32, RemoteInterest<K>),
+    id: InterestId,
+    sent: &RemoteInterest<K>,
     sends: &mut Vec<(u32, Message<K>)>,
 ) -> Result<(), Memory>
     ensures { OnOk result (sends.new.items ≡ sends.old.items
-        ++ chosen (λ r. asks_same K.cmp K.matching interest.now r.1)
-        (λ r. (f.now.number, message.InterestFinal r.0)) row.now) }
+        ++ chosen (λ (r : ℕ × InterestRow K). asks_same K.cmp K.matching interest.now r.1)
+        (λ r. (f.now.number, message.InterestFinal r.0)) (id, sent.now)) }
 {
-    if is_same(row, interest) {
-        sends.push((f.number(), Message::InterestFinal { id: row.0 }))?;
+    if interest.asks_same(sent) {
+        sends.push((f.number(), Message::InterestFinal { id }))?;
     }
     Ok(())
 }
@@ -73,8 +67,8 @@ fn end_rows<K: Key>(
         ++ all_chosen (λ r. asks_same K.cmp K.matching interest.now r.1)
         (λ r. (f.now.number, message.InterestFinal r.0)) f.now.locals) }
 {
-    for row in f.locals() {
-        end_row(interest, f, row, sends)?;
+    for (id, sent) in f.locals().iter() {
+        end_row(interest, f, *id, sent, sends)?;
     }
     Ok(())
 }
@@ -122,27 +116,13 @@ pub fn end_upstream<K: Key>(
     Ok(sends)
 }
 
-// Whether the row stands under the id.
-fn is_under(row: &(u32, PendingInterest), id: u32) -> bool
-    ensures { result ≡ (id == row.now.0) }
-{
-    id == row.0
-}
-
-// Whether the face has such a pending.
-fn has_pending<K: Key>(f: &FaceState<K>, id: u32) -> bool
-    ensures { result ≡ has_id id f.now.pendings }
-{
-    f.pendings().iter().any(|row| is_under(row, id))
-}
-
 // Whether the pending stands: its face is open, and it is neither finalised nor expired.
 fn stands<K: Key>(g: &GatewayState<K>, pending: (u32, u32)) -> bool
     ensures { result ≡ stands g.now pending }
 {
     match find_face(g, pending.0) {
         None => false,
-        Some(f) => has_pending(f, pending.1),
+        Some(f) => f.pendings().has(pending.1),
     }
 }
 
@@ -160,33 +140,29 @@ fn waits<K: Key>(g: &GatewayState<K>, ask: &AskState<K>) -> bool
     ask.pendings().iter().any(|p| stands(g, *p))
 }
 
-// Whether the row's ask had this pending, and has none any more.
-fn is_finished_by<K: Key>(
-    g: &GatewayState<K>,
-    face: u32,
-    id: InterestId,
-    row: &(u32, AskState<K>),
-) -> bool
-    ensures { result ≡ is_finished_by g.now face id row.now.1 }
+// Whether the ask had this pending, and has none any more.
+fn is_finished_by<K: Key>(g: &GatewayState<K>, face: u32, id: InterestId, ask: &AskState<K>) -> bool
+    ensures { result ≡ is_finished_by g.now face id ask.now }
 {
-    was_sent_as(&row.1, face, id) && !waits(g, &row.1)
+    was_sent_as(ask, face, id) && !waits(g, ask)
 }
 
-// Adds the final of the row's ask, where that is finished.
+// Adds the final of the ask under an id, where it is finished.
 fn finish_row<K: Key>(
     g: &GatewayState<K>,
     face: u32,
     id: InterestId,
     f: &FaceState<K>,
-    row: &(u32, AskState<K>),
+    under: InterestId,
+    ask: &AskState<K>,
     sends: &mut Vec<(u32, Message<K>)>,
 ) -> Result<(), Memory>
     ensures { OnOk result (sends.new.items ≡ sends.old.items
-        ++ chosen (λ r. is_finished_by g.now face id r.1)
-        (λ r. (f.now.number, message.DeclareFinal r.0)) row.now) }
+        ++ chosen (λ (r : ℕ × Ask K). is_finished_by g.now face id r.1)
+        (λ r. (f.now.number, message.DeclareFinal r.0)) (under, ask.now)) }
 {
-    if is_finished_by(g, face, id, row) {
-        sends.push((f.number(), Message::DeclareFinal { interest_id: row.0 }))?;
+    if is_finished_by(g, face, id, ask) {
+        sends.push((f.number(), Message::DeclareFinal { interest_id: under }))?;
     }
     Ok(())
 }
@@ -202,8 +178,8 @@ fn finish_to<K: Key>(
     ensures { OnOk result (sends.new.items ≡ sends.old.items
         ++ map (λ m. (f.now.number, m)) (finish_to g.now face id f.now)) }
 {
-    for row in f.asks() {
-        finish_row(g, face, id, f, row, sends)?;
+    for (under, ask) in f.asks().iter() {
+        finish_row(g, face, id, f, *under, ask, sends)?;
     }
     Ok(())
 }

@@ -34,23 +34,6 @@ on_ok (Ok x) P Q f p = f p
 on_ok (Err e) P Q f p = tt
 
 module _ {K : Type 0} where
-  -- what waits where nothing is added
-  row_after_nothing : (taken : Option ℕ) (row : ℕ × List (Message K)) → row_after taken [] row ≡ taken_row taken row
-  unfolding printed_for
-  row_after_nothing taken row = ap (λ ms. ((taken_row taken row).0, ms)) (append-nil (taken_row taken row).1)
-
-  pub taken_waiting : (taken : Option ℕ) (s : Fabric K) → record s { waiting = map (row_after taken []) s.waiting } ≡ taken_by taken s
-  unfolding printed_for
-  taken_waiting taken s = ap (λ (rows : Queues K). record s { waiting = rows }) (map_alike (row_after taken []) (taken_row taken) s.waiting (each_always (λ row. row_after taken [] row ≡ taken_row taken row) (row_after_nothing taken) s.waiting)) ∙ cases taken
-    where
-      cases : (o : Option ℕ) → record s { waiting = map (taken_row o) s.waiting } ≡ taken_by o s
-      cases None = ap (λ (rows : Queues K). record s { waiting = rows }) (same s.waiting)
-        where
-          same : (rows : Queues K) → map (λ row. row) rows ≡ rows
-          same [] = refl
-          same (row ∷ rows) = ap (λ rest. row ∷ rest) (same rows)
-      cases (Some face) = refl
-
   -- nothing is added
   pub nothing_waits : (t : Fabric K) → with_waiting [] t ≡ t
   unfolding printed_for
@@ -64,6 +47,15 @@ module _ {K : Type 0} where
   pub waiting_after : (taken : Option ℕ) (ms : List (Sent K)) (s : Fabric K) → (with_waiting ms (taken_by taken s)).waiting ≡ map (row_after taken ms) s.waiting
   waiting_after None ms s = refl
   waiting_after (Some face) ms s = map-map (λ row. (row.0, row.1 ++ printed_for row.0 ms)) (taken_row (Some face)) s.waiting
+
+  -- taking and adding changes no gateway
+  pub rows_elsewhere : (taken : Option ℕ) (ms : List (Sent K)) (s : Fabric K) → (with_waiting ms (taken_by taken s)).gateways ≡ s.gateways
+  rows_elsewhere None ms s = refl
+  rows_elsewhere (Some face) ms s = refl
+
+  pub rows_turned : (taken : Option ℕ) (ms : List (Sent K)) (n : ℕ) (rows : Rows K) (s : Fabric K) → with_rows n (λ _. rows) (with_waiting ms (taken_by taken s)) ≡ record (with_rows n (λ _. rows) s) { waiting = (with_waiting ms (taken_by taken s)).waiting }
+  rows_turned None ms n rows s = refl
+  rows_turned (Some face) ms n rows s = refl
 
   -- a call at its gateway
   pub call_there : (s : Fabric K) (n : ℕ) (node : Node K) (c : PlainCall K) → nth n s.gateways ≡ Some node → call_at s n c ≡ Some (record { gateway = n; rows = node.rows; call = c })

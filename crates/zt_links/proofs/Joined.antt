@@ -70,6 +70,12 @@ module _ {K : Type 0} where
       cases (Ok given) is = ap (λ (o : Option (PlainCall K)). elim o [ None ↦ true | Some c ↦ opens_face c ]) (sym is)
       cases (Err e) is = cc
 
+  -- both gateways are there
+  pub known_by : (x y : Option (Node K)) (first : ℕ) (call : PlainCall K) → opening_call x y first ≡ Some call → (is_none x ≡ false) × (is_none y ≡ false)
+  known_by None y first call is = cc
+  known_by (Some a) None first call is = cc
+  known_by (Some a) (Some b) first call is = (refl, refl)
+
   called : (o : RegionAnswer) (b : Node K) (first : ℕ) → elim o [ Ok given ↦ false | Err e ↦ true ] ≡ false
       → ◌≡◌ {A = Option (PlainCall K)} (elim o [ Ok given ↦ Some (NewTransport b.rows.zid b.rows.mode given.0 given.1 first) | Err e ↦ None ]) None → ⊥
   called (Ok given) b first given_ none = cc

@@ -7,5 +7,7 @@ pub mod LinkCauses
 pub mod Joined
 pub mod Linked
 pub mod Members
+pub mod Placed
 pub mod Sorts
+pub mod Turned
 pub mod Walks

@@ -1,5 +1,6 @@
 -- The one call of a line, why a line is refused, and what waits after one.
-use Rattle.std.specs.Prelude.{ℕ, Bool, true, false, ◌==◌, ◌+◌, ◌&&◌, ◌||◌, not, nat_le, if◌then◌else◌, List, ◌++◌, length, Option, Some, None, Ok, Err, map}
+use Rattle.std.specs.Prelude.{ℕ, Bool, true, false, ◌==◌, ◌+◌, ◌-◌, ◌&&◌, ◌||◌, not, nat_le, if◌then◌else◌, List, [], ◌∷◌, ◌++◌, length, take, Option, Some, None, Ok, Err, map, filter}
+use Rattle.std.specs.List.{list_any}
 use Rattle.std.specs.declared.cmp.Ordering.{Ordering}
 use Rattle.zt_region.specs.declared.region.WhatAmI.{WhatAmI}
 use Rattle.zt_region.specs.declared.region.WhatAmI.TheVariants.{Client}
@@ -11,13 +12,15 @@ use Rattle.zt_protocol.specs.declared.entries.Sent.{Sent}
 use Rattle.zt_protocol.specs.declared.errors.Refusal.{Refusal}
 use Rattle.zt_protocol.specs.declared.errors.Refusal.TheVariants as refusal
 use Rattle.zt_protocol.specs.declared.messages.Message.{Message}
-use Rattle.zt_model.specs.Fabric.{CallAt, Fabric, Node, after_opening, built_causes, call_at, is_full, is_region_of, line_spends_ids, opened_at, printed_for, said_at, sorted_by_face, with_rows}
+use Rattle.zt_model.specs.Fabric.{CallAt, Fabric, Node, after_opening, at_nth, built_causes, call_at, is_full, is_region_of, line_spends_ids, opened_at, printed_for, said_at, sorted_by_face, with_rows}
 use Rattle.zt_model.specs.Journal.{cause_of}
 use Rattle.zt_model.specs.Linking.{climbs_to, end_region, is_answer, with_taken}
-use Rattle.zt_model.specs.Lists.{rest_of}
+use Rattle.zt_model.specs.Lists.{rest_of, without_id}
+use Rattle.zt_model.specs.Rows.{Rows}
 use Rattle.zt_model.specs.Refusals.{GREATEST_NUMBER, first_cause, is_north_taken}
 use Rattle.zt_model.specs.Strategy.{fits}
 use Rattle.zt_laws.specs.Sound.{rows_after_call}
+use Rattle.zt_queues.specs.Waiting.{with_printed}
 
 -- all lines of the grammar are built
 abbrev pub every_line : {K : Type 0} → PlainLine K → Bool
@@ -28,6 +31,26 @@ abbrev pub made_at : {K : Type 0} → Fabric K → Option (ℕ × PlainCall K) �
 made_at s None = None
 made_at s (Some made) = call_at s made.0 made.1
 
+-- the messages that are for neither of two faces
+abbrev pub for_others : {K : Type 0} → ℕ → ℕ → List (Sent K) → List (Sent K)
+for_others one two ms = filter (λ m. not (list_any (λ face. face == m.face) (one ∷ two ∷ []))) ms
+
+-- the link at a place is closed, what waits at its ends is dropped, and messages wait
+abbrev pub parted : {K : Type 0} → ℕ → ℕ → ℕ → List (Sent K) → Fabric K → Fabric K
+parted at one two ms s =
+    record s {
+      links = at_nth (at + 1) (λ l. record l { is_open = false }) s.links;
+      waiting = without_id one (without_id two (with_printed ms s.waiting));
+    }
+
+-- a link between two faces is put behind the others, and messages wait
+abbrev pub joined : {K : Type 0} → ℕ → ℕ → List (Sent K) → Fabric K → Fabric K
+joined one two ms s =
+    record s {
+      links = s.links ++ record { one = one; two = two; is_open = true } ∷ [];
+      waiting = with_printed ms s.waiting;
+    }
+
 -- what waits at an end of a link, where the oldest message of a face's is taken
 abbrev pub taken_row : {K : Type 0} → Option ℕ → ℕ × List (Message K) → ℕ × List (Message K)
 taken_row None row = row
@@ -36,6 +59,19 @@ taken_row (Some face) row = if face == row.0 then (row.0, rest_of row.1) else ro
 -- and messages are added behind the others
 abbrev pub row_after : {K : Type 0} → Option ℕ → List (Sent K) → ℕ × List (Message K) → ℕ × List (Message K)
 row_after taken ms row = let left = taken_row taken row in (left.0, left.1 ++ printed_for left.0 ms)
+
+-- the last place goes again, with what waits there
+abbrev pub without_last_place : {K : Type 0} → Fabric K → Fabric K
+without_last_place s = record s { faces = take (length s.faces - 1) s.faces; waiting = without_id (length s.faces) s.waiting }
+
+-- the last link goes again
+abbrev pub without_last_link : {K : Type 0} → Fabric K → Fabric K
+without_last_link s = record s { links = take (length s.links - 1) s.links }
+
+-- a gateway keeps again what it kept before, where it was changed
+abbrev pub undone : {K : Type 0} → Option (Rows K) → ℕ → Fabric K → Fabric K
+undone None n s = s
+undone (Some rows) n s = with_rows n (λ _. rows) s
 
 abbrev pub taken_by : {K : Type 0} → Option ℕ → Fabric K → Fabric K
 taken_by None s = s
@@ -88,6 +124,10 @@ module _ {K : Type 0} (cmp : K → K → Ordering) (matching : K → K → Bool)
   -- a face is opened at a gateway by a call, and hears what is said then
   abbrev pub opened_by_call : ℕ → PlainCall K → Fabric K → Fabric K
   opened_by_call n c s = after_opening cmp matching (call_at s n c) s
+
+  -- the face at an end of a link is opened
+  abbrev pub opened_end : ℕ → PlainCall K → Fabric K → Fabric K
+  opened_end n c s = record (opened_by_call n c s) { waiting = s.waiting ++ (length s.faces + 1, []) ∷ [] }
 
   abbrev pub said_by_opening : ℕ → PlainCall K → Fabric K → List (Sent K)
   said_by_opening n c s = said_at cmp matching (opened_at cmp matching (call_at s n c) s) (call_at s n c)

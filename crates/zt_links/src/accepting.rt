@@ -20,6 +20,7 @@ use zt_keys::{Key, Memory};
 use zt_protocol::{Line, Sent};
 use zt_region::{Admission, Region, SouthConf, WhatAmI, Zid};
 use zt_state::GatewayState;
+use zt_twins::TwinState;
 
 /// The face whose oldest message a delivery takes.
 pub(crate) fn taken_of<K: Key>(s: &FabricState<K>, link: u32, back: bool) -> Option<u32>
@@ -55,7 +56,7 @@ fn add_gateway<K: Key>(
     };
     let listed = Vec::from_slice(alloc, regions)?;
     s.push_gateway(NodeState {
-        rows: GatewayState::new(alloc, mode, zid, listed, timeout, admission),
+        twin: TwinState::new(GatewayState::new(alloc, mode, zid, listed, timeout, admission)),
         south: copy_south(alloc, south)?,
         name: copy_name(alloc, name)?,
     })

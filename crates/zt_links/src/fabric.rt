@@ -1,5 +1,5 @@
 //! A fabric of gateways and the links between them.
-ghost use Rattle.std.specs.Prelude.{◌≡◌, true, IfOk, IfSome, OnOk, OnErr};
+ghost use Rattle.std.specs.Prelude.{◌≡◌, true, IfOk, IfSome, OnErr};
 ghost use Rattle.zt_model.specs.Fabric.{after_refusal, call_of, empty_fabric, entry_of, fabric_after};
 ghost use Rattle.zt_protocol.specs.Plain.{plain_entry, plain_line};
 ghost use Rattle.zt_laws.specs.Order.{FabricIsInOrder};
@@ -62,23 +62,16 @@ impl<K: Key> Fabric<K> {
     }
 }
 
-/// What a refused line changes: a message whose call is refused has left its link. After want of memory
-/// nothing is changed.
-fn refuse<K: Key>(
-    alloc: Global,
-    s: &mut FabricState<K>,
-    line: &Line<K>,
-    refusal: Refusal,
-) -> Result<(), Memory>
-    ensures ok { OnOk result (s.new ≡ after_refusal K.cmp K.matching (plain_line line.now) refusal s.old) }
-    ensures err { OnErr result (s.new ≡ s.old) }
+/// What a refused line changes: a message whose call is refused has left its link.
+fn refuse<K: Key>(s: &mut FabricState<K>, line: &Line<K>, refusal: Refusal)
+    ensures { s.new ≡ after_refusal K.cmp K.matching (plain_line line.now) refusal s.old }
 {
     match line {
         Line::Step { link, back } if refusal.number() > 3 => {
             let taken = taken_of(s, *link, *back);
-            take_message(alloc, s, taken)
+            take_message(s, taken);
         }
-        _ => Ok(()),
+        _ => {}
     }
 }
 
@@ -119,7 +112,7 @@ fn carry_made<K: Key>(
 {
     match cause_of_line(alloc, s, line, made)? {
         Some(refusal) => {
-            refuse(alloc, s, line, refusal)?;
+            refuse(s, line, refusal);
             Ok(Entry {
                 outcome: Err(refusal),
             })

@@ -6,7 +6,6 @@ ghost use Rattle.zt_protocol.specs.Plain.{Link as LinkLine, plain_call};
 ghost use Rattle.zt_laws.specs.Order.{FabricIsInOrder};
 ghost use Rattle.zt_links.specs.Lines.{cause_of_line, opening_call};
 
-use crate::drafts::copy_fabric;
 use crate::linking::{end_call, end_region, make_link};
 use crate::places::member_at;
 use crate::state::FabricState;
@@ -60,8 +59,5 @@ pub(crate) fn link<K: Key>(
     let Some(answer) = opening_call(alloc, s, two, one, back)? else {
         unreachable!();
     };
-    let mut draft = copy_fabric(alloc, s)?;
-    let sent = make_link(alloc, &mut draft, one, &forth, two, &answer)?;
-    *s = draft;
-    Ok(sent)
+    make_link(alloc, s, one, &forth, two, &answer)
 }

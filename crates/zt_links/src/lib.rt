@@ -6,7 +6,6 @@ mod calls;
 mod causes;
 mod copying;
 mod deciding;
-mod drafts;
 mod ends;
 mod fabric;
 mod joining;
@@ -16,9 +15,9 @@ mod links;
 mod making;
 mod places;
 mod printing;
-mod queues;
 mod sorting;
 mod state;
+mod turning;
 mod unlinking;
 
 pub use fabric::Fabric;

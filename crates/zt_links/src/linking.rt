@@ -1,26 +1,26 @@
 // The two ends of a link: the regions of their faces, and the calls that open them.
-ghost use Rattle.std.specs.Prelude.{◌≡◌, ◌<◌, ◌^◌, ◌&&◌, ◌||◌, ◌+◌, ◌++◌, true, map, Some, None, Ok, Err, IfOk, OnOk, option_map};
-ghost use Rattle.zt_model.specs.Fabric.{after_opening, call_at, opened_at, said_at, sorted_by_face};
+ghost use Rattle.std.specs.Prelude.{◌≡◌, ◌<◌, ◌^◌, ◌&&◌, ◌||◌, ◌+◌, ◌++◌, false, true, map, Some, None, Ok, Err, IfOk, OnErr, OnOk, option_map};
+ghost use Rattle.zt_model.specs.Fabric.{call_at, is_unknown_gateway, sorted_by_face};
 ghost use Rattle.zt_laws.specs.Order.{FabricIsInOrder};
-ghost use Rattle.zt_laws.specs.Sound.{opens_face};
+ghost use Rattle.zt_laws.specs.Sound.{opens_face, rows_after_call};
 ghost use Rattle.std.specs.Option.{option_copied};
 ghost use Rattle.zt_region.specs.Region.{is_north};
 ghost use Rattle.zt_protocol.specs.Plain.{NewTransport, plain_call};
 ghost use Rattle.zt_region.specs.South.{plain_peer, plain_south, subregion_count};
-ghost use Rattle.zt_links.specs.Lines.{agreed, opened_by_call, row_after, said_by_opening};
+ghost use Rattle.zt_links.specs.Lines.{agreed, joined, opened_by_call, opened_end, row_after, said_by_opening, undone, without_last_place};
 ghost use Rattle.zt_model.specs.Linking.{climbs_to, with_link, end_region, gateway_above, gateway_beyond, is_end_of, peer_of};
-ghost use Rattle.zt_model.specs.Lists.{first_where, is_some_and};
+ghost use Rattle.zt_model.specs.Lists.{first_where, is_some_and, nth};
 ghost use Rattle.zt_model.specs.Refusals.{spends_ids};
 
 use crate::copying::copy_name;
-use crate::drafts::copy_fabric;
 use crate::links::is_end_of;
-use crate::making::{next_face, prepare};
+use crate::making::next_face;
 use crate::places::{member_at, number_of_place, place_of_number};
-use crate::queues::queues_after;
 use crate::sorting::sort_by_face;
 use crate::state::{FabricState, LinkState, NodeState};
+use crate::turning::{Turned, hear_call, undo_opening};
 use std::alloc::Global;
+use zt_calls::carry_out;
 use zt_causes::spends_ids;
 use zt_keys::{Key, Memory};
 use zt_protocol::{Call, Sent};
@@ -28,15 +28,15 @@ use zt_region::{
     Bound, Region, RegionError, SouthConf, TransportPeer, WhatAmI, compute_region_of,
     compute_transient_bound_of,
 };
-use zt_state::FaceState;
+use zt_state::{FaceState, GatewayState};
 
 /// A gateway as the other end of a link sees it. The only error is want of memory.
 fn peer_of<K: Key>(alloc: Global, node: &NodeState<K>) -> Result<TransportPeer, Memory>
     ensures { IfOk result (λ peer. plain_peer peer ≡ peer_of node.now) }
 {
     Ok(TransportPeer {
-        zid: node.rows.zid(),
-        whatami: node.rows.mode(),
+        zid: node.rows().zid(),
+        whatami: node.rows().mode(),
         links: Vec::new(alloc),
         region_name: copy_name(alloc, &node.name)?,
     })
@@ -107,8 +107,8 @@ pub(crate) fn end_call<K: Key>(
 {
     match answer {
         Ok((region, remote_bound)) => Some(Call::NewTransport {
-            zid: other.rows.zid(),
-            whatami: other.rows.mode(),
+            zid: other.rows().zid(),
+            whatami: other.rows().mode(),
             region: *region,
             remote_bound: *remote_bound,
             first,
@@ -193,29 +193,33 @@ pub(crate) fn climbs_to<K: Key>(
     Ok(at == to)
 }
 
-/// Opens the face at an end of a link; answers what is said then. After want of memory the fabric is to be
-/// dropped.
+/// Opens the face at an end of a link, whose gateway exists. After want of memory nothing is changed.
 fn open_end<K: Key>(
     alloc: Global,
     s: &mut FabricState<K>,
     gateway: u32,
     call: &Call<K>,
-) -> Result<Vec<Sent<K>>, Memory>
+) -> Result<Turned<K>, Memory>
     requires opens { opens_face (plain_call call.now) ≡ true }
+    requires there { is_unknown_gateway s.old gateway ≡ false }
     requires order { FabricIsInOrder K.cmp K.matching s.old }
-    ensures says { IfOk result (λ sent. sent.items
-        ≡ said_at K.cmp K.matching (opened_at K.cmp K.matching (call_at s.old gateway (plain_call call.now)) s.old) (call_at s.old gateway (plain_call call.now))) }
-    ensures does { OnOk result (s.new
-        ≡ after_opening K.cmp K.matching (call_at s.old gateway (plain_call call.now)) s.old) }
+    ensures says { IfOk result (λ turned. turned.printed.items
+        ≡ said_by_opening K.cmp K.matching gateway (plain_call call.now) s.old) }
+    ensures does { OnOk result (s.new ≡ opened_end K.cmp K.matching gateway (plain_call call.now) s.old) }
+    ensures back { IfOk result (λ turned.
+        without_last_place (undone turned.former turned.gateway s.new) ≡ s.old) }
+    ensures err { OnErr result (s.new ≡ s.old) }
 {
-    match place_of_number(s.gateways(), gateway) {
-        None => Ok(Vec::new(alloc)),
-        Some(at) => {
-            let face = next_face(s.gateways()[at].rows())?;
-            s.push_place(gateway, face)?;
-            let prepared = prepare(alloc, s, at, gateway, call)?;
-            let _ = s.put_rows(at, prepared.rows);
-            Ok(prepared.printed)
+    let Some(at) = place_of_number(s.gateways(), gateway) else {
+        unreachable!();
+    };
+    let face = next_face(s.gateways()[at].rows())?;
+    s.push_end(alloc, gateway, face)?;
+    match hear_call(alloc, s, gateway, call) {
+        Ok(turned) => Ok(turned),
+        Err(error) => {
+            s.pop_place();
+            Err(error)
         }
     }
 }
@@ -230,8 +234,63 @@ fn next_number(count: usize) -> Result<u32, Memory>
     Ok(count as u32 + 1)
 }
 
+/// Makes a link between two faces that are open, and what is said then waits. After want of memory nothing is
+/// changed.
+fn join<K: Key>(
+    alloc: Global,
+    s: &mut FabricState<K>,
+    face: u32,
+    other: u32,
+    mut first: Vec<Sent<K>>,
+    mut second: Vec<Sent<K>>,
+) -> Result<Vec<Sent<K>>, Memory>
+    ensures says { IfOk result (λ sent. sent.items ≡ sorted_by_face (first.items ++ second.items)) }
+    ensures does { IfOk result (λ sent. s.new ≡ joined face other sent.items s.old) }
+    ensures err { OnErr result (s.new ≡ s.old) }
+{
+    first.append(&mut second)?;
+    let sent = sort_by_face(alloc, first)?;
+    s.push_link(face, other)?;
+    match s.turn_waiting(alloc, None, sent.as_slice()) {
+        Ok(()) => Ok(sent),
+        Err(error) => {
+            s.pop_link();
+            Err(error)
+        }
+    }
+}
+
+/// Opens the second face of a link, and makes the link. After want of memory nothing is changed.
+fn open_other<K: Key>(
+    alloc: Global,
+    s: &mut FabricState<K>,
+    face: u32,
+    other: u32,
+    gateway: u32,
+    call: &Call<K>,
+    first: Vec<Sent<K>>,
+) -> Result<Vec<Sent<K>>, Memory>
+    requires opens { opens_face (plain_call call.now) ≡ true }
+    requires there { is_unknown_gateway s.old gateway ≡ false }
+    requires order { FabricIsInOrder K.cmp K.matching s.old }
+    ensures says { IfOk result (λ sent. sent.items ≡ sorted_by_face
+        (first.items ++ said_by_opening K.cmp K.matching gateway (plain_call call.now) s.old)) }
+    ensures does { IfOk result (λ sent. s.new
+        ≡ joined face other sent.items (opened_end K.cmp K.matching gateway (plain_call call.now) s.old)) }
+    ensures err { OnErr result (s.new ≡ s.old) }
+{
+    let turned = open_end(alloc, s, gateway, call)?;
+    match join(alloc, s, face, other, first, turned.printed) {
+        Ok(sent) => Ok(sent),
+        Err(error) => {
+            undo_opening(s, turned.gateway, turned.former);
+            Err(error)
+        }
+    }
+}
+
 /// Opens the faces of a link between two gateways, one after the other, and makes the link. After want of
-/// memory the fabric is to be dropped.
+/// memory nothing is changed.
 pub(crate) fn make_link<K: Key>(
     alloc: Global,
     s: &mut FabricState<K>,
@@ -242,6 +301,8 @@ pub(crate) fn make_link<K: Key>(
 ) -> Result<Vec<Sent<K>>, Memory>
     requires opens_forth { opens_face (plain_call forth.now) ≡ true }
     requires opens_back { opens_face (plain_call back.now) ≡ true }
+    requires there_one { is_unknown_gateway s.old one ≡ false }
+    requires there_two { is_unknown_gateway s.old two ≡ false }
     requires order { FabricIsInOrder K.cmp K.matching s.old }
     requires order_between { FabricIsInOrder K.cmp K.matching (opened_by_call K.cmp K.matching one (plain_call forth.now) s.old) }
     ensures says { IfOk result (λ sent. sent.items ≡ sorted_by_face
@@ -250,17 +311,18 @@ pub(crate) fn make_link<K: Key>(
     ensures does { IfOk result (λ sent. s.new ≡ record
         (opened_by_call K.cmp K.matching two (plain_call back.now) (opened_by_call K.cmp K.matching one (plain_call forth.now) s.old))
         { links = (with_link s.old).links; waiting = map (row_after None sent.items) (with_link s.old).waiting }) }
+    ensures err { OnErr result (s.new ≡ s.old) }
 {
     let face = next_number(s.places().len())?;
     let other = next_number(face as usize)?;
-    let mut printed = open_end(alloc, s, one, forth)?;
-    let mut second = open_end(alloc, s, two, back)?;
-    printed.append(&mut second)?;
-    let sent = sort_by_face(alloc, printed)?;
-    s.push_link(alloc, face, other)?;
-    let waiting = queues_after(alloc, s.waiting(), None, sent.as_slice())?;
-    s.put_waiting(waiting);
-    Ok(sent)
+    let turned = open_end(alloc, s, one, forth)?;
+    match open_other(alloc, s, face, other, two, back, turned.printed) {
+        Ok(sent) => Ok(sent),
+        Err(error) => {
+            undo_opening(s, turned.gateway, turned.former);
+            Err(error)
+        }
+    }
 }
 
 /// Whether a call needs more ids than are left, where its gateway exists.
@@ -275,6 +337,44 @@ fn spends_at<K: Key>(
     match member_at(s.gateways(), gateway) {
         None => Ok(false),
         Some(node) => spends_ids(alloc, node.rows(), call),
+    }
+}
+
+/// A gateway's rows after a call that opens a face. The only error is want of memory; that the face has no
+/// number counts as such.
+fn rows_behind<K: Key>(
+    alloc: Global,
+    rows: &GatewayState<K>,
+    call: &Call<K>,
+) -> Result<GatewayState<K>, Memory>
+    ensures { IfOk result (λ after. after
+        ≡ rows_after_call K.cmp K.matching (plain_call call.now) rows.now) }
+{
+    if rows.made() == u32::MAX {
+        return Err(Memory);
+    }
+    let mut after = rows.copy(alloc)?;
+    let _ = carry_out(alloc, &mut after, call)?;
+    Ok(after)
+}
+
+/// Whether a call needs more ids than are left behind another one at the same gateway, where that exists.
+fn spends_behind<K: Key>(
+    alloc: Global,
+    s: &FabricState<K>,
+    gateway: u32,
+    forth: &Call<K>,
+    back: &Call<K>,
+) -> Result<bool, Memory>
+    ensures { IfOk result (λ spends. spends ≡ is_some_and (nth gateway s.now.gateways) (λ node.
+        spends_ids K.cmp K.matching (plain_call back.now) (rows_after_call K.cmp K.matching (plain_call forth.now) node.rows))) }
+{
+    match member_at(s.gateways(), gateway) {
+        None => Ok(false),
+        Some(node) => {
+            let rows = rows_behind(alloc, node.rows(), forth)?;
+            spends_ids(alloc, &rows, back)
+        }
     }
 }
 
@@ -297,7 +397,8 @@ pub(crate) fn spends_for_link<K: Key>(
     if spends_at(alloc, s, one, forth)? {
         return Ok(true);
     }
-    let mut draft = copy_fabric(alloc, s)?;
-    let _ = open_end(alloc, &mut draft, one, forth)?;
-    spends_at(alloc, &draft, two, back)
+    if one == two {
+        return spends_behind(alloc, s, two, forth, back);
+    }
+    spends_at(alloc, s, two, back)
 }

@@ -2,10 +2,10 @@
 ghost use Rattle.std.specs.Prelude.{◌≡◌, Some};
 ghost use Rattle.std.specs.Option.{option_copied};
 ghost use Rattle.zt_model.specs.Fabric.{is_linked_face, is_open_link};
-ghost use Rattle.zt_model.specs.Linking.{is_end_of, oldest, sending_end, speaking_end, waiting_of};
+ghost use Rattle.zt_model.specs.Linking.{is_end_of, oldest, sending_end, speaking_end};
 
 use crate::places::member_at;
-use crate::state::{FabricState, LinkState, QueueState};
+use crate::state::{FabricState, LinkState};
 use zt_keys::Key;
 use zt_protocol::Message;
 
@@ -23,25 +23,6 @@ pub(crate) fn speaking_end(link: &LinkState, back: bool) -> u32
     if back { link.one } else { link.two }
 }
 
-/// The messages of a queue.
-fn messages_of<K: Key>(queue: &QueueState<K>) -> &[Message<K>]
-    ensures { result.now ≡ queue.now.1 }
-{
-    queue.messages.as_slice()
-}
-
-/// The messages that wait for the other end of a face's link, oldest first.
-fn waiting_of<K: Key>(s: &FabricState<K>, face: u32) -> &[Message<K>]
-    ensures { result.now ≡ waiting_of s.now face }
-{
-    for queue in &s.waiting {
-        if face == queue.face {
-            return messages_of(queue);
-        }
-    }
-    &[]
-}
-
 /// The oldest message that waits in a direction of a link.
 pub(crate) fn oldest<'a, K: Key>(
     s: &'a FabricState<K>,
@@ -50,10 +31,7 @@ pub(crate) fn oldest<'a, K: Key>(
 ) -> Option<&'a Message<K>>
     ensures { option_copied result ≡ oldest s.now link.now back }
 {
-    match waiting_of(s, sending_end(link, back)) {
-        [first, ..] => Some(first),
-        [] => None,
-    }
+    s.first_waiting(sending_end(link, back))
 }
 
 /// Whether a link exists and is open.

@@ -3,7 +3,6 @@ ghost use Rattle.std.specs.Prelude.{◌≡◌, ◌+◌, ◌<◌, true, false, []
 ghost use Rattle.zt_model.specs.Fabric.{after_hearing, altered_at, call_at, opened_at, said_at, sorted_by_face, with_place, with_waiting};
 ghost use Rattle.zt_model.specs.Lists.{nth};
 ghost use Rattle.zt_model.specs.Places.{Node};
-ghost use Rattle.zt_model.specs.Says.{said};
 ghost use Rattle.zt_protocol.specs.Plain.{plain_call};
 ghost use Rattle.zt_laws.specs.Order.{FabricIsInOrder};
 ghost use Rattle.zt_laws.specs.Sound.{opens_face, rows_after_call};
@@ -12,21 +11,12 @@ ghost use Rattle.zt_links.specs.Lines.{carried, made_at, said_sorted, taken_by};
 use crate::calls::CallMade;
 use crate::places::place_of_number;
 use crate::printing::print_all;
-use crate::queues::queues_after;
 use crate::sorting::sort_by_face;
 use crate::state::FabricState;
 use std::alloc::Global;
-use zt_calls::carry_out;
 use zt_keys::{Key, Memory};
-use zt_protocol::{Call, Message, Sent};
+use zt_protocol::{Call, Sent};
 use zt_state::GatewayState;
-
-/// A gateway after a call, and what the call says.
-#[derive(Drop)]
-struct Called<K: Key> {
-    rows: GatewayState<K>,
-    sends: Vec<(u32, Message<K>)>,
-}
 
 /// A gateway after a call, and what the call says as it is printed.
 #[derive(Drop)]
@@ -35,68 +25,35 @@ pub(crate) struct Prepared<K: Key> {
     pub(crate) printed: Vec<Sent<K>>,
 }
 
-fn opens_face<K: Key>(call: &Call<K>) -> bool
-    ensures { result ≡ opens_face (plain_call call.now) }
+/// The oldest message of a face's link is taken, where one is named.
+pub(crate) fn take_message<K: Key>(s: &mut FabricState<K>, taken: Option<u32>)
+    ensures { s.new ≡ taken_by taken s.old }
 {
-    matches!(call, Call::NewSession { .. } | Call::NewTransport { .. })
-}
-
-/// Carries out a call on a copy of its gateway.
-fn call_on_copy<K: Key>(
-    alloc: Global,
-    g: &GatewayState<K>,
-    call: &Call<K>,
-) -> Result<Called<K>, Memory>
-    ensures rows { IfOk result (λ called. called.rows
-        ≡ rows_after_call K.cmp K.matching (plain_call call.now) g.now) }
-    ensures sends { IfOk result (λ called. called.sends.items
-        ≡ said K.cmp K.matching (plain_call call.now) g.now) }
-{
-    // A face has a place, and there are fewer places than numbers: this is never so.
-    if opens_face(call) && g.made() == u32::MAX {
-        return Err(Memory);
+    if let Some(face) = taken {
+        s.take_waiting(face);
     }
-    let mut rows = g.copy(alloc)?;
-    let sends = carry_out(alloc, &mut rows, call)?;
-    Ok(Called { rows, sends })
 }
 
-/// The oldest message of a face's link is taken. After want of memory nothing is changed.
-pub(crate) fn take_message<K: Key>(
-    alloc: Global,
-    s: &mut FabricState<K>,
-    taken: Option<u32>,
-) -> Result<(), Memory>
-    ensures ok { OnOk result (s.new ≡ taken_by taken s.old) }
-    ensures err { OnErr result (s.new ≡ s.old) }
-{
-    if taken.is_some() {
-        let nothing = Vec::new(alloc);
-        let waiting = queues_after(alloc, s.waiting(), taken, nothing.as_slice())?;
-        s.put_waiting(waiting);
-    }
-    Ok(())
-}
-
-/// Carries out a call on a copy of the gateway of a number.
+/// Carries out a call beside the gateway of a number, and nothing is changed.
 pub(crate) fn prepare<K: Key>(
     alloc: Global,
-    s: &FabricState<K>,
+    s: &mut FabricState<K>,
     at: usize,
     gateway: u32,
     call: &Call<K>,
 ) -> Result<Prepared<K>, Memory>
-    requires within { at < length s.now.gateways }
+    requires within { at < length s.old.gateways }
     requires counted { gateway ≡ at + 1 }
-    ensures rows { IfOk result (λ prepared. (node : Node K) → nth gateway s.now.gateways ≡ Some node
+    ensures rows { IfOk result (λ prepared. (node : Node K) → nth gateway s.old.gateways ≡ Some node
         → prepared.rows ≡ rows_after_call K.cmp K.matching (plain_call call.now) node.rows) }
     ensures printed { IfOk result (λ prepared. prepared.printed.items
-        ≡ said_at K.cmp K.matching s.now (call_at s.now gateway (plain_call call.now))) }
+        ≡ said_at K.cmp K.matching s.old (call_at s.old gateway (plain_call call.now))) }
+    ensures same { s.new ≡ s.old }
 {
-    let called = call_on_copy(alloc, s.gateways()[at].rows(), call)?;
-    let printed = print_all(alloc, s.places(), gateway, called.sends)?;
+    let ahead = s.prepare_at(alloc, at, call)?;
+    let printed = print_all(alloc, s.places(), gateway, ahead.said)?;
     Ok(Prepared {
-        rows: called.rows,
+        rows: ahead.state,
         printed,
     })
 }
@@ -120,9 +77,8 @@ pub(crate) fn carry_at<K: Key>(
 {
     let prepared = prepare(alloc, s, at, gateway, call)?;
     let sent = sort_by_face(alloc, prepared.printed)?;
-    let waiting = queues_after(alloc, s.waiting(), taken, sent.as_slice())?;
-    let _ = s.put_rows(at, prepared.rows);
-    s.put_waiting(waiting);
+    s.turn_waiting(alloc, taken, sent.as_slice())?;
+    s.commit_at(alloc, at, prepared.rows, call);
     Ok(sent)
 }
 
@@ -144,12 +100,12 @@ pub(crate) fn make_call<K: Key>(
     ensures err { OnErr result (s.new ≡ s.old) }
 {
     let Some(made) = made else {
-        take_message(alloc, s, taken)?;
+        take_message(s, taken);
         return Ok(Vec::new(alloc));
     };
     match place_of_number(s.gateways(), made.gateway) {
         None => {
-            take_message(alloc, s, taken)?;
+            take_message(s, taken);
             Ok(Vec::new(alloc))
         }
         Some(at) => carry_at(alloc, s, taken, at, made.gateway, &made.call),
@@ -181,7 +137,7 @@ fn open_at<K: Key>(
     ensures err { OnErr result (s.new ≡ s.old) }
 {
     let face = next_face(s.gateways()[at].rows())?;
-    s.push_place(gateway, face)?;
+    s.push_place(alloc, gateway, face)?;
     match carry_at(alloc, s, None, at, gateway, call) {
         Ok(sent) => Ok(sent),
         Err(error) => {

@@ -1,22 +1,30 @@
 // What a fabric keeps: gateways, the places of their faces, links, and what waits on them.
-ghost use Rattle.std.specs.Prelude.{◌≡◌, ◌+◌, ◌<◌, ◌++◌, [], ◌∷◌, false, true, Some, length, vec_len, OnOk, OnErr};
-ghost use Rattle.zt_model.specs.Fabric.{at_nth, empty_fabric, with_gateway, with_rows};
-ghost use Rattle.zt_model.specs.Lists.{nth};
+ghost use Rattle.std.specs.Prelude.{◌≡◌, ◌+◌, ◌-◌, ◌<◌, ◌++◌, [], ◌∷◌, false, true, None, Some, if◌then◌else◌, length, take, vec_len, IfOk, OnOk, OnErr};
+ghost use Rattle.std.specs.Option.{option_copied};
+ghost use Rattle.zt_model.specs.Fabric.{at_nth, empty_fabric, with_gateway, with_rows, with_waiting};
+ghost use Rattle.zt_model.specs.Linking.{with_taken};
+ghost use Rattle.zt_model.specs.Lists.{nth, without_id};
+ghost use Rattle.zt_links.specs.Lines.{taken_by, without_last_link, without_last_place};
+ghost use Rattle.zt_queues.specs.Waiting.{first_waiting};
 ghost use Rattle.zt_region.specs.South.{plain_south as plain_south_of};
-ghost use Rattle.zt_model.specs.Places.{Fabric as FabricValue, Node, Place};
+ghost use Rattle.zt_model.specs.Places.{Node};
+ghost use Rattle.zt_model.specs.Says.{said};
+ghost use Rattle.zt_protocol.specs.Plain.{plain_call};
+ghost use Rattle.zt_laws.specs.Sound.{rows_after_call};
 
 use std::alloc::Global;
 use std::marker::Model;
-use std::mem;
 use zt_keys::{Key, Memory};
-use zt_protocol::Message;
+use zt_protocol::{Call, Message, Sent};
+use zt_queues::Queues;
 use zt_region::SouthConf;
 use zt_state::GatewayState;
+use zt_twins::{Ahead, TwinState};
 
 /// A gateway with what its links are made by: its configuration of the south, and its name.
 #[derive(Drop)]
 pub(crate) struct NodeState<K: Key> {
-    pub(crate) rows: GatewayState<K>,
+    pub(crate) twin: TwinState<K>,
     pub(crate) south: SouthConf,
     pub(crate) name: Option<String>,
 }
@@ -28,7 +36,7 @@ impl<K: Key> Model for NodeState<K> {
 
     ghost Value = { Node K };
 
-    ghost view = { λ n. record { rows = n.rows; south = plain_south n.south; name = option_map string_bytes n.name } };
+    ghost view = { λ n. record { rows = n.twin; south = plain_south n.south; name = option_map string_bytes n.name } };
 }
 
 impl<K: Key> NodeState<K> {
@@ -36,7 +44,7 @@ impl<K: Key> NodeState<K> {
     pub(crate) fn rows(&self) -> &GatewayState<K>
         ensures { result.now ≡ self.now.rows }
     {
-        &self.rows
+        self.twin.state()
     }
 
     /// The configuration of the south.
@@ -78,22 +86,6 @@ impl Model for LinkState {
     ghost view = { λ l. record { one = l.one; two = l.two; is_open = l.is_open } };
 }
 
-/// What waits, from a face that ends a link, for the other end, oldest first.
-#[derive(Drop)]
-pub(crate) struct QueueState<K: Key> {
-    pub(crate) face: u32,
-    pub(crate) messages: Vec<Message<K>>,
-}
-
-impl<K: Key> Model for QueueState<K> {
-    ghost use Rattle.std.specs.Prelude.{ℕ, List};
-    ghost use Rattle.zt_protocol.specs.declared.messages.Message.{Message as MessageValue};
-
-    ghost Value = { ℕ × List (MessageValue K) };
-
-    ghost view = { λ q. (q.face, q.messages.items) };
-}
-
 /// Gateways, the places of all faces, the links and what waits on them, each numbered from 1 in order
 /// of making.
 #[derive(Drop)]
@@ -101,11 +93,14 @@ pub(crate) struct FabricState<K: Key> {
     pub(crate) gateways: Vec<NodeState<K>>,
     pub(crate) places: Vec<PlaceState>,
     pub(crate) links: Vec<LinkState>,
-    pub(crate) waiting: Vec<QueueState<K>>,
+    // What waits at each place.
+    pub(crate) queues: Queues<K>,
 }
 
 impl<K: Key> Model for FabricState<K> {
+    ghost use Rattle.std.specs.Prelude.{◌≡◌, length};
     ghost use Rattle.zt_model.specs.Places.{Fabric as FabricValue};
+    ghost use Rattle.zt_queues.specs.Waiting.{waiting_from};
 
     ghost Value = { FabricValue K };
 
@@ -113,8 +108,10 @@ impl<K: Key> Model for FabricState<K> {
       gateways = s.gateways.items;
       faces = s.places.items;
       links = s.links.items;
-      waiting = s.waiting.items;
+      waiting = waiting_from 1 s.queues;
     } };
+
+    ghost invariant = { λ s. length s.queues ≡ length s.places.items };
 }
 
 impl<K: Key> FabricState<K> {
@@ -126,7 +123,7 @@ impl<K: Key> FabricState<K> {
             gateways: Vec::new(alloc),
             places: Vec::new(alloc),
             links: Vec::new(alloc),
-            waiting: Vec::new(alloc),
+            queues: Queues::new(alloc),
         }
     }
 
@@ -151,11 +148,44 @@ impl<K: Key> FabricState<K> {
         self.links.as_slice()
     }
 
-    /// What waits.
-    pub(crate) fn waiting(&self) -> &[QueueState<K>]
-        ensures { result.now ≡ self.now.waiting }
+    /// The oldest message that waits, from a face that ends a link, for the other end.
+    pub(crate) fn first_waiting(&self, face: u32) -> Option<&Message<K>>
+        ensures { option_copied result ≡ first_waiting face self.now.waiting }
     {
-        self.waiting.as_slice()
+        self.queues.first(face)
+    }
+
+    /// Carries a call out beside a gateway, which is unchanged.
+    pub(crate) fn prepare_at(
+        &mut self,
+        alloc: Global,
+        at: usize,
+        call: &Call<K>,
+    ) -> Result<Ahead<K>, Memory>
+        requires { at < length self.old.gateways }
+        ensures state { IfOk result (λ ahead. (node : Node K) → nth (at + 1) self.old.gateways ≡ Some node
+            → ahead.state ≡ rows_after_call K.cmp K.matching (plain_call call.now) node.rows) }
+        ensures said { IfOk result (λ ahead. (node : Node K) → nth (at + 1) self.old.gateways ≡ Some node
+            → ahead.said.items ≡ said K.cmp K.matching (plain_call call.now) node.rows) }
+        ensures same { self.new ≡ self.old }
+    {
+        prepare_in(alloc, &mut self.gateways, at, call)
+    }
+
+    /// A gateway keeps the rows that a call leaves which was carried out beside it.
+    pub(crate) fn commit_at(
+        &mut self,
+        alloc: Global,
+        at: usize,
+        rows: GatewayState<K>,
+        call: &Call<K>,
+    )
+        requires within { at < length self.old.gateways }
+        requires after { (node : Node K) → nth (at + 1) self.old.gateways ≡ Some node
+            → rows ≡ rows_after_call K.cmp K.matching (plain_call call.now) node.rows }
+        ensures { self.new ≡ with_rows (at + 1) (λ _. rows) self.old }
+    {
+        commit_in(alloc, &mut self.gateways, at, rows, call);
     }
 
     /// A gateway's rows are replaced; answers the former ones.
@@ -177,39 +207,75 @@ impl<K: Key> FabricState<K> {
     }
 
     /// A place is put behind the others. After want of memory nothing is changed.
-    pub(crate) fn push_place(&mut self, gateway: u32, face: u32) -> Result<(), Memory>
+    pub(crate) fn push_place(
+        &mut self,
+        alloc: Global,
+        gateway: u32,
+        face: u32,
+    ) -> Result<(), Memory>
         ensures ok { OnOk result (self.new
             ≡ record self.old { faces = self.old.faces ++ record { gateway = gateway; face = face } ∷ [] }) }
+        ensures back { OnOk result (without_last_place self.new ≡ self.old) }
         ensures err { OnErr result (self.new ≡ self.old) }
     {
-        self.places.push(PlaceState { gateway, face })?;
-        Ok(())
+        push_both(
+            alloc,
+            &mut self.places,
+            &mut self.queues,
+            gateway,
+            face,
+            false,
+        )
     }
 
-    /// The last place is taken away again.
-    pub(crate) fn pop_place(&mut self)
-        ensures { (before : FabricValue K) (place : Place)
-            → self.old ≡ record before { faces = before.faces ++ place ∷ [] } → self.new ≡ before }
-    {
-        let _ = self.places.pop();
-    }
-
-    /// An open link between two faces is put behind the others, and nothing waits on it. After want of
-    /// memory the fabric is to be dropped.
-    pub(crate) fn push_link(&mut self, alloc: Global, one: u32, two: u32) -> Result<(), Memory>
-        ensures { OnOk result (self.new ≡ record self.old {
-          links = self.old.links ++ record { one = one; two = two; is_open = true } ∷ [];
-          waiting = self.old.waiting ++ (one, []) ∷ (two, []) ∷ [];
+    /// A place that ends an open link is put behind the others, and nothing waits there. After want of
+    /// memory nothing is changed.
+    pub(crate) fn push_end(&mut self, alloc: Global, gateway: u32, face: u32) -> Result<(), Memory>
+        ensures ok { OnOk result (self.new ≡ record self.old {
+          faces = self.old.faces ++ record { gateway = gateway; face = face } ∷ [];
+          waiting = self.old.waiting ++ (length self.old.faces + 1, []) ∷ [];
         }) }
+        ensures back { OnOk result (without_last_place self.new ≡ self.old) }
+        ensures err { OnErr result (self.new ≡ self.old) }
     {
-        let link = LinkState {
+        push_both(
+            alloc,
+            &mut self.places,
+            &mut self.queues,
+            gateway,
+            face,
+            true,
+        )
+    }
+
+    /// The last place is taken away again, with what waits there.
+    pub(crate) fn pop_place(&mut self)
+        ensures { self.new ≡ without_last_place self.old }
+    {
+        pop_both(&mut self.places, &mut self.queues);
+    }
+
+    /// An open link between two faces is put behind the others. After want of memory nothing is changed.
+    pub(crate) fn push_link(&mut self, one: u32, two: u32) -> Result<(), Memory>
+        ensures ok { OnOk result (self.new ≡ record self.old {
+          links = self.old.links ++ record { one = one; two = two; is_open = true } ∷ [];
+        }) }
+        ensures back { OnOk result (without_last_link self.new ≡ self.old) }
+        ensures err { OnErr result (self.new ≡ self.old) }
+    {
+        self.links.push(LinkState {
             one,
             two,
             is_open: true,
-        };
-        self.links.push(link)?;
-        push_queue(alloc, &mut self.waiting, one)?;
-        push_queue(alloc, &mut self.waiting, two)
+        })?;
+        Ok(())
+    }
+
+    /// The last link is taken away again.
+    pub(crate) fn pop_link(&mut self)
+        ensures { self.new ≡ without_last_link self.old }
+    {
+        let _ = self.links.pop();
     }
 
     /// A link is closed.
@@ -221,12 +287,100 @@ impl<K: Key> FabricState<K> {
         shut_link_at(&mut self.links, at);
     }
 
-    /// What waits is replaced.
-    pub(crate) fn put_waiting(&mut self, waiting: Vec<QueueState<K>>)
-        ensures { self.new ≡ record self.old { waiting = waiting.items } }
+    /// The oldest message of a face's link is taken, and then messages wait, each where its face ends an
+    /// open link. After want of memory nothing is changed.
+    pub(crate) fn turn_waiting(
+        &mut self,
+        alloc: Global,
+        taken: Option<u32>,
+        sent: &[Sent<K>],
+    ) -> Result<(), Memory>
+        ensures ok { OnOk result (self.new ≡ with_waiting sent.now (taken_by taken self.old)) }
+        ensures err { OnErr result (self.new ≡ self.old) }
     {
-        self.waiting = waiting;
+        self.queues.take_and_add(alloc, taken, sent)
     }
+
+    /// The oldest message that waits at a face is taken.
+    pub(crate) fn take_waiting(&mut self, face: u32)
+        ensures { self.new ≡ with_taken face self.old }
+    {
+        self.queues.drop_first(face);
+    }
+
+    /// A face ends no open link any more, and what waits there is dropped.
+    pub(crate) fn close_end(&mut self, face: u32)
+        ensures { self.new ≡ record self.old { waiting = without_id face self.old.waiting } }
+    {
+        self.queues.close(face);
+    }
+}
+
+/// One more place, and what waits there: nothing yet. After want of memory nothing is changed.
+fn push_both<K: Key>(
+    alloc: Global,
+    places: &mut Vec<PlaceState>,
+    queues: &mut Queues<K>,
+    gateway: u32,
+    face: u32,
+    ends_link: bool,
+) -> Result<(), Memory>
+    ensures places { OnOk result (places.new.items
+        ≡ places.old.items ++ record { gateway = gateway; face = face } ∷ []) }
+    ensures queues { OnOk result (queues.new ≡ queues.old ++ (if ends_link then Some [] else None) ∷ []) }
+    ensures places_err { OnErr result (places.new.items ≡ places.old.items) }
+    ensures queues_err { OnErr result (queues.new ≡ queues.old) }
+{
+    queues.push(alloc, ends_link)?;
+    match places.push(PlaceState { gateway, face }) {
+        Ok(()) => Ok(()),
+        Err(_) => {
+            queues.pop();
+            Err(Memory)
+        }
+    }
+}
+
+/// The last place goes, with what waits there.
+fn pop_both<K: Key>(places: &mut Vec<PlaceState>, queues: &mut Queues<K>)
+    ensures places { places.new.items ≡ take (length places.old.items - 1) places.old.items }
+    ensures queues { queues.new ≡ take (length queues.old - 1) queues.old }
+{
+    let _ = places.pop();
+    queues.pop();
+}
+
+fn prepare_in<K: Key>(
+    alloc: Global,
+    gateways: &mut Vec<NodeState<K>>,
+    at: usize,
+    call: &Call<K>,
+) -> Result<Ahead<K>, Memory>
+    requires { at < vec_len gateways.old }
+    ensures state { IfOk result (λ ahead. (node : Node K) → nth (at + 1) gateways.old.items ≡ Some node
+        → ahead.state ≡ rows_after_call K.cmp K.matching (plain_call call.now) node.rows) }
+    ensures said { IfOk result (λ ahead. (node : Node K) → nth (at + 1) gateways.old.items ≡ Some node
+        → ahead.said.items ≡ said K.cmp K.matching (plain_call call.now) node.rows) }
+    ensures same { gateways.new.items ≡ gateways.old.items }
+{
+    let node = &mut gateways[at];
+    node.twin.prepare(alloc, call)
+}
+
+fn commit_in<K: Key>(
+    alloc: Global,
+    gateways: &mut Vec<NodeState<K>>,
+    at: usize,
+    rows: GatewayState<K>,
+    call: &Call<K>,
+)
+    requires within { at < vec_len gateways.old }
+    requires after { (node : Node K) → nth (at + 1) gateways.old.items ≡ Some node
+        → rows ≡ rows_after_call K.cmp K.matching (plain_call call.now) node.rows }
+    ensures { gateways.new.items ≡ at_nth (at + 1) (λ node. record node { rows = rows }) gateways.old.items }
+{
+    let node = &mut gateways[at];
+    node.twin.commit(alloc, rows, call);
 }
 
 fn put_rows_at<K: Key>(
@@ -239,7 +393,7 @@ fn put_rows_at<K: Key>(
     ensures former { (node : Node K) → nth (at + 1) gateways.old.items ≡ Some node → result ≡ node.rows }
 {
     let node = &mut gateways[at];
-    mem::replace(&mut node.rows, rows)
+    node.twin.put(rows)
 }
 
 fn shut_link_at(links: &mut Vec<LinkState>, at: usize)
@@ -248,19 +402,4 @@ fn shut_link_at(links: &mut Vec<LinkState>, at: usize)
 {
     let link = &mut links[at];
     link.is_open = false;
-}
-
-fn push_queue<K: Key>(
-    alloc: Global,
-    waiting: &mut Vec<QueueState<K>>,
-    face: u32,
-) -> Result<(), Memory>
-    ensures { OnOk result (waiting.new.items ≡ waiting.old.items ++ (face, []) ∷ []) }
-{
-    let queue = QueueState {
-        face,
-        messages: Vec::new(alloc),
-    };
-    waiting.push(queue)?;
-    Ok(())
 }

@@ -27,6 +27,9 @@ pub trait Recorder: Drop + Sized {
     /// The number of the pass that made the call.
     ghost author: { Entered → ℕ };
 
+    /// What is asked of a call.
+    ghost is_valid: { Self.Call → Type 0 };
+
     /// Whether the entry is one of this call.
     ghost is_entry_of: { Self.Call → Entered → Type 0 };
 
@@ -42,6 +45,7 @@ pub trait Recorder: Drop + Sized {
     /// Carries out the call and adds its entry. The only error is want of memory, and it leaves the
     /// journal as it was.
     fn enter(&mut self, pass: u32, call: Self::Call) -> Result<Self::Receipt, AllocError>
+        requires { is_valid call }
         ensures state { state self.new ≡ state self.old }
         ensures ok { IfOk result (λ receipt. (entry : Entered)
             × (journal self.new ≡ journal self.old ++ entry ∷ [])

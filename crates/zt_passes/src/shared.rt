@@ -74,6 +74,7 @@ impl<J: Recorder> SharedRecorder<J> {
         call: J::Call,
     ) -> Result<J::Receipt, AllocError>
         requires own { pass.old.table ≡ self.now }
+        requires valid { J.is_valid call }
         ensures ok { IfOk result (λ receipt. (place : ℕ) × (entry : J.Entered)
             × Adds J.journal J.author pass.old pass.new place entry
             × (J.author entry ≡ pass.old.number) × J.is_entry_of call entry

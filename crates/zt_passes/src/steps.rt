@@ -48,6 +48,7 @@ fn enter<J: Recorder>(
 ) -> Result<J::Receipt, AllocError>
     requires table { IsSeatOf top.now.table_id seat.old }
     requires value { HasValue seat.old.me }
+    requires valid { J.is_valid call }
     ensures seat { IsSameSeat seat.old seat.new }
     ensures ok { IfOk result (λ receipt. (p : Part J) (x : J) → seat.old.me ≡ holding p x
         → (y : J) × (seat.new.me ≡ holding p y) × (J.state y ≡ J.state x) × ((entry : J.Entered)
@@ -120,6 +121,7 @@ pub(crate) fn call<J: Recorder, R: Wait>(
     requires table { IsSeatOf top.now.table_id seat.old }
     requires free { (p : Part J) × (seat.old.me ≡ alone p) × (p.locked ≡ false)
         × (p.number ≡ number) }
+    requires valid { J.is_valid call }
     ensures seat { IsSameSeat seat.old seat.new }
     ensures ok { IfOk result (λ made. (p : Part J) → seat.old.me ≡ alone p
         → (entry : J.Entered)

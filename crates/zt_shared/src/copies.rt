@@ -10,8 +10,9 @@ use zt_gateway::{Prepared, copy_keys, copy_queryables};
 use zt_keys::{Key, Memory};
 use zt_protocol::{Call, Refusal, Sent, copy_expression};
 
-// The messages of a prepared call, in order of face. The only error is want of memory.
-pub(crate) fn sent_by<K: Key>(alloc: Global, prepared: &Prepared<K>) -> Result<Vec<Sent<K>>, Memory>
+/// Copies of the messages of a prepared call, in order of face, as those of a gateway with the number 1. The
+/// only error is want of memory.
+pub fn sent_by<K: Key>(alloc: Global, prepared: &Prepared<K>) -> Result<Vec<Sent<K>>, Memory>
     ensures { IfOk result (λ sent. sent.items ≡ map sent_alone (by_face prepared.now.said)) }
 {
     let mut sent = Vec::new(alloc);

@@ -156,7 +156,8 @@ impl<K: Key> Journaled<K> {
 
     /// How many entries the journal has.
     pub fn len(&self) -> u64
-        ensures { result ≡ length self.now.entries }
+        ensures long { result ≡ length self.now.entries }
+        ensures kept { IsRecord K.cmp K.matching self.now }
     {
         self.entries.len() as u64
     }

@@ -3,10 +3,10 @@ use Rattle.std.proofs.Common.{◌≡◌, ℕ, ◌==◌, Bool, true, false, if◌
 use Rattle.std.proofs.lemmas.Bool.Decides.{nat_tests}
 use Rattle.std.specs.declared.cmp.Ordering.{Ordering}
 use Rattle.zt_protocol.specs.declared.messages.Message.{Message}
-use Rattle.zt_protocol.specs.declared.messages.Message.TheVariants.{DeclareToken, UndeclareToken, DeclareFinal, Interest, InterestFinal, DeclareSubscriber, DeclareQueryable}
 use Rattle.zt_model.specs.Hearing.{heard, heard_all, messages_for, rows_heard}
 use Rattle.zt_model.specs.Parts.{Sends, with_face}
 use Rattle.zt_model.specs.Rows.{Face, Rows}
+use Rattle.zt_state.specs.Keeps.{heard-keeps}
 
 turned : (n m : ℕ) → (n == m) ≡ (m == n)
 turned n m = grind (arith, nat_tests)
@@ -33,16 +33,6 @@ module _ {K : Type 0} (cmp : K → K → Ordering) where
       by_number true f = refl
       by_number false f = refl
 
-  -- no message changes a face's number
-  heard-number : (now : ℕ) (m : Message K) (f : Face K) → (heard cmp now m f).number ≡ f.number
-  heard-number now (DeclareToken id e interest node) f = refl
-  heard-number now (UndeclareToken id e node) f = refl
-  heard-number now (DeclareFinal interest) f = refl
-  heard-number now (Interest id mode options e) f = refl
-  heard-number now (InterestFinal id) f = refl
-  heard-number now (DeclareSubscriber id e interest) f = refl
-  heard-number now (DeclareQueryable id e info interest) f = refl
-
   -- the first message, and then the others
   pub first_heard : (s : ℕ × Message K) (ss : Sends K) (g : Rows K) → rows_heard cmp ss (rows_heard cmp (s ∷ []) g) ≡ rows_heard cmp (s ∷ ss) g
   unfolding rows_heard messages_for heard_all
@@ -53,7 +43,7 @@ module _ {K : Type 0} (cmp : K → K → Ordering) where
 
       by_number : (b : Bool) (f : Face K)
           → rest (heard_all cmp g.moment (if b then s.1 ∷ [] else []) f) ≡ heard_all cmp g.moment (if b then s.1 ∷ messages_for f.number ss else messages_for f.number ss) f
-      by_number true f = ap (λ n. heard_all cmp g.moment (messages_for n ss) (heard cmp g.moment s.1 f)) (heard-number g.moment s.1 f)
+      by_number true f = ap (λ n. heard_all cmp g.moment (messages_for n ss) (heard cmp g.moment s.1 f)) ((heard-keeps cmp g.moment s.1 f).number)
       by_number false f = refl
 
   pub none_heard : (g : Rows K) → rows_heard cmp [] g ≡ g

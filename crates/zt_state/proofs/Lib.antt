@@ -1,6 +1,10 @@
 mod Heard
+mod Kept
 mod Keyed
 mod Numbered
 pub mod OwnRows
 mod Regions
+mod Recounted
+mod Rising
 pub mod Walks
+mod Uncounting

@@ -1,1 +1,4 @@
+pub mod Indexed
+pub mod Keeps
 pub mod OwnRows
+pub mod Rising

@@ -1,96 +1,11 @@
 // Copies of what a gateway keeps.
 ghost use Rattle.std.specs.Prelude.{◌≡◌, IfOk};
 
-use crate::face::{AskState, FaceState, PendingInterest};
 use crate::gateway::{GatewayState, KeptTable, RoutedToken};
-use crate::interest::RemoteInterest;
 use std::alloc::Global;
+use zt_face::{Duplicate, copy_all, copy_keys};
 use zt_keys::{Key, Memory};
-use zt_protocol::QueryableInfo;
 use zt_region::Admission;
-
-/// Equal keys. The only error is want of memory.
-pub(crate) fn copy_keys<K: Key>(alloc: Global, keys: &[K]) -> Result<Vec<K>, Memory>
-    ensures { IfOk result (λ copies. copies.items ≡ keys.now) }
-{
-    let mut copies = Vec::new(alloc);
-    for key in keys {
-        copies.push(key.copy(alloc)?)?;
-    }
-    Ok(copies)
-}
-
-/// Equal keys under equal ids. The only error is want of memory.
-fn copy_key_rows<K: Key>(alloc: Global, rows: &[(u32, K)]) -> Result<Vec<(u32, K)>, Memory>
-    ensures { IfOk result (λ copies. copies.items ≡ rows.now) }
-{
-    let mut copies = Vec::new(alloc);
-    for row in rows {
-        copies.push((row.0, row.1.copy(alloc)?))?;
-    }
-    Ok(copies)
-}
-
-/// Equal queryables. The only error is want of memory.
-pub(crate) fn copy_queryables<K: Key>(
-    alloc: Global,
-    queryables: &[(K, QueryableInfo)],
-) -> Result<Vec<(K, QueryableInfo)>, Memory>
-    ensures { IfOk result (λ copies. copies.items ≡ queryables.now) }
-{
-    let mut copies = Vec::new(alloc);
-    for queryable in queryables {
-        copies.push((queryable.0.copy(alloc)?, queryable.1))?;
-    }
-    Ok(copies)
-}
-
-// What can be copied where memory suffices.
-trait Duplicate: Drop + Sized {
-    ghost use Rattle.std.specs.Prelude.{◌≡◌, IfOk};
-
-    fn duplicate(&self, alloc: Global) -> Result<Self, Memory>
-        ensures { IfOk result (λ copy. copy ≡ self.now) };
-}
-
-// Equal values. The only error is want of memory.
-fn copy_all<T: Duplicate>(alloc: Global, values: &[T]) -> Result<Vec<T>, Memory>
-    ensures { IfOk result (λ copies. copies.items ≡ values.now) }
-{
-    let mut copies = Vec::new(alloc);
-    for value in values {
-        copies.push(value.duplicate(alloc)?)?;
-    }
-    Ok(copies)
-}
-
-impl<Q: Copy + Drop, T: Duplicate> Duplicate for (Q, T) {
-    fn duplicate(&self, alloc: Global) -> Result<Self, Memory> {
-        Ok((self.0, self.1.duplicate(alloc)?))
-    }
-}
-
-impl<K: Key> Duplicate for RemoteInterest<K> {
-    fn duplicate(&self, alloc: Global) -> Result<Self, Memory> {
-        self.copy(alloc)
-    }
-}
-
-impl<K: Key> Duplicate for AskState<K> {
-    fn duplicate(&self, alloc: Global) -> Result<Self, Memory> {
-        Ok(AskState {
-            interest: self.interest.copy(alloc)?,
-            pendings: self.pendings.to_vec(alloc)?,
-            answered: copy_keys(alloc, self.answered.as_slice())?,
-        })
-    }
-}
-
-impl Duplicate for PendingInterest {
-    fn duplicate(&self, _alloc: Global) -> Result<Self, Memory> {
-        Ok(PendingInterest::new(self.mode(), self.since()))
-    }
-}
 
 impl Duplicate for KeptTable {
     fn duplicate(&self, alloc: Global) -> Result<Self, Memory> {
@@ -104,28 +19,6 @@ impl<K: Key> Duplicate for RoutedToken<K> {
     }
 }
 
-impl<K: Key> Duplicate for FaceState<K> {
-    fn duplicate(&self, alloc: Global) -> Result<Self, Memory> {
-        Ok(FaceState {
-            number: self.number,
-            region: self.region,
-            bound: self.bound,
-            mode: self.mode,
-            zid: self.zid,
-            next: self.next,
-            live: copy_key_rows(alloc, self.live.as_slice())?,
-            told: copy_key_rows(alloc, self.told.as_slice())?,
-            held: copy_all(alloc, self.held.as_slice())?,
-            locals: copy_all(alloc, self.locals.as_slice())?,
-            pendings: copy_all(alloc, self.pendings.as_slice())?,
-            asks: copy_all(alloc, self.asks.as_slice())?,
-            initial: self.initial,
-            subscribers: copy_keys(alloc, self.subscribers.as_slice())?,
-            queryables: copy_queryables(alloc, self.queryables.as_slice())?,
-        })
-    }
-}
-
 // The same pairs that are refused. The only error is want of memory.
 fn copy_admission(alloc: Global, admission: &Admission) -> Result<Admission, Memory>
     ensures { IfOk result (λ copy. copy.refused.items ≡ admission.now.refused.items) }
@@ -133,15 +26,6 @@ fn copy_admission(alloc: Global, admission: &Admission) -> Result<Admission, Mem
     Ok(Admission {
         refused: admission.refused.to_vec(alloc)?,
     })
-}
-
-impl<K: Key> FaceState<K> {
-    /// An equal face. The only error is want of memory.
-    pub fn copy(&self, alloc: Global) -> Result<Self, Memory>
-        ensures { IfOk result (λ copy. copy ≡ self.now) }
-    {
-        self.duplicate(alloc)
-    }
 }
 
 impl<K: Key> GatewayState<K> {
@@ -160,7 +44,8 @@ impl<K: Key> GatewayState<K> {
             trees: copy_all(alloc, self.trees.as_slice())?,
             routed: copy_all(alloc, self.routed.as_slice())?,
             dictionary: copy_keys(alloc, self.dictionary.as_slice())?,
-            faces: copy_all(alloc, self.faces.as_slice())?,
+            faces: self.faces.copy(alloc)?,
+            live: self.live.copy(alloc)?,
         })
     }
 }

@@ -1,11 +1,17 @@
 // A gateway with its faces.
 ghost use Rattle.std.specs.Prelude.{◌≡◌, [], IfOk};
+ghost use Rattle.std.specs.Option.{option_copied};
 ghost use Rattle.zt_model.specs.Fabric.{new_rows};
+ghost use Rattle.zt_model.specs.Parts.{find_face};
+ghost use Rattle.zt_model.specs.Visible.{live_rows};
+ghost use Rattle.zt_indexes.specs.Rows.{AreCountsOf};
 ghost use Rattle.zt_protocol.specs.Plain.{trees_of};
 
-use crate::face::FaceState;
+use crate::by_number::Faces;
 use std::alloc::Global;
 use std::marker::Model;
+use zt_face::FaceState;
+use zt_indexes::LiveCounts;
 use zt_keys::{Key, Memory};
 use zt_protocol::TreeTable;
 use zt_region::{Admission, Region, WhatAmI, Zid};
@@ -126,11 +132,13 @@ pub struct GatewayState<K: Key> {
     pub(crate) trees: Vec<(Region, KeptTable)>,
     pub(crate) routed: Vec<RoutedToken<K>>,
     pub(crate) dictionary: Vec<K>,
-    pub(crate) faces: Vec<FaceState<K>>,
+    pub(crate) faces: Faces<K>,
+    pub(crate) live: LiveCounts<K>,
 }
 
 impl<K: Key> Model for GatewayState<K> {
     ghost use Rattle.zt_model.specs.Rows.{Rows};
+    ghost use Rattle.zt_state.specs.Indexed.{IsIndexed};
 
     ghost Value = { Rows K };
 
@@ -145,8 +153,10 @@ impl<K: Key> Model for GatewayState<K> {
       trees = g.trees.items;
       routed = g.routed.items;
       dictionary = g.dictionary.items;
-      faces = g.faces.items;
+      faces = g.faces;
     } };
+
+    ghost invariant = { λ g. IsIndexed K.cmp g.zid g.made g.routed.items g.faces g.live };
 }
 
 impl<K: Key> GatewayState<K> {
@@ -172,7 +182,8 @@ impl<K: Key> GatewayState<K> {
             trees: Vec::new(alloc),
             routed: Vec::new(alloc),
             dictionary: Vec::new(alloc),
-            faces: Vec::new(alloc),
+            faces: Faces::new(alloc),
+            live: LiveCounts::new(alloc),
         }
     }
 
@@ -246,10 +257,24 @@ impl<K: Key> GatewayState<K> {
         &self.dictionary
     }
 
+    /// How many live tokens of each expression there are, by region.
+    pub fn live(&self) -> &LiveCounts<K>
+        ensures { AreCountsOf K.cmp result.now (live_rows self.now) }
+    {
+        &self.live
+    }
+
+    /// The open face of this number. A search by halves.
+    pub fn find_face(&self, number: u32) -> Option<&FaceState<K>>
+        ensures { option_copied result ≡ find_face number self.now }
+    {
+        self.faces.find(number)
+    }
+
     /// The open faces, in order of number.
     pub fn faces(&self) -> &[FaceState<K>]
         ensures { result.now ≡ self.now.faces }
     {
-        &self.faces
+        self.faces.as_slice()
     }
 }

@@ -3,18 +3,19 @@
 #![tactic(auto)]
 
 mod asking;
+mod by_number;
 mod copying;
-mod face;
 mod faces;
 mod gateway;
 mod hearing;
-mod interest;
+mod live;
 mod numbers;
 mod opening;
 mod routed;
 mod rows;
 mod walk;
 
-pub use face::{AskState, FaceState, PendingInterest};
 pub use gateway::{GatewayState, KeptTable, RoutedToken};
-pub use interest::RemoteInterest;
+pub use zt_face::{
+    AskState, FaceState, LocalTokens, PendingInterest, RemoteInterest, RowsById, is_among,
+};

@@ -4,12 +4,10 @@ ghost use Rattle.zt_model.specs.Entities.{entity_expressions, numbered_with, wit
 ghost use Rattle.zt_model.specs.Lists.{is_among};
 ghost use Rattle.zt_model.specs.Parts.{with_face};
 
-use crate::copying::{copy_keys, copy_queryables};
-use crate::face::FaceState;
 use crate::gateway::GatewayState;
-use crate::hearing::is_among;
-use crate::walk::{FaceAddition, add_to_face};
+use crate::walk::{FaceAddition, QuietAddition};
 use std::alloc::Global;
+use zt_face::{FaceState, is_among};
 use zt_keys::{Key, Memory};
 use zt_protocol::QueryableInfo;
 
@@ -69,23 +67,6 @@ fn number_entities<K: Key>(
     number_queryables(alloc, known, queryables)
 }
 
-impl<K: Key> FaceState<K> {
-    // The face's entities are replaced. The only error is want of memory.
-    fn set_entities(
-        &mut self,
-        alloc: Global,
-        subscribers: &[K],
-        queryables: &[(K, QueryableInfo)],
-    ) -> Result<(), Memory>
-        ensures { OnOk result (self.new
-            ≡ record self.old { subscribers = subscribers.now; queryables = queryables.now }) }
-    {
-        self.subscribers = copy_keys(alloc, subscribers)?;
-        self.queryables = copy_queryables(alloc, queryables)?;
-        Ok(())
-    }
-}
-
 // The entities that a face is to have.
 #[derive(Drop)]
 struct SetsEntities<'a, K: Key> {
@@ -94,12 +75,22 @@ struct SetsEntities<'a, K: Key> {
 }
 
 impl<'a, K: Key> FaceAddition<K> for SetsEntities<'a, K> {
+    ghost use Rattle.std.specs.Prelude.{refl};
+
     ghost added = { λ c f.
         record f { subscribers = c.subscribers.now; queryables = c.queryables.now } };
+
+    ghost keeps_number = { λ _ _. refl };
 
     fn add(&self, alloc: Global, f: &mut FaceState<K>) -> Result<(), Memory> {
         f.set_entities(alloc, self.subscribers, self.queryables)
     }
+}
+
+impl<'a, K: Key> QuietAddition<K> for SetsEntities<'a, K> {
+    ghost use Rattle.std.specs.Prelude.{refl};
+
+    ghost keeps_live = { λ _ _. record { number = refl; region = refl; live = refl } };
 }
 
 impl<K: Key> GatewayState<K> {
@@ -129,6 +120,6 @@ impl<K: Key> GatewayState<K> {
             subscribers,
             queryables,
         };
-        add_to_face(alloc, &mut self.faces, face, &sets)
+        self.add_to_face(alloc, face, &sets)
     }
 }

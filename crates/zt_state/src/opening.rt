@@ -3,9 +3,9 @@ ghost use Rattle.std.specs.Prelude.{◌≡◌, ◌<◌, ◌+◌, ◌^◌, OnOk};
 ghost use Rattle.zt_model.specs.Parts.{opened_session};
 ghost use Rattle.zt_model.specs.Routing.{initial_of, opened};
 
-use crate::face::FaceState;
 use crate::gateway::GatewayState;
 use std::alloc::Global;
+use zt_face::FaceState;
 use zt_keys::{Key, Memory};
 use zt_region::{Bound, Region, WhatAmI, Zid};
 
@@ -36,8 +36,8 @@ impl<K: Key> GatewayState<K> {
             first,
             None,
         );
+        self.faces.push(session, self.made)?;
         self.made = number;
-        self.faces.push(session)?;
         Ok(())
     }
 
@@ -57,8 +57,8 @@ impl<K: Key> GatewayState<K> {
         let number = self.made + 1;
         let initial = initial_of(self.mode, region, bound);
         let face = FaceState::new(alloc, number, region, bound, whatami, zid, first, initial);
+        self.faces.push(face, self.made)?;
         self.made = number;
-        self.faces.push(face)?;
         Ok(())
     }
 }

@@ -1,16 +1,19 @@
 // The tokens of router regions, and the tables of these.
-ghost use Rattle.std.specs.Prelude.{◌≡◌, ◌≤◌, ◌&&◌, not, filter, insert, length, IfNone, IfSome, OnOk};
+ghost use Rattle.std.specs.Prelude.{◌≡◌, ◌≤◌, ◌∷◌, [], not, filter, insert, length, IfNone, IfSome, OnOk};
 ghost use Rattle.std.specs.FinMap.Entries.{put};
-ghost use Rattle.zt_region.specs.Region.{zid_eq};
 ghost use Rattle.zt_protocol.specs.Plain.{trees_of};
-ghost use Rattle.zt_model.specs.Lists.{same, with_key};
-ghost use Rattle.zt_model.specs.Trees.{is_left_out, is_listed, is_routed_row, region_order, routed_order, row_at, with_own_rows, with_routed, with_table, without_left_out, without_routed};
-ghost use Rattle.zt_state.specs.OwnRows.{is_own_in, without_own_in};
+ghost use Rattle.zt_model.specs.Lists.{with_key};
+ghost use Rattle.zt_model.specs.Trees.{is_listed, region_order, routed_order, row_at, with_own_rows, with_routed, with_table, without_left_out, without_routed};
+ghost use Rattle.zt_indexes.specs.Recounts.{Recounts};
+ghost use Rattle.zt_state.specs.Indexed.{routed_live};
+ghost use Rattle.zt_state.specs.OwnRows.{without_own_in};
 
 use crate::gateway::{GatewayState, KeptTable, RoutedToken};
 use crate::rows::put_row;
+use crate::walk::empty;
 use std::alloc::Global;
 use std::cmp::Ordering;
+use zt_indexes::LiveCounts;
 use zt_keys::{Key, Memory};
 use zt_protocol::TreeTable;
 use zt_region::{Region, Zid};
@@ -37,23 +40,6 @@ fn compare_row<K: Key>(region: Region, source: Zid, expr: &K, row: &RoutedToken<
     expr.cmp(row.expr())
 }
 
-// Whether a row is another than the one of these parts.
-fn is_other_row<K: Key>(row: &RoutedToken<K>, region: Region, source: Zid, expr: &K) -> bool
-    ensures { result
-        ≡ not (is_routed_row K.cmp (row_at K.cmp region source expr.now) row.now) }
-{
-    compare_row(region, source, expr, row) != Ordering::Equal
-}
-
-// The row of these parts goes.
-fn drop_row<K: Key>(rows: &mut Vec<RoutedToken<K>>, region: Region, source: Zid, expr: &K)
-    ensures { rows.new.items
-        ≡ filter (λ row. not (is_routed_row K.cmp (row_at K.cmp region source expr.now) row))
-        rows.old.items }
-{
-    rows.retain(|row| is_other_row(row, region, source, expr));
-}
-
 // Where the row of these parts would stand in order, where it isn't there yet.
 fn place_of_row<K: Key>(
     rows: &[RoutedToken<K>],
@@ -77,21 +63,114 @@ fn place_of_row<K: Key>(
     Some(rows.len())
 }
 
+// Counts the token of a row, where it is another router's. The only error is want of memory.
+fn count_row<K: Key>(
+    alloc: Global,
+    live: &mut LiveCounts<K>,
+    zid: Zid,
+    row: &RoutedToken<K>,
+) -> Result<(), Memory>
+    ensures { OnOk result (Recounts K.cmp [] (routed_live zid (row.now ∷ [])) live.old live.new) }
+{
+    if row.source() != zid {
+        live.add(alloc, row.region(), row.expr())?;
+    }
+    Ok(())
+}
+
 // Adds the row of these parts in its place, where it isn't there yet.
 fn add_row<K: Key>(
     alloc: Global,
     rows: &mut Vec<RoutedToken<K>>,
+    live: &mut LiveCounts<K>,
+    zid: Zid,
     region: Region,
     source: Zid,
     expr: &K,
 ) -> Result<(), Memory>
-    ensures { OnOk result (rows.new.items
+    ensures rows { OnOk result (rows.new.items
         ≡ with_key (routed_order K.cmp) (row_at K.cmp region source expr.now) rows.old.items) }
+    ensures counts { OnOk result (Recounts K.cmp (routed_live zid rows.old.items)
+        (routed_live zid rows.new.items) live.old live.new) }
 {
-    if let Some(place) = place_of_row(rows.as_slice(), region, source, expr) {
-        rows.insert(place, RoutedToken::new(region, source, expr.copy(alloc)?))?;
-    }
+    let Some(place) = place_of_row(rows.as_slice(), region, source, expr) else {
+        return Ok(());
+    };
+    let row = RoutedToken::new(region, source, expr.copy(alloc)?);
+    count_row(alloc, live, zid, &row)?;
+    rows.insert(place, row)?;
     Ok(())
+}
+
+// A test of the rows that go.
+trait RowTest<K: Key> {
+    ghost use Rattle.std.specs.Prelude.{◌≡◌, Bool};
+    ghost use Rattle.zt_model.specs.Rows.{RoutedRow};
+
+    // Whether a row goes.
+    ghost goes: { Self → RoutedRow K → Bool };
+
+    fn goes(&self, row: &RoutedToken<K>) -> bool
+        ensures { result ≡ goes self.now row.now };
+}
+
+// Whether a row stays.
+fn stays<K: Key, T: RowTest<K>>(row: &RoutedToken<K>, test: &T) -> bool
+    ensures { result ≡ not (T.goes test.now row.now) }
+{
+    !test.goes(row)
+}
+
+// The token of a row is counted no more, where it is another router's and the row goes.
+fn uncount_row<K: Key, T: RowTest<K>>(
+    live: &mut LiveCounts<K>,
+    zid: Zid,
+    row: &RoutedToken<K>,
+    test: &T,
+)
+    ensures { Recounts K.cmp (routed_live zid (row.now ∷ []))
+        (routed_live zid (filter (λ r. not (T.goes test.now r)) (row.now ∷ []))) live.old live.new }
+{
+    if row.source() != zid && test.goes(row) {
+        live.remove(row.region(), row.expr());
+    }
+}
+
+// The tokens of the rows that go are counted no more.
+fn uncount_rows<K: Key, T: RowTest<K>>(
+    live: &mut LiveCounts<K>,
+    zid: Zid,
+    rows: &[RoutedToken<K>],
+    test: &T,
+)
+    ensures { Recounts K.cmp (routed_live zid rows.now)
+        (routed_live zid (filter (λ r. not (T.goes test.now r)) rows.now)) live.old live.new }
+{
+    for row in rows {
+        uncount_row(live, zid, row, test);
+    }
+}
+
+// The rows that pass go.
+fn keep_others<K: Key, T: RowTest<K>>(rows: &mut Vec<RoutedToken<K>>, test: &T)
+    ensures { rows.new.items ≡ filter (λ r. not (T.goes test.now r)) rows.old.items }
+{
+    rows.retain(|row| stays(row, test));
+}
+
+// The rows that pass go, with what is counted of them.
+fn drop_rows<K: Key, T: RowTest<K>>(
+    rows: &mut Vec<RoutedToken<K>>,
+    live: &mut LiveCounts<K>,
+    zid: Zid,
+    test: &T,
+)
+    ensures rows { rows.new.items ≡ filter (λ r. not (T.goes test.now r)) rows.old.items }
+    ensures counts { Recounts K.cmp (routed_live zid rows.old.items)
+        (routed_live zid rows.new.items) live.old live.new }
+{
+    uncount_rows(live, zid, rows.as_slice(), test);
+    keep_others(rows, test);
 }
 
 // Whether a table lists a router.
@@ -101,34 +180,58 @@ fn is_listed(source: Zid, table: &TreeTable) -> bool
     table.routers.iter().any(|router| source == router.1)
 }
 
-// Whether a row belongs to another region, or to a router that the region's table lists.
-fn is_left<K: Key>(row: &RoutedToken<K>, region: Region, table: &TreeTable) -> bool
-    ensures { result ≡ not (is_left_out K.cmp region (trees_of table.now) row.now) }
-{
-    region != row.region() || is_listed(row.source(), table)
+// The row of a region, a router and an expression.
+#[derive(Drop)]
+struct IsOfToken<'a, K: Key> {
+    region: Region,
+    source: Zid,
+    expr: &'a K,
 }
 
-// The rows of a region go whose source the table doesn't list.
-fn drop_unlisted<K: Key>(rows: &mut Vec<RoutedToken<K>>, region: Region, table: &TreeTable)
-    ensures { rows.new.items
-        ≡ filter (λ row. not (is_left_out K.cmp region (trees_of table.now) row)) rows.old.items }
-{
-    rows.retain(|row| is_left(row, region, table));
+impl<'a, K: Key> RowTest<K> for IsOfToken<'a, K> {
+    ghost use Rattle.zt_model.specs.Trees.{is_routed_row, row_at};
+
+    ghost goes = { λ t. is_routed_row K.cmp (row_at K.cmp t.region t.source t.expr.now) };
+
+    fn goes(&self, row: &RoutedToken<K>) -> bool {
+        compare_row(self.region, self.source, self.expr, row) == Ordering::Equal
+    }
 }
 
-// Whether a row is no own row of the expression in one of the regions.
-fn is_not_own<K: Key>(row: &RoutedToken<K>, zid: Zid, regions: &[Region], expr: &K) -> bool
-    ensures { result ≡ not (is_own_in K.cmp zid regions.now expr.now row.now) }
-{
-    !(row.source() == zid && expr == row.expr() && regions.contains(&row.region()))
+// The rows of a region whose router its table doesn't list.
+#[derive(Drop)]
+struct IsLeftOut<'a> {
+    region: Region,
+    table: &'a TreeTable,
 }
 
-// The own rows of the expression in the regions go.
-fn drop_own<K: Key>(rows: &mut Vec<RoutedToken<K>>, zid: Zid, regions: &[Region], expr: &K)
-    ensures { rows.new.items
-        ≡ filter (λ row. not (is_own_in K.cmp zid regions.now expr.now row)) rows.old.items }
-{
-    rows.retain(|row| is_not_own(row, zid, regions, expr));
+impl<'a, K: Key> RowTest<K> for IsLeftOut<'a> {
+    ghost use Rattle.zt_protocol.specs.Plain.{trees_of};
+    ghost use Rattle.zt_model.specs.Trees.{is_left_out};
+
+    ghost goes = { λ t. is_left_out K.cmp t.region (trees_of t.table.now) };
+
+    fn goes(&self, row: &RoutedToken<K>) -> bool {
+        self.region == row.region() && !is_listed(row.source(), self.table)
+    }
+}
+
+// The own rows of an expression in some regions.
+#[derive(Drop)]
+struct IsOwn<'a, K: Key> {
+    zid: Zid,
+    regions: &'a [Region],
+    expr: &'a K,
+}
+
+impl<'a, K: Key> RowTest<K> for IsOwn<'a, K> {
+    ghost use Rattle.zt_state.specs.OwnRows.{is_own_in};
+
+    ghost goes = { λ t. is_own_in K.cmp t.zid t.regions.now t.expr.now };
+
+    fn goes(&self, row: &RoutedToken<K>) -> bool {
+        row.source() == self.zid && self.expr == row.expr() && self.regions.contains(&row.region())
+    }
 }
 
 // Keeps a table under its region.
@@ -148,21 +251,32 @@ impl<K: Key> GatewayState<K> {
     pub fn drop_routed(&mut self, region: Region, source: Zid, expr: &K)
         ensures { self.new ≡ without_routed K.cmp region source expr.now self.old }
     {
-        drop_row(&mut self.routed, region, source, expr);
+        let token = IsOfToken {
+            region,
+            source,
+            expr,
+        };
+        drop_rows(&mut self.routed, &mut self.live, self.zid, &token);
     }
 
     /// The rows of a region go whose source its new table doesn't list.
     pub fn drop_left_out(&mut self, region: Region, table: &TreeTable)
         ensures { self.new ≡ without_left_out K.cmp region (trees_of table.now) self.old }
     {
-        drop_unlisted(&mut self.routed, region, table);
+        let left_out = IsLeftOut { region, table };
+        drop_rows(&mut self.routed, &mut self.live, self.zid, &left_out);
     }
 
     /// The gateway shows the expression no more in these regions.
     pub fn drop_own_rows(&mut self, regions: &[Region], expr: &K)
         ensures { self.new ≡ without_own_in K.cmp regions.now expr.now self.old }
     {
-        drop_own(&mut self.routed, self.zid, regions, expr);
+        let own = IsOwn {
+            zid: self.zid,
+            regions,
+            expr,
+        };
+        drop_rows(&mut self.routed, &mut self.live, self.zid, &own);
     }
 
     /// A router declares a token in a region. The only error is want of memory.
@@ -176,7 +290,21 @@ impl<K: Key> GatewayState<K> {
     ) -> Result<(), Memory>
         ensures { OnOk result (self.new ≡ with_routed K.cmp region source expr.now self.old) }
     {
-        add_row(alloc, &mut self.routed, region, source, expr)
+        match add_row(
+            alloc,
+            &mut self.routed,
+            &mut self.live,
+            self.zid,
+            region,
+            source,
+            expr,
+        ) {
+            Ok(()) => Ok(()),
+            Err(error) => {
+                empty(alloc, &mut self.faces, &mut self.routed, &mut self.live);
+                Err(error)
+            }
+        }
     }
 
     /// The gateway shows the expression in these regions. The only error is want of memory.

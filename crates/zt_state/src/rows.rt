@@ -1,24 +1,9 @@
-// Rows that stand in order of their keys, such as ids.
-ghost use Rattle.std.specs.Prelude.{◌≡◌, ◌==◌, ◌<◌, ◌≤◌, not, length, insert, slice_index_or, slice_set, IfOk, IfErr, OnOk};
+// Rows that stand in order of their keys.
+ghost use Rattle.std.specs.Prelude.{◌≡◌, ◌<◌, ◌≤◌, length, insert, slice_index_or, slice_set, IfOk, IfErr, OnOk};
 ghost use Rattle.std.specs.FinMap.Entries.{put};
-ghost use Rattle.zt_model.specs.Lists.{without_id};
 
 use std::cmp::Ordering;
 use zt_keys::Memory;
-
-// Whether a row stands under another id.
-fn is_other<A>(row: &(u32, A), id: u32) -> bool
-    ensures { result ≡ not (id == row.now.0) }
-{
-    id != row.0
-}
-
-/// The rows under the id go.
-pub(crate) fn drop_id<A: Drop>(rows: &mut Vec<(u32, A)>, id: u32)
-    ensures { rows.new.items ≡ without_id id rows.old.items }
-{
-    rows.retain(|row| is_other(row, id));
-}
 
 // Where a key stands among keys in order, or else, as an error, where it would stand.
 fn place_of<Q: Ord, A>(rows: &[(Q, A)], key: &Q) -> Result<usize, usize>

@@ -1,85 +1,104 @@
-// Going over the faces with a change of one.
-ghost use Rattle.std.specs.Prelude.{◌≡◌, ◌==◌, if◌then◌else◌, map, OnOk};
+// Changes of one face.
+ghost use Rattle.std.specs.Prelude.{◌≡◌, [], OnOk};
+ghost use Rattle.zt_model.specs.Parts.{with_face};
 
-use crate::face::FaceState;
+use crate::by_number::Faces;
+use crate::gateway::{GatewayState, RoutedToken};
 use std::alloc::Global;
+use zt_face::FaceState;
+use zt_indexes::LiveCounts;
 use zt_keys::{Key, Memory};
 
-// A change of a face that takes no memory.
-pub(crate) trait FaceChange<K: Key> {
+/// A change of a face that takes no memory.
+pub trait FaceChange<K: Key> {
+    ghost use Rattle.std.specs.Prelude.{◌≡◌};
     ghost use Rattle.zt_model.specs.Rows.{Face};
 
-    // The face after the change.
+    /// The face after the change.
     ghost changed: { Self → Face K → Face K };
 
+    /// Changes the face.
     fn change(&self, f: &mut FaceState<K>)
         ensures { f.new ≡ changed self.now f.old };
+
+    /// The face keeps its number.
+    ghost keeps_number: { (c : Self) (f : Face K) → (changed c f).number ≡ f.number };
 }
 
-// Changes the face of the number.
-pub(crate) fn change_face<K: Key, C: FaceChange<K>>(
-    faces: &mut Vec<FaceState<K>>,
-    number: u32,
-    change: &C,
-)
-    ensures { faces.new.items
-        ≡ map (λ f. if number == f.number then C.changed change.now f else f) faces.old.items }
-{
-    for f in faces.iter_mut() {
-        change_numbered(f, number, change);
-    }
-}
-
-// Changes a face where it has the number.
-fn change_numbered<K: Key, C: FaceChange<K>>(f: &mut FaceState<K>, number: u32, change: &C)
-    ensures { f.new
-        ≡ (if number == f.old.number then C.changed change.now f.old else f.old) }
-{
-    if number == f.number {
-        change.change(f);
-    }
-}
-
-// A change of a face that takes memory.
-pub(crate) trait FaceAddition<K: Key> {
-    ghost use Rattle.std.specs.Prelude.{OnOk};
+/// A change of a face that takes memory.
+pub trait FaceAddition<K: Key> {
+    ghost use Rattle.std.specs.Prelude.{◌≡◌, OnOk};
     ghost use Rattle.zt_model.specs.Rows.{Face};
 
-    // The face after the change.
+    /// The face after the change.
     ghost added: { Self → Face K → Face K };
 
+    /// Changes the face. The only error is want of memory.
     fn add(&self, alloc: Global, f: &mut FaceState<K>) -> Result<(), Memory>
         ensures { OnOk result (f.new ≡ added self.now f.old) };
+
+    /// The face keeps its number.
+    ghost keeps_number: { (c : Self) (f : Face K) → (added c f).number ≡ f.number };
 }
 
-// Changes the face of the number. The only error is want of memory.
-pub(crate) fn add_to_face<K: Key, C: FaceAddition<K>>(
-    alloc: Global,
-    faces: &mut Vec<FaceState<K>>,
-    number: u32,
-    addition: &C,
-) -> Result<(), Memory>
-    ensures { OnOk result (faces.new.items
-        ≡ map (λ f. if number == f.number then C.added addition.now f else f) faces.old.items) }
-{
-    for f in faces.iter_mut() {
-        add_numbered(alloc, f, number, addition)?;
-    }
-    Ok(())
+/// A change of a face that keeps what it declares.
+pub trait QuietChange<K: Key>: FaceChange<K> {
+    ghost use Rattle.zt_model.specs.Rows.{Face};
+    ghost use Rattle.zt_state.specs.Indexed.{KeepsLive};
+
+    /// The face keeps its number, its region and its tokens.
+    ghost keeps_live: { (c : Self) (f : Face K) → KeepsLive f (Self.changed c f) };
 }
 
-// Changes a face where it has the number. The only error is want of memory.
-fn add_numbered<K: Key, C: FaceAddition<K>>(
+/// A change of a face that takes memory and keeps what it declares.
+pub trait QuietAddition<K: Key>: FaceAddition<K> {
+    ghost use Rattle.zt_model.specs.Rows.{Face};
+    ghost use Rattle.zt_state.specs.Indexed.{KeepsLive};
+
+    /// The face keeps its number, its region and its tokens.
+    ghost keeps_live: { (c : Self) (f : Face K) → KeepsLive f (Self.added c f) };
+}
+
+// Nothing is left, after want of memory.
+pub(crate) fn empty<K: Key>(
     alloc: Global,
-    f: &mut FaceState<K>,
-    number: u32,
-    addition: &C,
-) -> Result<(), Memory>
-    ensures { OnOk result (f.new
-        ≡ (if number == f.old.number then C.added addition.now f.old else f.old)) }
+    faces: &mut Faces<K>,
+    routed: &mut Vec<RoutedToken<K>>,
+    live: &mut LiveCounts<K>,
+)
+    ensures faces { faces.new ≡ [] }
+    ensures routed { routed.new.items ≡ [] }
+    ensures live { live.new ≡ [] }
 {
-    if number == f.number {
-        addition.add(alloc, f)?;
+    *faces = Faces::new(alloc);
+    routed.clear();
+    *live = LiveCounts::new(alloc);
+}
+
+#[tactic(auto, unfolding(zt_model::specs::Parts::with_face))]
+impl<K: Key> GatewayState<K> {
+    // Changes the face of a number in what it doesn't declare.
+    pub(crate) fn change_face<C: QuietChange<K>>(&mut self, number: u32, change: &C)
+        ensures { self.new ≡ with_face number (C.changed change.now) self.old }
+    {
+        self.faces.change(number, change);
     }
-    Ok(())
+
+    // Changes the face of a number in what it doesn't declare. The only error is want of memory.
+    pub(crate) fn add_to_face<C: QuietAddition<K>>(
+        &mut self,
+        alloc: Global,
+        number: u32,
+        addition: &C,
+    ) -> Result<(), Memory>
+        ensures { OnOk result (self.new ≡ with_face number (C.added addition.now) self.old) }
+    {
+        match self.faces.add(alloc, number, addition) {
+            Ok(()) => Ok(()),
+            Err(error) => {
+                empty(alloc, &mut self.faces, &mut self.routed, &mut self.live);
+                Err(error)
+            }
+        }
+    }
 }

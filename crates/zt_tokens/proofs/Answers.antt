@@ -90,21 +90,14 @@ module _ {K : Type 0} (cmp : K → K → Ordering) (matching : K → K → Bool)
       ∙ left
 
 -- what is sent so far and for the rows left is all, one row later too
-pub rows_more : {X M S : Type 0} (print : M → S) (rule : X → List M) (xs : List X) (i : ℕ) (x : X) (before after all : List S)
-    → i < length xs → x ≡ get_or xs i x
-    → before ++ map print (flat_map rule (drop i xs)) ≡ all
+pub rows_one_less : {X M S : Type 0} (print : M → S) (rule : X → List M) (rest left : List X) (x : X) (before after all : List S)
+    → before ++ map print (flat_map rule rest) ≡ all
+    → rest ≡ x ∷ left
     → after ≡ before ++ map print (rule x)
-    → after ++ map print (flat_map rule (drop (i + 1) xs)) ≡ all
-rows_more print rule xs i x before after all within is left more =
-    let rest = flat_map rule (drop (i + 1) xs) in
-    ap (λ sends. sends ++ map print rest) more
-    ∙ append_assoc before (map print (rule x)) (map print rest)
-    ∙ ap (λ sends. before ++ sends) (sym (map-append print (rule x) rest))
-    ∙ ap (λ ys. before ++ map print (flat_map rule ys)) (sym (drop_item xs i x within is))
-    ∙ left
-
--- behind the last row all is sent
-pub rows_done : {X M S : Type 0} (print : M → S) (rule : X → List M) (xs : List X) (i : ℕ) (before all : List S)
-    → length xs ≤ i → before ++ map print (flat_map rule (drop i xs)) ≡ all → before ≡ all
-rows_done print rule xs i before all past left =
-    sym (append-nil before) ∙ ap (λ ys. before ++ map print (flat_map rule ys)) (sym (drop_all i xs past)) ∙ left
+    → after ++ map print (flat_map rule left) ≡ all
+rows_one_less print rule rest left x before after all so_far first more =
+    ap (λ sends. sends ++ map print (flat_map rule left)) more
+    ∙ append_assoc before (map print (rule x)) (map print (flat_map rule left))
+    ∙ ap (λ sends. before ++ sends) (sym (map-append print (rule x) (flat_map rule left)))
+    ∙ ap (λ ys. before ++ map print (flat_map rule ys)) (sym first)
+    ∙ so_far

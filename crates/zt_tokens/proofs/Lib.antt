@@ -1,4 +1,3 @@
-pub mod Lists
-pub mod Shown
+mod Visible
 pub mod Gathering
 pub mod Answers

@@ -1,7 +1,6 @@
 // What interests and asks are answered.
 ghost use Rattle.std.specs.Prelude.{◌≡◌, ◌&&◌, ◌++◌, ◌∷◌, [], if◌then◌else◌, IfOk, OnOk};
 ghost use Rattle.std.specs.Prelude.{filter, map, unwrap_or};
-ghost use Rattle.zt_model.specs.Lists.{is_among};
 ghost use Rattle.zt_model.specs.Parts.{to_face, told_id};
 ghost use Rattle.zt_model.specs.Telling.{answer, answer_to, answers_from, answers_of};
 ghost use Rattle.zt_model.specs.Telling.{answered_expressions, is_answered_by, was_sent_as};
@@ -9,13 +8,13 @@ ghost use Rattle.zt_model.specs.Wants.{asks_token};
 ghost use Rattle.zt_protocol.specs.Interest.{has_tokens, is_current, is_future};
 ghost use Rattle.zt_tokens.specs.Answered.{answer_of, id_after};
 
-use crate::questions::{find_face, told_id};
+use crate::questions::find_face;
 use crate::visibility::visible_expressions;
 use bitflags::Flags;
 use std::alloc::Global;
 use zt_keys::{Key, Memory};
 use zt_protocol::{InterestId, InterestMode, InterestOptions, Message, TokenId};
-use zt_state::{AskState, FaceState, GatewayState, RemoteInterest};
+use zt_state::{AskState, FaceState, GatewayState, LocalTokens, RemoteInterest, is_among};
 
 // Whether the interest asks for tokens that are there now.
 fn asks_now<K: Key>(interest: &RemoteInterest<K>) -> bool
@@ -54,12 +53,12 @@ pub fn answered_expressions<K: Key>(
 
 // The id of an answer: 0 where what comes later isn't asked for, else the one under which the face
 // keeps the expression, or a new one.
-fn answer_id<K: Key>(next: u32, told: &[(u32, K)], mode: InterestMode, expr: &K) -> TokenId
+fn answer_id<K: Key>(next: u32, told: &LocalTokens<K>, mode: InterestMode, expr: &K) -> TokenId
     ensures { result ≡ (if is_future mode
         then unwrap_or (told_id K.cmp expr.now told.now) next else 0) }
 {
     if mode.is_future() {
-        told_id(told, expr).unwrap_or(next)
+        told.id_of(expr).unwrap_or(next)
     } else {
         0
     }
@@ -68,13 +67,13 @@ fn answer_id<K: Key>(next: u32, told: &[(u32, K)], mode: InterestMode, expr: &K)
 // The id that is drawn after the answer of an expression. Ids that run out count as want of memory.
 fn id_after<K: Key>(
     next: u32,
-    told: &[(u32, K)],
+    told: &LocalTokens<K>,
     mode: InterestMode,
     expr: &K,
 ) -> Result<u32, Memory>
     ensures { IfOk result (λ after. after ≡ id_after K.cmp next told.now mode expr.now) }
 {
-    if mode.is_future() && told_id(told, expr).is_none() {
+    if mode.is_future() && told.id_of(expr).is_none() {
         return next.checked_add(1).ok_or(Memory);
     }
     Ok(next)
@@ -85,7 +84,7 @@ fn answer_one<K: Key>(
     alloc: Global,
     face: u32,
     next: u32,
-    told: &[(u32, K)],
+    told: &LocalTokens<K>,
     mode: InterestMode,
     id: InterestId,
     expr: &K,
@@ -152,13 +151,6 @@ fn was_sent_as<K: Key>(face: u32, id: InterestId, ask: &AskState<K>) -> bool
     ask.pendings().iter().any(|p| face == p.0 && id == p.1)
 }
 
-/// Whether the expression is among these.
-pub fn is_among<K: Key>(expr: &K, exprs: &[K]) -> bool
-    ensures { result ≡ is_among K.cmp expr.now exprs.now }
-{
-    exprs.iter().any(|other| expr == other)
-}
-
 /// Whether a token that the face declares for the interest which was sent to it as `id` answers the
 /// ask.
 pub fn is_answered_by<K: Key>(face: u32, id: InterestId, expr: &K, ask: &AskState<K>) -> bool
@@ -167,28 +159,29 @@ pub fn is_answered_by<K: Key>(face: u32, id: InterestId, expr: &K, ask: &AskStat
     was_sent_as(face, id, ask) && ask.interest().asks_token(expr) && !is_among(expr, ask.answered())
 }
 
-// Adds the answer of one ask, where the token answers it.
+// Adds the answer of the ask under an id, where the token answers it.
 fn answer_ask<K: Key>(
     alloc: Global,
     f: &FaceState<K>,
     face: u32,
     id: InterestId,
     expr: &K,
-    row: &(u32, AskState<K>),
+    under: InterestId,
+    ask: &AskState<K>,
     sends: &mut Vec<(u32, Message<K>)>,
 ) -> Result<(), Memory>
     ensures { OnOk result (sends.new.items ≡ sends.old.items ++ map (λ m. (f.now.number, m))
-        (answer_of K.cmp K.matching face id expr.now f.now row.now)) }
+        (answer_of K.cmp K.matching face id expr.now f.now (under, ask.now))) }
 {
-    if is_answered_by(face, id, expr, &row.1) {
-        let mode = row.1.interest().mode();
+    if is_answered_by(face, id, expr, ask) {
+        let mode = ask.interest().mode();
         answer_one(
             alloc,
             f.number(),
             f.next(),
             f.told(),
             mode,
-            row.0,
+            under,
             expr,
             sends,
         )?;
@@ -208,8 +201,8 @@ fn answer_to<K: Key>(
     ensures { OnOk result (sends.new.items ≡ sends.old.items
         ++ map (λ m. (f.now.number, m)) (answer_to K.cmp K.matching face id expr.now f.now)) }
 {
-    for row in f.asks() {
-        answer_ask(alloc, f, face, id, expr, row, sends)?;
+    for (under, ask) in f.asks().iter() {
+        answer_ask(alloc, f, face, id, expr, *under, ask, sends)?;
     }
     Ok(())
 }

@@ -4,7 +4,7 @@ ghost use Rattle.zt_model.specs.Parts.{told_id};
 ghost use Rattle.zt_model.specs.Wants.{wants};
 ghost use Rattle.zt_model.specs.Telling.{forget, forget_to, forget_untold};
 
-use crate::questions::{is_client_region, is_routed, is_visible, shows, told_id, wants};
+use crate::questions::{is_client_region, is_routed, is_visible, shows, wants};
 use std::alloc::Global;
 use zt_keys::{Key, Memory};
 use zt_protocol::Message;
@@ -41,7 +41,7 @@ fn is_unheard<K: Key>(f: &FaceState<K>, expr: &K) -> bool
     ensures untold { result ≡ true → told_id K.cmp expr.now f.now.told ≡ None }
     ensures unwanted { result ≡ true → wants K.matching f.now expr.now ≡ false }
 {
-    told_id(f.told(), expr).is_none() && !wants(f, expr)
+    f.told().id_of(expr).is_none() && !wants(f, expr)
 }
 
 // Adds what a face hears of an expression that is gone.
@@ -60,7 +60,7 @@ fn forget_to<K: Key>(
     if is_routed(g, f) || is_unheard(f, expr) || is_visible(g, f.region(), expr) {
         return Ok(());
     }
-    let Some(id) = told_id(f.told(), expr) else {
+    let Some(id) = f.told().id_of(expr) else {
         return forget_untold_to(alloc, g, source, expr, f, sends);
     };
     let message = Message::UndeclareToken {

@@ -9,12 +9,12 @@ mod questions;
 mod telling;
 mod visibility;
 
-pub use answering::{answer, answer_interest, answered_expressions, is_among, is_answered_by};
+pub use answering::{answer, answer_interest, answered_expressions, is_answered_by};
 pub use forgetting::forget;
-pub use ordering::insert_in_order;
+pub use ordering::{KeysInOrder, insert_in_order};
 pub use questions::{
     find_face, is_client_region, is_routed, is_router_region, is_told, is_visible, keeps, seeks,
-    shows, told_id, wants,
+    shows, wants,
 };
 pub use telling::tell;
-pub use visibility::{insert_live, visible_expressions};
+pub use visibility::visible_expressions;

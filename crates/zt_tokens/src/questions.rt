@@ -1,43 +1,29 @@
 // Which tokens a face may see, which it asked for, and which it was told.
-ghost use Rattle.std.specs.Prelude.{◌≡◌, ◌&&◌, not};
-ghost use Rattle.std.specs.List.{list_any};
+ghost use Rattle.std.specs.Prelude.{◌≡◌};
 ghost use Rattle.std.specs.Option.{option_copied};
-ghost use Rattle.zt_model.specs.Lists.{same};
-ghost use Rattle.zt_model.specs.Parts.{find_face, is_routed, told_id};
+ghost use Rattle.zt_model.specs.Parts.{find_face, is_routed};
 ghost use Rattle.zt_model.specs.Strategy.{strategy_of, is_client_hat, is_router_hat};
 ghost use Rattle.zt_model.specs.Telling.{is_told};
 ghost use Rattle.zt_model.specs.Visible.{is_visible, keeps, shows};
-ghost use Rattle.zt_model.specs.Wants.{asks_token, seeks, wants};
-ghost use Rattle.zt_region.specs.Region.{zid_eq};
+ghost use Rattle.zt_model.specs.Wants.{seeks, wants};
 
+use zt_indexes::RegionTest;
 use zt_keys::Key;
-use zt_region::{Region, WhatAmI, Zid};
-use zt_state::{FaceState, GatewayState, RemoteInterest, RoutedToken};
+use zt_region::{Region, WhatAmI};
+use zt_state::{FaceState, GatewayState};
 
 /// The open face with this number.
 pub fn find_face<K: Key>(g: &GatewayState<K>, number: u32) -> Option<&FaceState<K>>
     ensures { option_copied result ≡ find_face number g.now }
 {
-    for f in g.faces() {
-        if number == f.number() {
-            return Some(f);
-        }
-    }
-    None
+    g.find_face(number)
 }
 
 /// Whether the face was told the expression and not told that it is gone.
 pub fn keeps<K: Key>(f: &FaceState<K>, expr: &K) -> bool
     ensures { result ≡ keeps K.cmp f.now expr.now }
 {
-    f.told().iter().any(|row| expr == &row.1)
-}
-
-// Whether a held interest asks for tokens of the expression.
-fn asks<K: Key>(row: &(u32, RemoteInterest<K>), expr: &K) -> bool
-    ensures { result ≡ asks_token K.matching row.now.1 expr.now }
-{
-    row.1.asks_token(expr)
+    f.told().has(expr)
 }
 
 /// Whether the face holds an interest in the expression's tokens.
@@ -45,7 +31,9 @@ fn asks<K: Key>(row: &(u32, RemoteInterest<K>), expr: &K) -> bool
 pub fn wants<K: Key>(f: &FaceState<K>, expr: &K) -> bool
     ensures { result ≡ wants K.matching f.now expr.now }
 {
-    f.held().iter().any(|row| asks(row, expr))
+    f.held()
+        .iter()
+        .any(|(_, interest)| interest.asks_token(expr))
 }
 
 /// Whether the face may be told of the expression.
@@ -106,61 +94,23 @@ pub fn is_told<K: Key>(g: &GatewayState<K>, source: Region, expr: &K, f: &FaceSt
         && seeks(f, expr)
 }
 
-/// The id under which a face was told an expression: the first in this list of told rows.
-#[tactic(auto, unfolding(zt_model::specs::Parts::told_id))]
-pub fn told_id<K: Key>(told: &[(u32, K)], expr: &K) -> Option<u32>
-    ensures { result ≡ told_id K.cmp expr.now told.now }
-{
-    for row in told {
-        if expr == &row.1 {
-            return Some(row.0);
-        }
+/// Of regions those whose tokens faces of this region are shown.
+#[derive(Drop)]
+pub struct ShownTo(pub Region);
+
+impl RegionTest for ShownTo {
+    ghost use Rattle.zt_model.specs.Visible.{shows};
+
+    ghost passes = { λ t. shows t.0 };
+
+    fn passes(&self, region: Region) -> bool {
+        shows(self.0, region)
     }
-    None
 }
 
-// Whether some row is of the expression.
-fn has_expression<K: Key>(rows: &[(u32, K)], expr: &K) -> bool
-    ensures { result ≡ list_any (λ row. same K.cmp expr.now row.1) rows.now }
-{
-    rows.iter().any(|row| expr == &row.1)
-}
-
-// Whether the face declares the expression and stands in a region that `own` is shown.
-fn is_shown_by<K: Key>(f: &FaceState<K>, own: Region, expr: &K) -> bool
-    ensures { result ≡ (shows own f.now.region
-        && list_any (λ row. same K.cmp expr.now row.1) f.now.live) }
-{
-    shows(own, f.region()) && has_expression(f.live(), expr)
-}
-
-// Whether such a face is among these.
-fn is_shown_by_faces<K: Key>(faces: &[FaceState<K>], own: Region, expr: &K) -> bool
-    ensures { result ≡ list_any (λ f. shows own f.region
-        && list_any (λ row. same K.cmp expr.now row.1) f.live) faces.now }
-{
-    faces.iter().any(|f| is_shown_by(f, own, expr))
-}
-
-// Whether another router's row is of the expression and of a region that `own` is shown.
-fn is_shown_row<K: Key>(zid: Zid, row: &RoutedToken<K>, own: Region, expr: &K) -> bool
-    ensures { result ≡ (not (zid_eq row.now.source zid)
-        && (same K.cmp expr.now row.now.expr && shows own row.now.region)) }
-{
-    row.source() != zid && expr == row.expr() && shows(own, row.region())
-}
-
-// Whether such a row is among these.
-fn is_shown_by_rows<K: Key>(zid: Zid, rows: &[RoutedToken<K>], own: Region, expr: &K) -> bool
-    ensures { result ≡ list_any (λ row. not (zid_eq row.source zid)
-        && (same K.cmp expr.now row.expr && shows own row.region)) rows.now }
-{
-    rows.iter().any(|row| is_shown_row(zid, row, own, expr))
-}
-
-/// Whether some live token of the expression is shown to faces of the region `own`.
+/// Whether some live token of the expression is shown to faces of the region `own`. A look-up.
 pub fn is_visible<K: Key>(g: &GatewayState<K>, own: Region, expr: &K) -> bool
     ensures { result ≡ is_visible K.cmp g.now own expr.now }
 {
-    is_shown_by_faces(g.faces(), own, expr) || is_shown_by_rows(g.zid(), g.routed(), own, expr)
+    g.live().is_shown(expr, &ShownTo(own))
 }

@@ -1,102 +1,12 @@
-// The visible expressions, gathered from the last row to the first.
-ghost use Rattle.std.specs.Prelude.{◌≡◌, IfOk, OnOk, map};
-ghost use Rattle.std.specs.List.{flat_map};
+// The visible expressions.
+ghost use Rattle.std.specs.Prelude.{◌≡◌, IfOk};
 ghost use Rattle.zt_model.specs.Visible.{visible_expressions};
-ghost use Rattle.zt_tokens.specs.Gathered.{shown_of, shown_row, with_keys};
 
-use crate::ordering::insert_in_order;
-use crate::questions::shows;
+use crate::questions::ShownTo;
 use std::alloc::Global;
 use zt_keys::{Key, Memory};
-use zt_region::{Region, Zid};
-use zt_state::{FaceState, GatewayState, RoutedToken};
-
-/// Puts the expressions of these tokens in their places among keys in order, each once. The only error
-/// is want of memory.
-pub fn insert_live<K: Key>(
-    alloc: Global,
-    live: &[(u32, K)],
-    keys: &mut Vec<K>,
-) -> Result<(), Memory>
-    ensures { OnOk result (keys.new.items
-        ≡ with_keys K.cmp (map (λ row. row.1) live.now) keys.old.items) }
-{
-    let mut left = live.len();
-    while left > 0 {
-        left -= 1;
-        insert_in_order(alloc, keys, &live[left].1)?;
-    }
-    Ok(())
-}
-
-// Puts the expressions that a face declares in their places, where the region is shown them.
-fn insert_shown<K: Key>(
-    alloc: Global,
-    own: Region,
-    f: &FaceState<K>,
-    keys: &mut Vec<K>,
-) -> Result<(), Memory>
-    ensures { OnOk result (keys.new.items ≡ with_keys K.cmp (shown_of own f.now) keys.old.items) }
-{
-    if shows(own, f.region()) {
-        insert_live(alloc, f.live(), keys)?;
-    }
-    Ok(())
-}
-
-// Puts the expressions of these faces in their places.
-fn insert_faces<K: Key>(
-    alloc: Global,
-    own: Region,
-    faces: &[FaceState<K>],
-    keys: &mut Vec<K>,
-) -> Result<(), Memory>
-    ensures { OnOk result (keys.new.items
-        ≡ with_keys K.cmp (flat_map (shown_of own) faces.now) keys.old.items) }
-{
-    let mut left = faces.len();
-    while left > 0 {
-        left -= 1;
-        insert_shown(alloc, own, &faces[left], keys)?;
-    }
-    Ok(())
-}
-
-// Puts the expression of another router's row in its place, where the region is shown it.
-fn insert_row<K: Key>(
-    alloc: Global,
-    zid: Zid,
-    own: Region,
-    row: &RoutedToken<K>,
-    keys: &mut Vec<K>,
-) -> Result<(), Memory>
-    ensures { OnOk result (keys.new.items
-        ≡ with_keys K.cmp (shown_row zid own row.now) keys.old.items) }
-{
-    if row.source() != zid && shows(own, row.region()) {
-        insert_in_order(alloc, keys, row.expr())?;
-    }
-    Ok(())
-}
-
-// Puts the expressions of these rows in their places.
-fn insert_rows<K: Key>(
-    alloc: Global,
-    zid: Zid,
-    own: Region,
-    rows: &[RoutedToken<K>],
-    keys: &mut Vec<K>,
-) -> Result<(), Memory>
-    ensures { OnOk result (keys.new.items
-        ≡ with_keys K.cmp (flat_map (shown_row zid own) rows.now) keys.old.items) }
-{
-    let mut left = rows.len();
-    while left > 0 {
-        left -= 1;
-        insert_row(alloc, zid, own, &rows[left], keys)?;
-    }
-    Ok(())
-}
+use zt_region::Region;
+use zt_state::GatewayState;
 
 /// The expressions that are visible to faces of a region, in key order, each once. The only error
 /// is want of memory.
@@ -107,8 +17,5 @@ pub fn visible_expressions<K: Key>(
 ) -> Result<Vec<K>, Memory>
     ensures { IfOk result (λ exprs. exprs.items ≡ visible_expressions K.cmp g.now own) }
 {
-    let mut exprs = Vec::new(alloc);
-    insert_rows(alloc, g.zid(), own, g.routed(), &mut exprs)?;
-    insert_faces(alloc, own, g.faces(), &mut exprs)?;
-    Ok(exprs)
+    g.live().shown_keys(alloc, &ShownTo(own))
 }

@@ -1,5 +1,5 @@
 //! What asks of trees aren't answered: theorems over the definitions of `zt_model`, each the contract of a function that does
-//! nothing. `specs/Tokens.antt` has the words for tokens of a kind. That asks get what stays isn't proved here.
+//! nothing. `specs/Tokens.antt` has the words for tokens of a kind. What asks get `zt_tree_answers` proves.
 #![tactic(auto)]
 
 ghost use Rattle.std.specs.Prelude.{◌≡◌, Bool, true, List};

@@ -4,6 +4,7 @@ use Rattle.zt_calls.specs.Does.{Does}
 use Rattle.zt_model.specs.Parts.{Alter, Part, Say, with_face}
 use Rattle.zt_calls.proofs.Doing.{does-nothing}
 use Rattle.zt_calls.proofs.PartsOf.{final_at_face, final_nobody}
+use Rattle.zt_model.specs.Lists.{has_id}
 use Rattle.zt_model.specs.Routing.{ending, initial_finalised}
 use Rattle.zt_calls.proofs.carrying.final_from_north.Goals as goal
 
@@ -22,5 +23,5 @@ returns g c =
     let f = c.in-Some.f.now in
     let r = c.declare_final.result in
     let is = sym c.find.ensures ∙ ap option_copied c.in-Some.is in
-    let done = subst (λ (waits : Bool). OnOk r (Does cmp matching (Alter (with_face n (initial_finalised id)) ∷ (if waits then ending n id else [])) c.args.g.now c.declare_final.new.g c.args.speech.now c.declare_final.new.speech)) c.is_pending-waits.ensures c.declare_final.ensures in
+    let done = subst (λ (waits : Bool). OnOk r (Does cmp matching (Alter (with_face n (initial_finalised id)) ∷ (if waits then ending n id else [])) c.args.g.now c.declare_final.new.g c.args.speech.now c.declare_final.new.speech)) (c.has-waits.ensures ∙ ap (has_id id) c.pendings.ensures) c.declare_final.ensures in
     subst (λ (ps : List (Part g.row.K.Denot)). OnOk r (Does cmp matching ps c.args.g.now c.declare_final.new.g c.args.speech.now c.declare_final.new.speech)) (sym (final_at_face cmp matching n id c.args.g.now f is)) done

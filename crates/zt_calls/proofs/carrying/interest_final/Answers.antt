@@ -15,15 +15,15 @@ returns-in_default g c =
     subst (λ (parts : List (Part g.row.K.Denot)). Does g.K.Ord.cmp g.K.Key.matching parts c.args.g.now c.args.g.now c.args.speech.now c.args.speech.now) (sym (interest_final_nobody g.K.Ord.cmp g.K.Key.matching c.args.face c.args.id c.args.g.now none))
     (does-nothing g.K.Ord.cmp g.K.Key.matching c.args.g.now c.args.speech.now)
 
-pub returns-in_default-held_at : goal.returns-in_default-held_at
-returns-in_default-held_at g c =
+pub returns-in_default-at : goal.returns-in_default-at
+returns-in_default-at g c =
     let cmp = g.K.Ord.cmp in
     let matching = g.K.Key.matching in
     let n = c.args.face in
     let id = c.args.id in
     let f = c.in-Some.f.now in
     let is = sym c.find.ensures ∙ ap option_copied c.in-Some.is in
-    let none = sym c.held_at.ensures ∙ ap option_copied c.in_default-held_at.is in
+    let none = sym (c.at.ensures ∙ ap (at_id id) c.held.ensures) ∙ ap option_copied c.in_default-at.is in
     let parts = interest_final_at_face cmp matching n id c.args.g.now f is ∙ nobody (λ (interest : InterestRow g.row.K.Denot). finalising cmp matching n id interest) (at_id id f.held) none in
     subst (λ (ps : List (Part g.row.K.Denot)). Does cmp matching ps c.args.g.now c.args.g.now c.args.speech.now c.args.speech.now) (sym parts)
     (does-nothing cmp matching c.args.g.now c.args.speech.now)
@@ -37,7 +37,7 @@ returns g c =
     let f = c.in-Some.f.now in
     let r = c.finalise.result in
     let is = sym c.find.ensures ∙ ap option_copied c.in-Some.is in
-    let held = sym c.held_at.ensures ∙ ap option_copied c.in-Some-held_at.is in
+    let held = sym (c.at.ensures ∙ ap (at_id id) c.held.ensures) ∙ ap option_copied c.in-Some-at.is in
     let done = subst (λ (interest : InterestRow g.row.K.Denot). OnOk r (Does cmp matching (finalising cmp matching n id interest) c.args.g.now c.finalise.new.g c.args.speech.now c.finalise.new.speech)) c.in_ok-interest.ensures c.finalise.ensures in
-    let parts = interest_final_at_face cmp matching n id c.args.g.now f is ∙ somebody (λ (interest : InterestRow g.row.K.Denot). finalising cmp matching n id interest) (at_id id f.held) c.in-Some-held_at.held.now held in
+    let parts = interest_final_at_face cmp matching n id c.args.g.now f is ∙ somebody (λ (interest : InterestRow g.row.K.Denot). finalising cmp matching n id interest) (at_id id f.held) c.in-Some-at.held.now held in
     subst (λ (ps : List (Part g.row.K.Denot)). OnOk r (Does cmp matching ps c.args.g.now c.finalise.new.g c.args.speech.now c.finalise.new.speech)) (sym parts) done

@@ -1,8 +1,8 @@
 use Rattle.zt_calls.specs.Leaving.{leaving_pending}
-use Rattle.zt_calls.proofs.Doing.{Leads}
+use Rattle.zt_calls.proofs.Doing.{LeadsOver}
 use Rattle.zt_calls.proofs.closing.leave_pendings.Given as goal
 
 -- whatever does what is left has done all
-abbrev pub invariant-loop-row : goal.invariant-loop-row
-invariant-loop-row g l =
-    Leads g.K.Ord.cmp g.K.Key.matching (leaving_pending l.face) l.pendings l.row-index l.fn.g l.g l.fn.speech l.speech
+abbrev pub invariant-loop-id : goal.invariant-loop-id
+invariant-loop-id g l =
+    LeadsOver g.K.Ord.cmp g.K.Key.matching (leaving_pending l.face) l.pendings l.id-iterator l.fn.g l.g l.fn.speech l.speech

@@ -11,8 +11,9 @@ returns g c =
     let cmp = g.K.Ord.cmp in
     let matching = g.K.Key.matching in
     let f = c.args.f.now in
-    let row = c.args.row.now in
-    let hidden = subst (λ (region : Region). OnOk c.hide_token.result (Does cmp matching (hiding cmp region row.1) c.undeclare_found.new.g c.hide_token.new.g c.undeclare_found.new.speech c.hide_token.new.speech)) c.region.ensures c.hide_token.ensures in
-    does-then cmp matching c.hide_token.result (undeclaring cmp matching f.number row.0 None f) (hiding cmp f.region row.1) c.args.g.now c.undeclare_found.new.g c.hide_token.new.g c.args.speech.now c.undeclare_found.new.speech c.hide_token.new.speech
+    let id = c.args.id in
+    let e = c.args.expr.now in
+    let hidden = subst (λ (region : Region). OnOk c.hide_token.result (Does cmp matching (hiding cmp region e) c.undeclare_found.new.g c.hide_token.new.g c.undeclare_found.new.speech c.hide_token.new.speech)) c.region.ensures c.hide_token.ensures in
+    does-then cmp matching c.hide_token.result (undeclaring cmp matching f.number id None f) (hiding cmp f.region e) c.args.g.now c.undeclare_found.new.g c.hide_token.new.g c.args.speech.now c.undeclare_found.new.speech c.hide_token.new.speech
     c.in_ok-undeclare_found.ensures
     hidden

@@ -1,4 +1,5 @@
-use Rattle.std.proofs.Common.{◌≡◌, ap, sym, ◌∙◌}
+use Rattle.std.proofs.Common.{◌≡◌, ap, subst, sym, ◌∙◌}
+use Rattle.zt_kept.specs.Sound.{IsSound}
 use Rattle.zt_gateway.specs.Running.{Running}
 use Rattle.zt_gateway.proofs.gateway.plan.Goals as goal
 
@@ -16,3 +17,12 @@ invariant_of-result g c =
 
 pub returns-clause-outcome : goal.returns-clause-outcome
 returns-clause-outcome g c = rw (← c.gateway.view_is) c.in_ok-state.ensures.outcome
+
+pub invariant_of-gateway-in_default : goal.invariant_of-gateway-in_default
+invariant_of-gateway-in_default g c = subst (IsSound g.K.Ord.cmp g.K.Key.matching) (sym c.in_ok-state.ensures.same) c.gateway.invariant
+
+pub invariant_of-gateway-in_default-room_for : goal.invariant_of-gateway-in_default-room_for
+invariant_of-gateway-in_default-room_for g c = subst (IsSound g.K.Ord.cmp g.K.Key.matching) (sym c.in_ok-state.ensures.same) c.gateway.invariant
+
+pub invariant_of-gateway-2 : goal.invariant_of-gateway-2
+invariant_of-gateway-2 g c = subst (IsSound g.K.Ord.cmp g.K.Key.matching) (sym c.in_ok-state.ensures.same) c.gateway.invariant

@@ -6,11 +6,11 @@ use Rattle.zt_links.proofs.fabric.carry_made.Goals as goal
 pub accept-requires-clause-accepted : goal.accept-requires-clause-accepted
 accept-requires-clause-accepted g c = sym c.in_ok-refusal.ensures ∙ c.in-None.is
 
-pub returns-in_ok-refuse-in-Some-clause-entry : goal.returns-in_ok-refuse-in-Some-clause-entry
-returns-in_ok-refuse-in-Some-clause-entry g c = refused_entry g.K.Ord.cmp g.K.Key.matching (plain_line c.args.line.now) c.args.s.now c.in-Some.refusal (sym c.in_ok-refusal.ensures ∙ c.in-Some.is)
+pub returns-in-Some-clause-entry : goal.returns-in-Some-clause-entry
+returns-in-Some-clause-entry g c = refused_entry g.K.Ord.cmp g.K.Key.matching (plain_line c.args.line.now) c.args.s.now c.in-Some.refusal (sym c.in_ok-refusal.ensures ∙ c.in-Some.is)
 
-pub returns-in_ok-refuse-in-Some-clause-ok : goal.returns-in_ok-refuse-in-Some-clause-ok
-returns-in_ok-refuse-in-Some-clause-ok g c = c.in_ok-refuse-in-Some.ensures.ok ∙ refused_fabric g.K.Ord.cmp g.K.Key.matching (plain_line c.args.line.now) c.args.s.now c.in-Some.refusal
+pub returns-in-Some-clause-ok : goal.returns-in-Some-clause-ok
+returns-in-Some-clause-ok g c = c.refuse.ensures ∙ refused_fabric g.K.Ord.cmp g.K.Key.matching (plain_line c.args.line.now) c.args.s.now c.in-Some.refusal
 
 pub returns-in_ok-sent-in-None-clause-entry : goal.returns-in_ok-sent-in-None-clause-entry
 returns-in_ok-sent-in-None-clause-entry g c =

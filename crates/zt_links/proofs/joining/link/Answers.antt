@@ -1,12 +1,17 @@
-use Rattle.std.proofs.Common.{◌≡◌, ◌++◌, None, Some, map, option_map, ap, subst, sym, ◌∙◌}
+use Rattle.std.proofs.Common.{◌≡◌, ◌++◌, None, Some, Result, Ok, Err, IfOk, map, option_map, ap, subst, sym, ◌∙◌}
+use Rattle.std.proofs.lemmas.Result.{IfOk-weaker}
 use Rattle.zt_protocol.specs.Plain.{plain_call}
 use Rattle.zt_model.specs.Fabric.{Fabric, sorted_by_face}
 use Rattle.zt_model.specs.Linking.{with_link}
 use Rattle.zt_model.specs.Lists.{nth}
 use Rattle.zt_laws.specs.Order.{FabricIsInOrder}
 use Rattle.zt_links.specs.Lines.{opened_by_call, opening_call, row_after, said_by_opening}
-use Rattle.zt_links.proofs.Joined.{accepted_calls, between_in_order, joined_does, joined_says, opens_by}
+use Rattle.zt_links.proofs.Joined.{accepted_calls, between_in_order, joined_does, joined_says, known_by, opens_by}
 use Rattle.zt_links.proofs.joining.link.Goals as goal
+
+both : {A E : Type 0} (P Q R : A → Type 0) (r : Result A E) → ((x : A) → P x → Q x → R x) → IfOk r P → IfOk r Q → IfOk r R
+both P Q R (Ok x) all p q = all x p q
+both P Q R (Err e) all p q = tt
 
 pub unreachable-requires : goal.unreachable-requires
 unreachable-requires g c =
@@ -39,8 +44,17 @@ make_link-requires-clause-order_between g c =
     let answer = plain_call c.in-Some-2.answer in
     let goes : opening_call (nth one s.gateways) (nth two s.gateways) c.args.first ≡ Some forth = sym c.in_ok-forth.ensures ∙ ap (option_map plain_call) c.in-Some.is in
     let comes : opening_call (nth two s.gateways) (nth one s.gateways) c.args.back ≡ Some answer = sym c.in_ok-answer.ensures ∙ ap (option_map plain_call) c.in-Some-2.is in
-    subst (λ (t : Fabric _). FabricIsInOrder cmp matching (opened_by_call cmp matching one forth t)) (sym c.in_ok-draft.ensures)
-    (between_in_order cmp matching g.met.K.Ord.total one two c.args.first c.args.back s forth answer goes comes c.requires.first_id c.requires.order)
+    between_in_order cmp matching g.met.K.Ord.total one two c.args.first c.args.back s forth answer goes comes c.requires.first_id c.requires.order
+
+pub make_link-requires-clause-there_one : goal.make_link-requires-clause-there_one
+make_link-requires-clause-there_one g c =
+    let s = c.args.s.now in
+    (known_by (nth c.args.one s.gateways) (nth c.args.two s.gateways) c.args.first (plain_call c.in-Some.forth) (sym c.in_ok-forth.ensures ∙ ap (option_map plain_call) c.in-Some.is)).0
+
+pub make_link-requires-clause-there_two : goal.make_link-requires-clause-there_two
+make_link-requires-clause-there_two g c =
+    let s = c.args.s.now in
+    (known_by (nth c.args.one s.gateways) (nth c.args.two s.gateways) c.args.first (plain_call c.in-Some.forth) (sym c.in_ok-forth.ensures ∙ ap (option_map plain_call) c.in-Some.is)).1
 
 pub returns-clause-says : goal.returns-clause-says
 returns-clause-says g c =
@@ -53,9 +67,9 @@ returns-clause-says g c =
     let answer = plain_call c.in-Some-2.answer in
     let goes : opening_call (nth one s.gateways) (nth two s.gateways) c.args.first ≡ Some forth = sym c.in_ok-forth.ensures ∙ ap (option_map plain_call) c.in-Some.is in
     let comes : opening_call (nth two s.gateways) (nth one s.gateways) c.args.back ≡ Some answer = sym c.in_ok-answer.ensures ∙ ap (option_map plain_call) c.in-Some-2.is in
-    c.in_ok-sent.ensures.says
-    ∙ ap (λ (t : Fabric _). sorted_by_face (said_by_opening cmp matching one forth t ++ said_by_opening cmp matching two answer (opened_by_call cmp matching one forth t))) c.in_ok-draft.ensures
-    ∙ joined_says cmp matching g.met.K.Ord.total one two c.args.first c.args.back s forth answer goes comes
+    IfOk-weaker c.make_link.result _ _
+    (λ sent says. says ∙ joined_says cmp matching g.met.K.Ord.total one two c.args.first c.args.back s forth answer goes comes)
+    c.make_link.ensures.says
 
 pub returns-clause-does : goal.returns-clause-does
 returns-clause-does g c =
@@ -66,9 +80,9 @@ returns-clause-does g c =
     let two = c.args.two in
     let forth = plain_call c.in-Some.forth in
     let answer = plain_call c.in-Some-2.answer in
-    let ms = c.in_ok-sent.sent.items in
     let goes : opening_call (nth one s.gateways) (nth two s.gateways) c.args.first ≡ Some forth = sym c.in_ok-forth.ensures ∙ ap (option_map plain_call) c.in-Some.is in
     let comes : opening_call (nth two s.gateways) (nth one s.gateways) c.args.back ≡ Some answer = sym c.in_ok-answer.ensures ∙ ap (option_map plain_call) c.in-Some-2.is in
-    c.in_ok-sent.ensures.does
-    ∙ ap (λ (t : Fabric _). record (opened_by_call cmp matching two answer (opened_by_call cmp matching one forth t)) { links = (with_link t).links; waiting = map (row_after None ms) (with_link t).waiting }) c.in_ok-draft.ensures
-    ∙ joined_does cmp matching g.met.K.Ord.total one two c.args.first c.args.back s forth answer goes comes ms c.requires.first_id c.requires.back_id c.requires.order (returns-clause-says g c)
+    let said_is = joined_says cmp matching g.met.K.Ord.total one two c.args.first c.args.back s forth answer goes comes in
+    both _ _ _ c.make_link.result
+    (λ sent says does. does ∙ joined_does cmp matching g.met.K.Ord.total one two c.args.first c.args.back s forth answer goes comes sent.items c.requires.first_id c.requires.back_id c.requires.order (says ∙ said_is))
+    c.make_link.ensures.says c.make_link.ensures.does

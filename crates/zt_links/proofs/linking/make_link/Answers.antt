@@ -1,45 +1,59 @@
-use Rattle.std.proofs.Common.{◌≡◌, ◌+◌, ◌++◌, [], ◌∷◌, None, true, length, map, ap, ◌∙◌}
+use Rattle.std.proofs.Common.{◌≡◌, ◌+◌, ◌++◌, [], ◌∷◌, None, length, map, ap, sym, subst, ◌∙◌}
 use Rattle.zt_protocol.specs.Plain.{plain_call}
 use Rattle.zt_model.specs.Fabric.{Fabric, call_at, sorted_by_face}
-use Rattle.zt_model.specs.Linking.{with_link}
-use Rattle.zt_links.specs.Lines.{opened_by_call, row_after, said_by_opening}
-use Rattle.zt_links.proofs.Linked.{link_put, opening_links, opening_waits}
+use Rattle.zt_laws.specs.Order.{FabricIsInOrder}
+use Rattle.zt_links.specs.Lines.{joined, opened_by_call, opened_end, said_by_opening, undone, without_last_place}
+use Rattle.zt_links.proofs.Linked.{opening_links}
+use Rattle.zt_links.proofs.Turned.{known_after, link_joined, opening_faces, opening_waits_does, opening_waits_says, order_waits, some_known}
 use Rattle.zt_links.proofs.linking.make_link.Goals as goal
 
-pub returns-clause-says : goal.returns-clause-says
-returns-clause-says g c =
-    let cmp = g.K.Ord.cmp in
-    let matching = g.K.Key.matching in
-    let forth = plain_call c.args.forth.now in
-    let back = plain_call c.args.back.now in
-    c.in_ok-sent.ensures
-    ∙ ap sorted_by_face
-    (c.in_ok-append.ensures.items
-    ∙ ap (λ xs. xs ++ c.in_ok-second.second.items) c.in_ok-printed.ensures.says
-    ∙ ap (λ xs. said_by_opening cmp matching c.args.one forth c.args.s.now ++ xs) (c.in_ok-second.ensures.says ∙ ap (said_by_opening cmp matching c.args.two back) c.in_ok-printed.ensures.does))
+pub open_other-requires-clause-there : goal.open_other-requires-clause-there
+open_other-requires-clause-there g c =
+    let member = some_known c.args.one c.args.s.now c.requires.there_one in
+    known_after g.K.Ord.cmp g.K.Key.matching g.met.K.Ord.total c.args.two c.args.one member.0 (plain_call c.args.forth.now) c.args.s.now c.open_end.new.s member.1 c.requires.opens_forth c.requires.order c.in_ok-turned.ensures.does c.requires.there_two
 
-pub returns-clause-does : goal.returns-clause-does
-returns-clause-does g c =
+pub open_other-requires-clause-order : goal.open_other-requires-clause-order
+open_other-requires-clause-order g c =
+    subst (FabricIsInOrder g.K.Ord.cmp g.K.Key.matching) (sym c.in_ok-turned.ensures.does)
+    (order_waits g.K.Ord.cmp g.K.Key.matching _ (opened_by_call g.K.Ord.cmp g.K.Key.matching c.args.one (plain_call c.args.forth.now) c.args.s.now) c.requires.order_between)
+
+pub returns-in-Ok-clause-says : goal.returns-in-Ok-clause-says
+returns-in-Ok-clause-says g c =
     let cmp = g.K.Ord.cmp in
     let matching = g.K.Key.matching in
-    let total = g.met.K.Ord.total in
     let s = c.args.s.now in
     let forth = plain_call c.args.forth.now in
     let back = plain_call c.args.back.now in
     let t = opened_by_call cmp matching c.args.one forth s in
-    let u = opened_by_call cmp matching c.args.two back t in
+    c.in-Ok.ensures.says
+    ∙ ap (λ xs. sorted_by_face (xs ++ said_by_opening cmp matching c.args.two back c.open_end.new.s)) c.in_ok-turned.ensures.says
+    ∙ ap (λ xs. sorted_by_face (said_by_opening cmp matching c.args.one forth s ++ xs))
+    (ap (said_by_opening cmp matching c.args.two back) c.in_ok-turned.ensures.does ∙ opening_waits_says cmp matching c.args.two back (s.waiting ++ (length s.faces + 1, []) ∷ []) t)
+
+pub returns-in-Ok-clause-does : goal.returns-in-Ok-clause-does
+returns-in-Ok-clause-does g c =
+    let cmp = g.K.Ord.cmp in
+    let matching = g.K.Key.matching in
+    let total = g.met.K.Ord.total in
+    let s = c.args.s.now in
+    let one = c.args.one in
+    let two = c.args.two in
+    let forth = plain_call c.args.forth.now in
+    let back = plain_call c.args.back.now in
+    let t = opened_by_call cmp matching one forth s in
+    let u = opened_by_call cmp matching two back t in
+    let ms = c.in-Ok.sent.items in
     let face = c.in_ok-face.face in
     let other = c.in_ok-other.other in
-    let opened : c.open_end-2.new.s ≡ u = c.in_ok-second.ensures.does ∙ ap (opened_by_call cmp matching c.args.two back) c.in_ok-printed.ensures.does in
-    let links : u.links ≡ s.links = opening_links cmp matching total (call_at t c.args.two back) t ∙ opening_links cmp matching total (call_at s c.args.one forth) s in
-    let waits : u.waiting ≡ s.waiting = opening_waits cmp matching total (call_at t c.args.two back) t ∙ opening_waits cmp matching total (call_at s c.args.one forth) s in
+    let ends = s.waiting ++ (length s.faces + 1, []) ∷ [] in
+    let member = some_known one s c.requires.there_one in
+    let links : u.links ≡ s.links = opening_links cmp matching total (call_at t two back) t ∙ opening_links cmp matching total (call_at s one forth) s in
     let face_is : face ≡ length s.faces + 1 = c.in_ok-face.ensures ∙ ap (λ places. length places + 1) c.places.ensures in
-    let pushed : c.push_link.new.self ≡ record u { links = (with_link s).links; waiting = (with_link s).waiting } =
-    c.in_ok-push_link.ensures
-    ∙ ap (λ (x : Fabric _). record x { links = x.links ++ record { one = face; two = other; is_open = true } ∷ []; waiting = x.waiting ++ (face, []) ∷ (other, []) ∷ [] }) opened
-    ∙ link_put cmp matching total s u face other links waits face_is c.in_ok-other.ensures in
-    let kept : c.in_ok-waiting.waiting.items ≡ map (row_after None c.in_ok-sent.sent.items) (with_link s).waiting =
-    (rw (c.as_slice.ensures.value, c.waiting.ensures) at c.in_ok-waiting.ensures) ∙ ap (λ (x : Fabric _). map (row_after None c.in_ok-sent.sent.items) x.waiting) pushed in
-    c.put_waiting.ensures
-    ∙ ap (λ (x : Fabric _). record x { waiting = c.in_ok-waiting.waiting.items }) pushed
-    ∙ ap (λ waiting. record u { links = (with_link s).links; waiting = waiting }) kept
+    c.in-Ok.ensures.does
+    ∙ ap (λ (x : Fabric _). joined face other ms (opened_end cmp matching two back x)) c.in_ok-turned.ensures.does
+    ∙ ap (λ (x : Fabric _). joined face other ms (record x { waiting = ends ++ (length t.faces + 1, []) ∷ [] })) (opening_waits_does cmp matching two back ends t)
+    ∙ link_joined s u face other (length t.faces) ms links face_is c.in_ok-other.ensures (opening_faces cmp matching one forth member.0 s member.1)
+
+pub returns-in-Err-clause-err : goal.returns-in-Err-clause-err
+returns-in-Err-clause-err g c =
+    c.undo_opening.ensures ∙ ap (λ t. without_last_place (undone c.in_ok-turned.turned.former c.in_ok-turned.turned.gateway t)) c.in-Err.ensures.err ∙ c.in_ok-turned.ensures.back

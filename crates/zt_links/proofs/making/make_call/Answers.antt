@@ -12,18 +12,18 @@ returns-in_default-clause-says g c = rw (c.new.ensures.items, c.in_default.is) r
 
 pub returns-in_default-clause-does : goal.returns-in_default-clause-does
 returns-in_default-clause-does g c =
-    rw (c.new.ensures.items, c.in_default.is) (nothing_carried g.K.Ord.cmp c.args.taken c.args.s.now c.take_message.new.s c.in_ok-take_message.ensures.ok)
+    rw (c.new.ensures.items, c.in_default.is) (nothing_carried g.K.Ord.cmp c.args.taken c.args.s.now c.take_message.new.s c.take_message.ensures)
 
-pub returns-in_ok-take_message-in-None-clause-says : goal.returns-in_ok-take_message-in-None-clause-says
+pub returns-in-None-clause-says : goal.returns-in-None-clause-says
 unfolding sorted_by_face
-returns-in_ok-take_message-in-None-clause-says g c =
+returns-in-None-clause-says g c =
     let nowhere = made_nowhere c.args.s.now c.gateways.result.now c.args.made.now c.in-Some.made c.made.inside.gateway c.in-Some.is (ap (λ m. m.0) c.made.view_is) c.gateways.ensures c.in-None.ensures.none in
     rw (c.new-in-None.ensures.items, nowhere) refl
 
-pub returns-in_ok-take_message-in-None-clause-does : goal.returns-in_ok-take_message-in-None-clause-does
-returns-in_ok-take_message-in-None-clause-does g c =
+pub returns-in-None-clause-does : goal.returns-in-None-clause-does
+returns-in-None-clause-does g c =
     let nowhere = made_nowhere c.args.s.now c.gateways.result.now c.args.made.now c.in-Some.made c.made.inside.gateway c.in-Some.is (ap (λ m. m.0) c.made.view_is) c.gateways.ensures c.in-None.ensures.none in
-    rw (c.new-in-None.ensures.items, nowhere) (nothing_carried g.K.Ord.cmp c.args.taken c.args.s.now c.take_message-in-None.new.s c.in_ok-take_message-in-None.ensures.ok)
+    rw (c.new-in-None.ensures.items, nowhere) (nothing_carried g.K.Ord.cmp c.args.taken c.args.s.now c.take_message-in-None.new.s c.take_message-in-None.ensures)
 
 pub returns-in-Some-place_of_number-clause-does : goal.returns-in-Some-place_of_number-clause-does
 returns-in-Some-place_of_number-clause-does g c =

@@ -7,7 +7,7 @@ pub returns-clause-put : goal.returns-clause-put
 returns-clause-put g c =
     let within : c.args.at < length c.args.gateways.now.items = omega arith in
     set_at (λ (node : Node _). record node { rows = c.args.rows }) c.args.at c.args.gateways.now.items c.index_mut-node.result.now _ within c.index_mut-node.ensures.value
-    (rw c.replace.ensures.after (ap (λ (node : Node _). record node { rows = c.args.rows }) c.node.view_is))
+    (rw c.put.ensures.put (ap (λ (node : Node _). record node { rows = c.args.rows }) c.node.view_is))
 
 pub returns-clause-former : goal.returns-clause-former
 returns-clause-former g c node at =
@@ -15,4 +15,4 @@ returns-clause-former g c node at =
     let within : c.args.at < length c.args.gateways.now.items = omega arith in
     let e : Some node ≡ Some x = sym at ∙ nth_at c.args.at c.args.gateways.now.items x within ∙ ap (λ (y : Node _). Some y) (sym c.index_mut-node.ensures.value) in
     let is : node ≡ x = cc in
-    c.replace.ensures.value ∙ ap (λ (y : Node _). y.rows) (c.node.view_is ∙ sym is)
+    c.put.ensures.former ∙ ap (λ (y : Node _). y.rows) (c.node.view_is ∙ sym is)

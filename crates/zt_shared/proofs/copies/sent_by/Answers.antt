@@ -1,7 +1,6 @@
-use Rattle.std.proofs.Common.{◌≡◌, List, ◌∷◌, [], ◌++◌, ap, length, map, sym, ◌∙◌, arith}
+use Rattle.std.proofs.Common.{ap, map, ◌∙◌, arith}
 use Rattle.std.proofs.lemmas.List.{take_all}
 use Rattle.zt_gateway.specs.Running.{by_face, sent_alone}
-use Rattle.zt_protocol.specs.declared.entries.Sent.{Sent}
 use Rattle.zt_shared.proofs.Entering.{take_more}
 use Rattle.zt_shared.proofs.copies.sent_by.Goals as goal
 

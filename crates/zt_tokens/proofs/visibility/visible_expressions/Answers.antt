@@ -1,6 +1,10 @@
-use Rattle.zt_tokens.proofs.Gathering.{visible_gathered}
+use Rattle.std.proofs.Common.{◌∙◌}
+use Rattle.std.proofs.lemmas.Result.{IfOk-weaker}
+use Rattle.zt_tokens.proofs.Visible.{visible-listed}
 use Rattle.zt_tokens.proofs.visibility.visible_expressions.Goals as goal
 
 pub returns : goal.returns
 returns g c =
-    rw (c.in_ok-insert_faces.ensures, c.faces.ensures, c.in_ok-insert_rows.ensures, c.zid.ensures, c.routed.ensures, c.new-exprs.ensures.items) (visible_gathered g.K.Ord.cmp c.args.g.now c.args.own)
+    IfOk-weaker c.shown_keys.result _ _
+    (λ exprs is. is ∙ visible-listed g.K.Ord.cmp g.met.K.Ord.total g.met.K.Key.laws.equal_is_same c.args.g.now c.args.own c.live.result.now c.live.ensures c.shown_keys.ensures.in_order)
+    c.shown_keys.ensures.shown

@@ -1,0 +1,3 @@
+mod Answered
+mod ById
+mod Told

@@ -1,0 +1,75 @@
+// What a face declares and asks for.
+ghost use Rattle.std.specs.Prelude.{◌≡◌, [], OnOk};
+ghost use Rattle.zt_protocol.specs.Interest.{is_current, is_future};
+ghost use Rattle.zt_model.specs.Hearing.{put_if};
+ghost use Rattle.zt_model.specs.Routing.{asked_as};
+ghost use Rattle.zt_model.specs.Telling.{registered};
+
+use crate::face::{AskState, FaceState};
+use crate::interest::RemoteInterest;
+use crate::rows::RowsById;
+use std::alloc::Global;
+use zt_keys::{Key, Memory};
+use zt_protocol::{InterestId, TokenId};
+
+// Holds an interest that asks for what comes later. The only error is want of memory.
+fn put_held<K: Key>(
+    alloc: Global,
+    held: &mut RowsById<RemoteInterest<K>>,
+    id: u32,
+    interest: &RemoteInterest<K>,
+) -> Result<(), Memory>
+    ensures { OnOk result (held.new
+        ≡ put_if (is_future interest.now.mode) id interest.now held.old) }
+{
+    if interest.mode().is_future() {
+        held.put(id, interest.copy(alloc)?)?;
+    }
+    Ok(())
+}
+
+// Asks by an interest that asks for what is there now. The only error is want of memory.
+fn put_ask<K: Key>(
+    alloc: Global,
+    asks: &mut RowsById<AskState<K>>,
+    id: u32,
+    interest: &RemoteInterest<K>,
+    pendings: &[(u32, u32)],
+) -> Result<(), Memory>
+    ensures { OnOk result (asks.new
+        ≡ put_if (is_current interest.now.mode) id
+        (record { interest = interest.now; pendings = pendings.now; answered = [] })
+        asks.old) }
+{
+    if interest.mode().is_current() {
+        let interest = interest.copy(alloc)?;
+        let pendings = pendings.to_vec(alloc)?;
+        asks.put(id, AskState::new(alloc, interest, pendings))?;
+    }
+    Ok(())
+}
+
+impl<K: Key> FaceState<K> {
+    /// The face declares a token. The only error is want of memory.
+    pub fn register(&mut self, alloc: Global, id: TokenId, expr: &K) -> Result<(), Memory>
+        ensures { OnOk result (self.new ≡ registered id expr.now self.old) }
+    {
+        self.live.put(id, expr.copy(alloc)?)
+    }
+
+    /// The face holds an interest that asks for what comes later, and asks one that asks for what is
+    /// there now, which was sent upstream as these, each a face and an id. The only error is want of
+    /// memory.
+    pub fn ask(
+        &mut self,
+        alloc: Global,
+        id: InterestId,
+        interest: &RemoteInterest<K>,
+        pendings: &[(u32, u32)],
+    ) -> Result<(), Memory>
+        ensures { OnOk result (self.new ≡ asked_as pendings.now id interest.now self.old) }
+    {
+        put_held(alloc, &mut self.held, id, interest)?;
+        put_ask(alloc, &mut self.asks, id, interest, pendings)
+    }
+}

@@ -1,0 +1,135 @@
+// Copies of what a face keeps.
+ghost use Rattle.std.specs.Prelude.{◌≡◌, IfOk};
+
+use crate::face::{AskState, FaceState, PendingInterest};
+use crate::interest::RemoteInterest;
+use crate::rows::RowsById;
+use std::alloc::Global;
+use zt_keys::{Key, Memory};
+use zt_protocol::QueryableInfo;
+
+/// Equal keys. The only error is want of memory.
+pub fn copy_keys<K: Key>(alloc: Global, keys: &[K]) -> Result<Vec<K>, Memory>
+    ensures { IfOk result (λ copies. copies.items ≡ keys.now) }
+{
+    let mut copies = Vec::new(alloc);
+    for key in keys {
+        copies.push(key.copy(alloc)?)?;
+    }
+    Ok(copies)
+}
+
+// Equal keys under equal ids. The only error is want of memory.
+fn copy_key_rows<K: Key>(alloc: Global, rows: &RowsById<K>) -> Result<RowsById<K>, Memory>
+    ensures { IfOk result (λ copies. copies ≡ rows.now) }
+{
+    let mut copies = RowsById::new(alloc);
+    for (id, key) in rows.iter() {
+        copies.put(*id, key.copy(alloc)?)?;
+    }
+    Ok(copies)
+}
+
+// Equal queryables. The only error is want of memory.
+pub(crate) fn copy_queryables<K: Key>(
+    alloc: Global,
+    queryables: &[(K, QueryableInfo)],
+) -> Result<Vec<(K, QueryableInfo)>, Memory>
+    ensures { IfOk result (λ copies. copies.items ≡ queryables.now) }
+{
+    let mut copies = Vec::new(alloc);
+    for queryable in queryables {
+        copies.push((queryable.0.copy(alloc)?, queryable.1))?;
+    }
+    Ok(copies)
+}
+
+/// What can be copied where memory suffices.
+pub trait Duplicate: Drop + Sized {
+    ghost use Rattle.std.specs.Prelude.{◌≡◌, IfOk};
+
+    /// An equal value. The only error is want of memory.
+    fn duplicate(&self, alloc: Global) -> Result<Self, Memory>
+        ensures { IfOk result (λ copy. copy ≡ self.now) };
+}
+
+/// Equal values. The only error is want of memory.
+pub fn copy_all<T: Duplicate>(alloc: Global, values: &[T]) -> Result<Vec<T>, Memory>
+    ensures { IfOk result (λ copies. copies.items ≡ values.now) }
+{
+    let mut copies = Vec::new(alloc);
+    for value in values {
+        copies.push(value.duplicate(alloc)?)?;
+    }
+    Ok(copies)
+}
+
+// Equal rows under equal ids. The only error is want of memory.
+fn copy_rows<T: Duplicate>(alloc: Global, rows: &RowsById<T>) -> Result<RowsById<T>, Memory>
+    ensures { IfOk result (λ copies. copies ≡ rows.now) }
+{
+    let mut copies = RowsById::new(alloc);
+    for (id, row) in rows.iter() {
+        copies.put(*id, row.duplicate(alloc)?)?;
+    }
+    Ok(copies)
+}
+
+impl<Q: Copy + Drop, T: Duplicate> Duplicate for (Q, T) {
+    fn duplicate(&self, alloc: Global) -> Result<Self, Memory> {
+        Ok((self.0, self.1.duplicate(alloc)?))
+    }
+}
+
+impl<K: Key> Duplicate for RemoteInterest<K> {
+    fn duplicate(&self, alloc: Global) -> Result<Self, Memory> {
+        self.copy(alloc)
+    }
+}
+
+impl<K: Key> Duplicate for AskState<K> {
+    fn duplicate(&self, alloc: Global) -> Result<Self, Memory> {
+        Ok(AskState {
+            interest: self.interest.copy(alloc)?,
+            pendings: self.pendings.to_vec(alloc)?,
+            answered: copy_keys(alloc, self.answered.as_slice())?,
+        })
+    }
+}
+
+impl Duplicate for PendingInterest {
+    fn duplicate(&self, _alloc: Global) -> Result<Self, Memory> {
+        Ok(PendingInterest::new(self.mode(), self.since()))
+    }
+}
+
+impl<K: Key> Duplicate for FaceState<K> {
+    fn duplicate(&self, alloc: Global) -> Result<Self, Memory> {
+        Ok(FaceState {
+            number: self.number,
+            region: self.region,
+            bound: self.bound,
+            mode: self.mode,
+            zid: self.zid,
+            next: self.next,
+            live: copy_key_rows(alloc, &self.live)?,
+            told: self.told.copy(alloc)?,
+            held: copy_rows(alloc, &self.held)?,
+            locals: copy_rows(alloc, &self.locals)?,
+            pendings: copy_rows(alloc, &self.pendings)?,
+            asks: copy_rows(alloc, &self.asks)?,
+            initial: self.initial,
+            subscribers: copy_keys(alloc, self.subscribers.as_slice())?,
+            queryables: copy_queryables(alloc, self.queryables.as_slice())?,
+        })
+    }
+}
+
+impl<K: Key> FaceState<K> {
+    /// An equal face. The only error is want of memory.
+    pub fn copy(&self, alloc: Global) -> Result<Self, Memory>
+        ensures { IfOk result (λ copy. copy ≡ self.now) }
+    {
+        self.duplicate(alloc)
+    }
+}

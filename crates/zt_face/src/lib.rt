@@ -1,0 +1,20 @@
+//! What a face keeps, in memory: the tokens that it declares and was told, the interests that it holds
+//! and was sent, what it asks, and its entities. Contracts see it as the value of the definitions.
+#![tactic(auto)]
+
+mod asking;
+mod copying;
+mod dropping;
+mod entities;
+mod face;
+mod hearing;
+mod interest;
+mod local;
+mod rows;
+
+pub use copying::{Duplicate, copy_all, copy_keys};
+pub use face::{AskState, FaceState, PendingInterest};
+pub use hearing::is_among;
+pub use interest::RemoteInterest;
+pub use local::LocalTokens;
+pub use rows::RowsById;

@@ -1,0 +1,156 @@
+// What a face was told: Zenoh's local tokens.
+ghost use Rattle.std.specs.List.{list_any};
+ghost use Rattle.std.specs.Map.Iter.{ShowsInOrder, deref_pair};
+ghost use Rattle.std.specs.Prelude.{◌≡◌, ℕ, ◌++◌, ◌∷◌, [], None, Some, true, IfOk, OnOk};
+ghost use Rattle.zt_face.specs.Told.{IsAbove};
+ghost use Rattle.zt_model.specs.Hearing.{told_pair, untold};
+ghost use Rattle.zt_model.specs.Lists.{same};
+ghost use Rattle.zt_model.specs.Parts.{told_id};
+
+use crate::rows::RowsById;
+use std::alloc::Global;
+use std::collections::HashMap;
+use std::collections::btree_map::Iter;
+use std::marker::Model;
+use zt_keys::{Key, Memory};
+
+/// The tokens that a face was told, by id, and found by expression. Ids rise from token to token, and an
+/// expression is told under one id.
+#[derive(Drop)]
+pub struct LocalTokens<K: Key> {
+    rows: RowsById<K>,
+    ids: HashMap<K, u32>,
+}
+
+impl<K: Key> Model for LocalTokens<K> {
+    ghost use Rattle.std.specs.HashMap.{get};
+    ghost use Rattle.zt_face.specs.Told.{IsIndexed};
+    ghost use Rattle.zt_model.specs.Rows.{ById};
+
+    ghost Value = { ById K };
+
+    ghost view = { λ t. t.rows };
+
+    ghost invariant = { λ t. IsIndexed K.cmp (get K.eq t.ids) t.rows };
+}
+
+impl<K: Key> LocalTokens<K> {
+    /// No tokens.
+    pub fn new(alloc: Global) -> Self
+        ensures { result ≡ [] }
+    {
+        LocalTokens {
+            rows: RowsById::new(alloc),
+            ids: HashMap::new(alloc),
+        }
+    }
+
+    /// The id under which the expression was told.
+    pub fn id_of(&self, expr: &K) -> Option<u32>
+        ensures { result ≡ told_id K.cmp expr.now self.now }
+    {
+        self.ids.get(expr).copied()
+    }
+
+    /// Whether the expression was told and not told to be gone.
+    #[tactic(auto, using(crate::proofs::Told::told_is_some))]
+    pub fn has(&self, expr: &K) -> bool
+        ensures { result ≡ list_any (λ row. same K.cmp expr.now row.1) self.now }
+    {
+        self.id_of(expr).is_some()
+    }
+
+    /// The tokens, each with its id, in order of id.
+    pub fn iter(&self) -> Iter<'_, u32, K>
+        ensures rest { result ≡ self.now }
+        ensures runs { ShowsInOrder (deref_pair {K = ℕ} {X = K}) }
+    {
+        self.rows.iter()
+    }
+
+    // Whether a token may be added: its id is above the others, and its expression isn't told.
+    fn admits(&self, id: u32, expr: &K) -> bool
+        ensures above { result ≡ true → IsAbove id self.now }
+        ensures fresh { result ≡ true → told_id K.cmp expr.now self.now ≡ None }
+    {
+        self.rows.are_below(id) && self.id_of(expr).is_none()
+    }
+
+    // Adds a token behind the others. One that isn't admitted never comes up in a gateway, and counts as
+    // want of memory.
+    fn add(&mut self, alloc: Global, id: u32, expr: &K) -> Result<(), Memory>
+        ensures { OnOk result (self.new ≡ self.old ++ (id, expr.now) ∷ []) }
+    {
+        if !self.admits(id, expr) {
+            return Err(Memory);
+        }
+        let named = expr.copy(alloc)?;
+        self.rows.put(id, expr.copy(alloc)?)?;
+        match self.ids.insert(named, id) {
+            Ok(_) => Ok(()),
+            Err(_) => {
+                self.rows.remove(id);
+                Err(Memory)
+            }
+        }
+    }
+
+    /// A pair of id and expression is told, which is there once; under the id 0 nothing is kept. The
+    /// only error is want of memory. An expression that is told under another id, or an id that isn't
+    /// above the others, never comes up in a gateway, and counts as want of memory.
+    pub fn tell(&mut self, alloc: Global, id: u32, expr: &K) -> Result<(), Memory>
+        ensures { OnOk result (self.new ≡ told_pair K.cmp id expr.now self.old) }
+    {
+        if id == 0 {
+            return Ok(());
+        }
+        match self.id_of(expr) {
+            None => self.add(alloc, id, expr),
+            Some(known) if known == id => Ok(()),
+            Some(_) => Err(Memory),
+        }
+    }
+
+    // The token of the id goes.
+    fn drop_id(&mut self, id: u32)
+        ensures { self.new ≡ untold K.cmp id None self.old }
+    {
+        match self.rows.take(id) {
+            Some(expr) => {
+                self.ids.remove(&expr);
+            }
+            None => {}
+        }
+    }
+
+    // The token of the expression goes.
+    fn drop_expression(&mut self, expr: &K)
+        ensures { self.new ≡ untold K.cmp 0 (Some expr.now) self.old }
+    {
+        match self.ids.remove(expr) {
+            Some(id) => self.rows.remove(id),
+            None => {}
+        }
+    }
+
+    /// It is told that the token of an id, or of an expression, is gone.
+    pub fn untell(&mut self, id: u32, expr: &Option<K>)
+        ensures { self.new ≡ untold K.cmp id expr.now self.old }
+    {
+        match expr {
+            None => self.drop_id(id),
+            Some(expr) => self.drop_expression(expr),
+        }
+    }
+
+    /// Equal tokens. The only error is want of memory.
+    pub fn copy(&self, alloc: Global) -> Result<Self, Memory>
+        ensures { IfOk result (λ copies. copies ≡ self.now) }
+    {
+        let mut copies = LocalTokens::new(alloc);
+        for (id, expr) in self.iter() {
+            copies.add(alloc, *id, expr)?;
+        }
+        Ok(copies)
+    }
+}

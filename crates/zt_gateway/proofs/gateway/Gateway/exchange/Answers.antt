@@ -1,0 +1,31 @@
+use Rattle.std.proofs.Common.{◌≡◌, ◌++◌, ap, subst, sym, ◌∙◌}
+use Rattle.zt_kept.specs.Sound.{IsSound}
+use Rattle.zt_model.specs.Rows.{Rows}
+use Rattle.zt_model.specs.Says.{Sends}
+use Rattle.zt_gateway.specs.Running.{Planned, Running, without_closed}
+use Rattle.zt_gateway.proofs.gateway.Gateway.exchange.Goals as goal
+
+pub moved-requires-clause-fits : goal.moved-requires-clause-fits
+moved-requires-clause-fits g c =
+    let same : c.prepared.inside.before.value.waiting ≡ c.replace-waiting.result.items =
+    ap (λ (p : Planned g.row.K.Denot). p.before.waiting) c.prepared.view_is
+    ∙ ap (λ (running : Running g.row.K.Denot). running.waiting) (c.requires ∙ sym c.self.view_is)
+    ∙ sym (ap (λ v. v.items) c.replace-waiting.ensures.value)
+    in
+    rw (← same) c.prepared.invariant.fits
+
+pub invariant_of-self : goal.invariant_of-self
+invariant_of-self g c = subst (IsSound g.K.Ord.cmp g.K.Key.matching) (sym c.put-former.ensures.put) c.prepared.invariant.sound
+
+pub returns-clause-done : goal.returns-clause-done
+returns-clause-done g c =
+    let inside = c.prepared.inside in
+    let same : inside.before.value.waiting ≡ c.replace-waiting.result.items =
+    ap (λ (p : Planned g.row.K.Denot). p.before.waiting) c.prepared.view_is
+    ∙ ap (λ (running : Running g.row.K.Denot). running.waiting) (c.requires ∙ sym c.self.view_is)
+    ∙ sym (ap (λ v. v.items) c.replace-waiting.ensures.value)
+    in
+    let behind : Sends g.row.K.Denot → Running g.row.K.Denot = λ waiting. record { rows = inside.state; waiting = waiting } in
+    ap (λ (rows : Rows g.row.K.Denot). record (behind c.moved.result.items) { rows = rows }) c.put-former.ensures.put
+    ∙ ap behind (c.moved.ensures ∙ ap (λ waiting. without_closed inside.closed waiting ++ inside.said.items) (sym same))
+    ∙ ap (λ (p : Planned g.row.K.Denot). p.after) c.prepared.view_is

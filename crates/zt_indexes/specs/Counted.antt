@@ -1,0 +1,21 @@
+-- How many rows stand in each region.
+--     count_in region counts           how many stand in the region
+--     is_shown_in shown counts         whether some stand in a region that passes a test
+--     one_in region other              1 where it is the same region, else 0
+use Rattle.std.specs.Prelude.{ℕ, Bool, ◌&&◌, if◌then◌else◌, nat_lt, List}
+use Rattle.std.specs.List.{list_any, sum_by}
+use Rattle.zt_region.specs.Region.{region_eq}
+use Rattle.zt_region.specs.declared.region.Region.{Region}
+
+-- a count is one of rows in the region, and some stand there
+abbrev pub is_counted : Region → Region × ℕ → Bool
+is_counted region row = region_eq region row.0 && nat_lt 0 row.1
+
+abbrev pub count_in : Region → List (Region × ℕ) → ℕ
+count_in region counts = sum_by (λ row. if region_eq region row.0 then row.1 else 0) counts
+
+abbrev pub is_shown_in : (Region → Bool) → List (Region × ℕ) → Bool
+is_shown_in shown counts = list_any (λ row. shown row.0 && nat_lt 0 row.1) counts
+
+abbrev pub one_in : Region → Region → ℕ
+one_in region other = if region_eq region other then 1 else 0

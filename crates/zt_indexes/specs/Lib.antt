@@ -1,0 +1,4 @@
+pub mod Counted
+pub mod Live
+pub mod Rows
+pub mod Recounts

@@ -1,0 +1,9 @@
+//! Look-ups in place of going over all rows: how many live rows of an expression stand in each region. The
+//! containers know keys and regions, and no gateway.
+#![tactic(auto)]
+
+mod live;
+mod regions;
+
+pub use live::{LiveCounts, RegionTest};
+pub use regions::RegionCounts;

@@ -1,0 +1,17 @@
+-- The interests that faces hold.
+--     is_about matching about e        an interest in this expression, or in all keys, is about the key
+--     is_of face id row                the row is the interest that the face holds under the id
+--     asks_from matching e face row    the row is an interest of the face about the key
+use Rattle.std.specs.Prelude.{ℕ, Bool, true, ◌&&◌, ◌==◌, Option, Some, None}
+
+module _ {K : Type 0} where
+  abbrev pub is_of : ℕ → ℕ → (ℕ × ℕ) × Option K → Bool
+  is_of face id row = face == row.0.0 && id == row.0.1
+
+  module _ (matching : K → K → Bool) where
+    abbrev pub is_about : Option K → K → Bool
+    is_about None e = true
+    is_about (Some k) e = matching k e
+
+    abbrev pub asks_from : K → ℕ → (ℕ × ℕ) × Option K → Bool
+    asks_from e face row = face == row.0.0 && is_about row.1 e

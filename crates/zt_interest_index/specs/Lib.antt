@@ -1,0 +1,5 @@
+pub mod Buckets
+pub mod Holdings
+pub mod Index
+pub mod Holders
+pub mod Held

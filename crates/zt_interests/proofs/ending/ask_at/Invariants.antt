@@ -1,7 +1,0 @@
-use Rattle.std.proofs.Common.{◌≡◌, drop}
-use Rattle.zt_model.specs.Lists.{at_id}
-use Rattle.zt_interests.proofs.ending.ask_at.Given as goal
-
--- the ask of the id stands among those left
-abbrev pub invariant-loop-row : goal.invariant-loop-row
-invariant-loop-row g l = at_id l.id (drop l.row-index l.row-items) ≡ at_id l.id l.row-items

@@ -1,0 +1,14 @@
+use Rattle.std.proofs.Common.{◌++◌, ap, ◌∙◌}
+use Rattle.zt_model.specs.Fabric.{sorted_by_face}
+use Rattle.zt_links.specs.Lines.{joined, undone, without_last_place}
+use Rattle.zt_links.proofs.linking.open_other.Goals as goal
+
+pub returns-in-Ok-clause-says : goal.returns-in-Ok-clause-says
+returns-in-Ok-clause-says g c = c.in-Ok.ensures.says ∙ ap (λ xs. sorted_by_face (c.args.first.items ++ xs)) c.in_ok-turned.ensures.says
+
+pub returns-in-Ok-clause-does : goal.returns-in-Ok-clause-does
+returns-in-Ok-clause-does g c = c.in-Ok.ensures.does ∙ ap (joined c.args.face c.args.other c.in-Ok.sent.items) c.in_ok-turned.ensures.does
+
+pub returns-in-Err-clause-err : goal.returns-in-Err-clause-err
+returns-in-Err-clause-err g c =
+    c.undo_opening.ensures ∙ ap (λ t. without_last_place (undone c.in_ok-turned.turned.former c.in_ok-turned.turned.gateway t)) c.in-Err.ensures.err ∙ c.in_ok-turned.ensures.back

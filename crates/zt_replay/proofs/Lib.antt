@@ -1,0 +1,5 @@
+pub mod Numbers
+pub mod Speaking
+pub mod Opening
+pub mod Replay
+pub mod Order

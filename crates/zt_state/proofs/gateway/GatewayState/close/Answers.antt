@@ -1,0 +1,8 @@
+use Rattle.zt_state.proofs.Kept.{indexed-closed}
+use Rattle.zt_state.proofs.gateway.GatewayState.close.Goals as goal
+
+pub invariant_of-self : goal.invariant_of-self
+invariant_of-self g c =
+    let s = c.self.inside in
+    let made = c.close_in.ensures in
+    rw made.faces (indexed-closed g.K.Ord.cmp s.zid s.made s.routed.items s.faces s.live c.self.invariant c.args.face c.close_in.new.live (rw made.faces at made.counts))

@@ -1,7 +1,0 @@
-use Rattle.std.proofs.Common.{rules, tests, not}
-use Rattle.std.proofs.lemmas.Fn.{filter_same}
-use Rattle.zt_model.specs.Trees.{is_routed_row, row_at}
-use Rattle.zt_state.proofs.routed.drop_row.Goals as goal
-
-pub returns : goal.returns
-returns g c = filter_same _ (λ row. not (is_routed_row g.K.Ord.cmp (row_at g.K.Ord.cmp c.args.region c.args.source c.args.expr.now) row)) _ (λ x b f h. (search (rules, tests), search (rules, tests))) _ _ c.retain.ensures.filtered

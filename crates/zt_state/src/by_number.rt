@@ -1,0 +1,198 @@
+// The open faces, found and changed by their numbers.
+ghost use Rattle.std.specs.Prelude.{◌≡◌, ◌==◌, ◌<◌, ◌++◌, ◌∷◌, [], filter, if◌then◌else◌, get_or, length, map, not, set, IfNone, IfOk, IfSome, OnErr, OnOk};
+ghost use Rattle.std.specs.Option.{option_copied};
+ghost use Rattle.zt_model.specs.Lists.{first_where};
+ghost use Rattle.zt_model.specs.Rows.{Face};
+ghost use Rattle.zt_state.specs.Rising.{AreUpTo, HasNone, IsPlace, IsRising};
+
+use crate::walk::{FaceAddition, FaceChange};
+use std::alloc::Global;
+use std::marker::Model;
+use zt_face::{FaceState, copy_all};
+use zt_keys::{Key, Memory};
+
+// Where the face of a number stands. A search by halves.
+fn place_of<K: Key>(faces: &[FaceState<K>], number: u32) -> Option<usize>
+    requires { IsRising (λ f. f.number) faces.now }
+    ensures found { IfSome result (λ place. IsPlace (λ f. f.number) number faces.now place) }
+    ensures none { IfNone result (HasNone (λ f. f.number) number faces.now) }
+{
+    match faces.binary_search_by(|f| f.number().cmp(&number)) {
+        Ok(place) => Some(place),
+        Err(_) => None,
+    }
+}
+
+// The face of a number.
+fn find_in<K: Key>(faces: &[FaceState<K>], number: u32) -> Option<&FaceState<K>>
+    requires { IsRising (λ f. f.number) faces.now }
+    ensures { option_copied result ≡ first_where (λ f. number == f.number) faces.now }
+{
+    match place_of(faces, number) {
+        Some(place) => Some(&faces[place]),
+        None => None,
+    }
+}
+
+// Changes the face at a place.
+fn change_at<K: Key, C: FaceChange<K>>(faces: &mut Vec<FaceState<K>>, place: usize, change: &C)
+    requires { place < length faces.old.items }
+    ensures { (f : Face K) → faces.new.items
+        ≡ set faces.old.items place (C.changed change.now (get_or faces.old.items place f)) }
+{
+    change.change(&mut faces[place]);
+}
+
+// Changes the face at a place. The only error is want of memory, and then no face is left.
+fn add_at<K: Key, C: FaceAddition<K>>(
+    alloc: Global,
+    faces: &mut Vec<FaceState<K>>,
+    place: usize,
+    addition: &C,
+) -> Result<(), Memory>
+    requires { place < length faces.old.items }
+    ensures ok { OnOk result ((f : Face K) → faces.new.items
+        ≡ set faces.old.items place (C.added addition.now (get_or faces.old.items place f))) }
+    ensures err { OnErr result (faces.new.items ≡ []) }
+{
+    match addition.add(alloc, &mut faces[place]) {
+        Ok(()) => Ok(()),
+        Err(error) => {
+            faces.clear();
+            Err(error)
+        }
+    }
+}
+
+// Changes the face of a number.
+fn change_in<K: Key, C: FaceChange<K>>(faces: &mut Vec<FaceState<K>>, number: u32, change: &C)
+    requires { IsRising (λ f. f.number) faces.old.items }
+    ensures { faces.new.items
+        ≡ map (λ f. if number == f.number then C.changed change.now f else f) faces.old.items }
+{
+    if let Some(place) = place_of(faces.as_slice(), number) {
+        change_at(faces, place, change);
+    }
+}
+
+// Changes the face of a number. The only error is want of memory, and then no face is left.
+fn add_in<K: Key, C: FaceAddition<K>>(
+    alloc: Global,
+    faces: &mut Vec<FaceState<K>>,
+    number: u32,
+    addition: &C,
+) -> Result<(), Memory>
+    requires { IsRising (λ f. f.number) faces.old.items }
+    ensures ok { OnOk result (faces.new.items
+        ≡ map (λ f. if number == f.number then C.added addition.now f else f) faces.old.items) }
+    ensures err { OnErr result (faces.new.items ≡ []) }
+{
+    match place_of(faces.as_slice(), number) {
+        Some(place) => add_at(alloc, faces, place, addition),
+        None => Ok(()),
+    }
+}
+
+// The face of a number goes.
+fn remove_in<K: Key>(faces: &mut Vec<FaceState<K>>, number: u32)
+    requires { IsRising (λ f. f.number) faces.old.items }
+    ensures { faces.new.items ≡ filter (λ f. not (number == f.number)) faces.old.items }
+{
+    if let Some(place) = place_of(faces.as_slice(), number) {
+        drop(faces.remove(place));
+    }
+}
+
+/// The open faces of a gateway, in order of number, each found by its number.
+#[derive(Drop)]
+pub struct Faces<K: Key> {
+    faces: Vec<FaceState<K>>,
+}
+
+impl<K: Key> Model for Faces<K> {
+    ghost use Rattle.std.specs.Prelude.{List};
+    ghost use Rattle.zt_model.specs.Rows.{Face};
+    ghost use Rattle.zt_state.specs.Rising.{IsRising};
+
+    ghost Value = { List (Face K) };
+
+    ghost view = { λ a. a.faces.items };
+
+    ghost invariant = { λ a. IsRising (λ f. f.number) a.faces.items };
+}
+
+impl<K: Key> Faces<K> {
+    /// No face.
+    pub fn new(alloc: Global) -> Self
+        ensures { result ≡ [] }
+    {
+        Faces {
+            faces: Vec::new(alloc),
+        }
+    }
+
+    /// The faces, in order of number.
+    pub fn as_slice(&self) -> &[FaceState<K>]
+        ensures { result.now ≡ self.now }
+    {
+        &self.faces
+    }
+
+    /// The face of a number. A search by halves.
+    pub fn find(&self, number: u32) -> Option<&FaceState<K>>
+        ensures found { option_copied result ≡ first_where (λ f. number == f.number) self.now }
+        ensures rising { IsRising (λ f. f.number) self.now }
+    {
+        find_in(&self.faces, number)
+    }
+
+    /// Changes the face of a number.
+    pub fn change<C: FaceChange<K>>(&mut self, number: u32, change: &C)
+        ensures { self.new
+            ≡ map (λ f. if number == f.number then C.changed change.now f else f) self.old }
+    {
+        change_in(&mut self.faces, number, change);
+    }
+
+    /// Changes the face of a number. The only error is want of memory, and then no face is left.
+    pub fn add<C: FaceAddition<K>>(
+        &mut self,
+        alloc: Global,
+        number: u32,
+        addition: &C,
+    ) -> Result<(), Memory>
+        ensures ok { OnOk result (self.new
+            ≡ map (λ f. if number == f.number then C.added addition.now f else f) self.old) }
+        ensures err { OnErr result (self.new ≡ []) }
+    {
+        add_in(alloc, &mut self.faces, number, addition)
+    }
+
+    /// A face more, whose number is the next above `made`. The only error is want of memory, and then the
+    /// faces stay.
+    pub fn push(&mut self, face: FaceState<K>, made: u32) -> Result<(), Memory>
+        requires up_to { AreUpTo (λ f. f.number) made self.old }
+        requires above { made < face.number }
+        ensures ok { OnOk result (self.new ≡ self.old ++ face ∷ []) }
+        ensures err { OnErr result (self.new ≡ self.old) }
+    {
+        self.faces.push(face)?;
+        Ok(())
+    }
+
+    /// The face of a number goes.
+    pub fn remove(&mut self, number: u32)
+        ensures { self.new ≡ filter (λ f. not (number == f.number)) self.old }
+    {
+        remove_in(&mut self.faces, number);
+    }
+
+    /// Equal faces. The only error is want of memory.
+    pub fn copy(&self, alloc: Global) -> Result<Self, Memory>
+        ensures { IfOk result (λ copy. copy ≡ self.now) }
+    {
+        Ok(Faces {
+            faces: copy_all(alloc, self.faces.as_slice())?,
+        })
+    }
+}
