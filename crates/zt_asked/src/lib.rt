@@ -25,10 +25,10 @@ pub fn interests_are_answered_at_once<K: Key>()
         → answers_in id (messages_for n (said K.cmp K.matching (Interest n id mode options e) g)) ≡ answered_expressions K.cmp K.matching g (row_of K.cmp K.matching f mode options e) f }
 {}
 
-/// So the asks of each turn of the machine's transcript are answered, whichever lines are built. An ask for tokens is
+/// So the asks of each turn of the machine's transcript are answered. An ask for tokens is
 /// answered in its own entry exactly the matching expressions visible to its face. Later it is answered an expression
 /// only where that is declared under one of its pendings, and then it is, once.
 pub fn turns_answer_asks<K: Key>()
-    ensures { (is_built : PlainLine K → Bool) (lines : List (PlainLine K)) (s : Fabric K) → Each HasFirstIds lines → FabricIsInOrder K.cmp K.matching s
-        → Each (AnswersAsks K.cmp K.matching) (turns_from K.cmp K.matching lines (entries_from K.cmp K.matching is_built lines s) (as_shown s)) }
+    ensures { (lines : List (PlainLine K)) (s : Fabric K) → Each HasFirstIds lines → FabricIsInOrder K.cmp K.matching s
+        → Each (AnswersAsks K.cmp K.matching) (turns_from K.cmp K.matching lines (entries_from K.cmp K.matching lines s) (as_shown s)) }
 {}

@@ -32,16 +32,16 @@ pub fn calls_send_interests_due<K: Key>()
         ≡ interests_due K.cmp K.matching gateway f (record { gateway = gateway; rows = g; call = NewTransport zid whatami region bound first })) (opened zid whatami region bound first g).faces }
 {}
 
-/// So each turn of the machine's transcript prints upstream what is due, whichever lines are built: for each open face the
+/// So each turn of the machine's transcript prints upstream what is due: for each open face the
 /// interests that its calls send to it, in their order, and no other.
 pub fn turns_send_interests_due<K: Key>()
-    ensures { (is_built : PlainLine K → Bool) (lines : List (PlainLine K)) (s : Fabric K) → Each HasFirstIds lines → FabricIsInOrder K.cmp K.matching s
-        → Each (SendsUpstream K.cmp K.matching) (turns_from K.cmp K.matching lines (entries_from K.cmp K.matching is_built lines s) (as_shown s)) }
+    ensures { (lines : List (PlainLine K)) (s : Fabric K) → Each HasFirstIds lines → FabricIsInOrder K.cmp K.matching s
+        → Each (SendsUpstream K.cmp K.matching) (turns_from K.cmp K.matching lines (entries_from K.cmp K.matching lines s) (as_shown s)) }
 {}
 
 /// And after each of its lines, from the empty fabric on, what stands sent upstream to a face that is sent all is what open
 /// south-bound faces hold, as pairs of expression and options: nothing is left standing that nobody holds any more.
 pub fn turns_end_interests_upstream<K: Key>()
-    ensures { (is_built : PlainLine K → Bool) (lines : List (PlainLine K)) → Each HasFirstIds lines
-        → Each (EndsUpstream K.cmp K.matching) (turns_from K.cmp K.matching lines (entries_from K.cmp K.matching is_built lines empty_fabric) empty_fabric) }
+    ensures { (lines : List (PlainLine K)) → Each HasFirstIds lines
+        → Each (EndsUpstream K.cmp K.matching) (turns_from K.cmp K.matching lines (entries_from K.cmp K.matching lines empty_fabric) empty_fabric) }
 {}

@@ -34,11 +34,11 @@ pub fn calls_declare_what_was_declared<K: Key>()
 /// expressions that were live at some plain face since the asking. So it is from the empty fabric on, and from each that is
 /// sound and of trees that agree.
 pub fn asks_get_only_what_was<K: Key>()
-    ensures start { (is_built : PlainLine K → Bool) (lines : List (PlainLine K)) → Each HasFirstIds lines
-        → (let turns = turns_from K.cmp K.matching lines (entries_from K.cmp K.matching is_built lines empty_fabric) empty_fabric in
+    ensures start { (lines : List (PlainLine K)) → Each HasFirstIds lines
+        → (let turns = turns_from K.cmp K.matching lines (entries_from K.cmp K.matching lines empty_fabric) empty_fabric in
         Each (IsTreeTurn K.cmp K.matching) turns → GetsOnlyWhatWas K.cmp K.matching turns) }
-    ensures later { (is_built : PlainLine K → Bool) (lines : List (PlainLine K)) (s : Fabric K) → Each HasFirstIds lines
+    ensures later { (lines : List (PlainLine K)) (s : Fabric K) → Each HasFirstIds lines
         → EachGatewayIs K.cmp K.matching (IsSound K.cmp K.matching) s → TreesAgree K.cmp K.matching s → IsTreeFabric s
-        → (let turns = turns_from K.cmp K.matching lines (entries_from K.cmp K.matching is_built lines s) (as_shown s) in
+        → (let turns = turns_from K.cmp K.matching lines (entries_from K.cmp K.matching lines s) (as_shown s) in
         Each (IsTreeTurn K.cmp K.matching) turns → GetsOnlyWhatWas K.cmp K.matching turns) }
 {}

@@ -18,16 +18,16 @@ ghost use Rattle.zt_kept.specs.Sound.{IsSound};
 
 use zt_keys::Key;
 
-/// After each turn of the machine's transcript, whichever lines are built, faces keep what they should; and where an
+/// After each turn of the machine's transcript faces keep what they should; and where an
 /// admission table refuses no pair, of what they cover exactly what is visible. It is so from each fabric of sound gateways
 /// on, as the transcript shows it, so from the empty one too.
 pub fn turns_keep_what_is_visible<K: Key>()
-    ensures keeps { (is_built : PlainLine K → Bool) (lines : List (PlainLine K)) (s : Fabric K) → Each HasFirstIds lines → EachGatewayIs K.cmp K.matching (IsSound K.cmp K.matching) s
-        → Each (λ t. AllKeepWhatTheyShould K.cmp K.matching t.after) (turns_from K.cmp K.matching lines (entries_from K.cmp K.matching is_built lines s) (as_shown s)) }
-    ensures exact { (is_built : PlainLine K → Bool) (lines : List (PlainLine K)) (s : Fabric K) → Each HasFirstIds lines → EachGatewayIs K.cmp K.matching (IsSound K.cmp K.matching) s
-        → Each (KeepsExactly K.cmp K.matching) (turns_from K.cmp K.matching lines (entries_from K.cmp K.matching is_built lines s) (as_shown s)) }
-    ensures start { (is_built : PlainLine K → Bool) (lines : List (PlainLine K)) → Each HasFirstIds lines
-        → Each (KeepsExactly K.cmp K.matching) (turns_from K.cmp K.matching lines (entries_from K.cmp K.matching is_built lines empty_fabric) empty_fabric) }
+    ensures keeps { (lines : List (PlainLine K)) (s : Fabric K) → Each HasFirstIds lines → EachGatewayIs K.cmp K.matching (IsSound K.cmp K.matching) s
+        → Each (λ t. AllKeepWhatTheyShould K.cmp K.matching t.after) (turns_from K.cmp K.matching lines (entries_from K.cmp K.matching lines s) (as_shown s)) }
+    ensures exact { (lines : List (PlainLine K)) (s : Fabric K) → Each HasFirstIds lines → EachGatewayIs K.cmp K.matching (IsSound K.cmp K.matching) s
+        → Each (KeepsExactly K.cmp K.matching) (turns_from K.cmp K.matching lines (entries_from K.cmp K.matching lines s) (as_shown s)) }
+    ensures start { (lines : List (PlainLine K)) → Each HasFirstIds lines
+        → Each (KeepsExactly K.cmp K.matching) (turns_from K.cmp K.matching lines (entries_from K.cmp K.matching lines empty_fabric) empty_fabric) }
 {}
 
 /// After a declaration that registers, and after an accepted one of a router region, each face outside router regions
@@ -44,8 +44,8 @@ pub fn declarations_reach_who_wants<K: Key>()
 /// So each turn of the machine's transcript tells the future: after an accepted declaration that registers, or that is of a
 /// router region, whoever wants its token keeps it.
 pub fn turns_tell_the_future<K: Key>()
-    ensures future { (is_built : PlainLine K → Bool) (lines : List (PlainLine K)) (s : Fabric K) → Each HasFirstIds lines → FabricIsInOrder K.cmp K.matching s
-        → Each (TellsTheFuture K.cmp K.matching) (turns_from K.cmp K.matching lines (entries_from K.cmp K.matching is_built lines s) (as_shown s)) }
-    ensures routers { (is_built : PlainLine K → Bool) (lines : List (PlainLine K)) (s : Fabric K) → Each HasFirstIds lines → FabricIsInOrder K.cmp K.matching s
-        → Each (TellsOfRouters K.cmp K.matching) (turns_from K.cmp K.matching lines (entries_from K.cmp K.matching is_built lines s) (as_shown s)) }
+    ensures future { (lines : List (PlainLine K)) (s : Fabric K) → Each HasFirstIds lines → FabricIsInOrder K.cmp K.matching s
+        → Each (TellsTheFuture K.cmp K.matching) (turns_from K.cmp K.matching lines (entries_from K.cmp K.matching lines s) (as_shown s)) }
+    ensures routers { (lines : List (PlainLine K)) (s : Fabric K) → Each HasFirstIds lines → FabricIsInOrder K.cmp K.matching s
+        → Each (TellsOfRouters K.cmp K.matching) (turns_from K.cmp K.matching lines (entries_from K.cmp K.matching lines s) (as_shown s)) }
 {}
