@@ -3,13 +3,12 @@
 //! `specs/Ways.antt` has the words for ways up a tree, `specs/Steady.antt` those for what messages leave as it is.
 #![tactic(auto)]
 
-ghost use Rattle.std.specs.Prelude.{◌≡◌, Bool, List};
+ghost use Rattle.std.specs.Prelude.{◌≡◌, List};
 ghost use Rattle.zt_protocol.specs.Plain.{PlainLine};
-ghost use Rattle.zt_model.specs.Fabric.{Fabric, empty_fabric, entries_from};
-ghost use Rattle.zt_model.specs.Promises.{turns_from};
+ghost use Rattle.zt_model.specs.Fabric.{Fabric, empty_fabric};
 ghost use Rattle.zt_model.specs.Transcript.{Each};
 ghost use Rattle.zt_model.specs.TreePromises.{GetsWhatStays, IsTreeFabric, IsTreeTurn, KeepTreePromises};
-ghost use Rattle.zt_laws.specs.Shown.{as_shown};
+ghost use Rattle.zt_laws.specs.Shown.{turns_of};
 ghost use Rattle.zt_laws.specs.Sound.{HasFirstIds};
 ghost use Rattle.zt_kept.specs.Lines.{EachGatewayIs};
 ghost use Rattle.zt_kept.specs.Sound.{IsSound};
@@ -23,11 +22,12 @@ use zt_keys::Key;
 /// from each that is sound and of trees that agree.
 pub fn asks_get_what_stays<K: Key>()
     ensures start { (lines : List (PlainLine K)) → Each HasFirstIds lines
-        → (let turns = turns_from K.cmp K.matching lines (entries_from K.cmp K.matching lines empty_fabric) empty_fabric in
+        → (let turns = turns_of K.cmp K.matching lines empty_fabric in
         Each (IsTreeTurn K.cmp K.matching) turns → GetsWhatStays K.cmp K.matching turns) }
     ensures later { (lines : List (PlainLine K)) (s : Fabric K) → Each HasFirstIds lines
-        → EachGatewayIs K.cmp K.matching (IsSound K.cmp K.matching) s → TreesAgree K.cmp K.matching s → IsTreeFabric s
-        → (let turns = turns_from K.cmp K.matching lines (entries_from K.cmp K.matching lines s) (as_shown s) in
+        → EachGatewayIs K.cmp K.matching (IsSound K.cmp K.matching) s
+        → TreesAgree K.cmp K.matching s → IsTreeFabric s
+        → (let turns = turns_of K.cmp K.matching lines s in
         Each (IsTreeTurn K.cmp K.matching) turns → GetsWhatStays K.cmp K.matching turns) }
 {}
 
@@ -36,8 +36,9 @@ pub fn asks_get_what_stays<K: Key>()
 /// from the empty fabric on, and from each that is sound and of trees that agree.
 pub fn trees_keep_their_promises<K: Key>()
     ensures start { (lines : List (PlainLine K)) → Each HasFirstIds lines
-        → KeepTreePromises K.cmp K.matching (turns_from K.cmp K.matching lines (entries_from K.cmp K.matching lines empty_fabric) empty_fabric) }
+        → KeepTreePromises K.cmp K.matching (turns_of K.cmp K.matching lines empty_fabric) }
     ensures later { (lines : List (PlainLine K)) (s : Fabric K) → Each HasFirstIds lines
-        → EachGatewayIs K.cmp K.matching (IsSound K.cmp K.matching) s → TreesAgree K.cmp K.matching s → IsTreeFabric s
-        → KeepTreePromises K.cmp K.matching (turns_from K.cmp K.matching lines (entries_from K.cmp K.matching lines s) (as_shown s)) }
+        → EachGatewayIs K.cmp K.matching (IsSound K.cmp K.matching) s
+        → TreesAgree K.cmp K.matching s → IsTreeFabric s
+        → KeepTreePromises K.cmp K.matching (turns_of K.cmp K.matching lines s) }
 {}

@@ -57,7 +57,8 @@ pub fn steps_come_to_an_end<K: Key>()
         → TreesStand K.cmp K.matching s → StepsFollow K.cmp K.matching lines s
         → (let after = fabric_after_all K.cmp K.matching lines s in
         messages_waiting after + length lines ≤ most_steps K.cmp s) }
-    ensures plainly { (s : Fabric K) → TreesStand K.cmp K.matching s → most_steps K.cmp s ≤ plain_most K.cmp s }
+    ensures plainly { (s : Fabric K) → TreesStand K.cmp K.matching s
+        → most_steps K.cmp s ≤ plain_most K.cmp s }
     ensures goes_on { (s : Fabric K)
         → QueuesStand s → are_links_empty s ≡ false
         → (link : ℕ) × (back : Bool)
