@@ -3,3 +3,5 @@ pub mod Opened
 pub mod Part1
 pub mod Part2
 pub mod Part3
+pub mod Lacking
+pub mod Suffices
