@@ -83,21 +83,23 @@ class Lacking:
     def statement(self):
         number = '%s ' % self.places[0] if self.promise == 'knows' else ''
         return '%s %s %spart.%s' % (PROMISES[self.promise][1], PREMISES[self.premise][0], number, self.name)
-    def turn(self, n): return '(turn_at %s %s)' % (n, self.turns)
     def premises(self):
         of = OF_KNOWLEDGE if self.promise == 'knows' else OF_ASKS
         holds = lambda p: 'trees_by %s refl' % self.turns if p == 'of-trees' else 'refl'
         return nested([fails(p, self.premise_places) if p == self.premise else holds(p) for p in of])
-    def ask(self, asking, final, premises):
+    def ask(self, asking, final):
         """The ask of a line, as a record."""
         face, interest_id, mode, options, expression = self.asked(asking)
-        own = asking == final
-        there = 'some_is (face_numbered %s.before %s) refl' % (self.turn(asking), face)
+        here = 'drop %d %s' % (asking - 1, self.turns)
+        last = 'drop %d (rest_of (%s))' % (final - asking - 1, here)
+        parts = dict(between='[]', ending='None', later='rest_of (%s)' % here, are='cut_at_own %d %s refl' % (asking - 1, self.turns))
+        if asking < final: parts = dict(
+            between='take %d (rest_of (%s))' % (final - asking - 1, here), ending='Some (first_turn (%s))' % last,
+            later='rest_of (%s)' % last, are='cut_at_both %d %d %s refl refl' % (asking - 1, final - asking - 1, self.turns))
+        there = 'some_is (face_numbered (first_turn (%s)).before %s) refl' % (here, face)
         return ASK.substitute(
-            earlier='take %d %s' % (asking - 1, self.turns), asking=self.turn(asking),
-            between='[]' if own else 'take %d (drop %d %s)' % (final - asking - 1, asking, self.turns),
-            ending='None' if own else 'Some %s' % self.turn(final), later='drop %d %s' % (final, self.turns),
-            face=face, id=interest_id, mode=mode, options=options, expression=expression, there=there)
+            parts, earlier='take %d %s' % (asking - 1, self.turns), asking='first_turn (%s)' % here,
+            face=face, id=interest_id, mode=mode, options=options[1:-1], expression=expression, there=there)
     def asked(self, line):
         word, face, interest_id, mode, options, *rest = self.lines[line - 1].split(' ')
         assert word == 'interest', line
@@ -109,19 +111,20 @@ class Lacking:
         return {'gets': self.gets, 'only': self.only, 'knows': self.knows}[self.promise]()
     def gets(self):
         asking, final, key, face, way = self.places
-        return MISSES.substitute(ask=self.ask(int(asking), int(final), None), premises=self.premises(), key=self.key(key), stays=self.stays(face, way.split(',')))
+        return MISSES.substitute(ask=self.ask(int(asking), int(final)), premises=self.premises(), key=self.key(key), stays=self.stays(face, way.split(',')))
     def only(self):
         asking, final, key = self.places
-        ask = self.ask(int(asking), int(final), None)
-        between = '[]' if asking == final else '(take %d (drop %s %s))' % (int(final) - int(asking) - 1, asking, self.turns)
-        nowhere = 'was_nowhere nat_cmp (matching_in part.%s) %s (%s ∷ %s) refl' % (self.name, self.key(key), self.turn(asking), between)
+        ask = self.ask(int(asking), int(final))
+        between = '[]' if asking == final else 'take %d (drop %s %s)' % (int(final) - int(asking) - 1, asking, self.turns)
+        here = 'first_turn (drop %d %s)' % (int(asking) - 1, self.turns)
+        nowhere = 'was_nowhere nat_cmp (matching_in part.%s) %s (%s ∷ %s) refl' % (self.name, self.key(key), here, between)
         return WAS_NOT.substitute(ask=ask, premises=self.premises(), key=self.key(key), nowhere=nowhere)
     def knows(self):
         line, gateway, number, key, face, way = self.places
         way = way.split(',')
         known = member(member('h', gateway), number)
         live = 'record { face = %s; at_gateway = %s; place = refl; in_tree = %s; live = refl }' % (face, way[-1], way_term(way))
-        return KNOWS_NOT.substitute(turn=self.turn(line), premises=self.premises(), known=known, key=self.key(key), live=live)
+        return KNOWS_NOT.substitute(number=line, turns=self.turns, premises=self.premises(), known=known, key=self.key(key), live=live)
 
 ASK = Template('''record {
     earlier = $earlier;
@@ -129,7 +132,7 @@ ASK = Template('''record {
     between = $between;
     ending = $ending;
     later = $later;
-    turns_are = refl;
+    turns_are = $are;
     face = $face;
     id = $id;
     interest = record { mode = $mode; options = $options; expr = $expression };
@@ -166,8 +169,8 @@ WAS_NOT = Template('''record {
 }''')
 
 KNOWS_NOT = Template('''record {
-  turn = $turn;
-  is_turn = refl;
+  turn = turn_at $number $turns;
+  is_turn = turn_is $number $turns refl;
   premises = $premises;
   unknown = λ h. never (($known refl refl).live_is_kept $key refl ($live)) refl;
 }''')
@@ -195,14 +198,15 @@ $name = ((refl, refl), $proof)
 NAMES = '''use Rattle.std.proofs.Common.{[], ◌∷◌, take, drop, Some, None, refl}
 use Rattle.std.specs.Ordering.{nat_cmp}
 use Rattle.zt_protocol.specs.declared.interests.InterestMode.TheVariants.{Current, Future, CurrentFuture}
+use Rattle.zt_model.specs.Lists.{rest_of}
 use Rattle.zt_model.specs.Transcript.{face_numbered}
 use Rattle.zt_model.specs.TreePromises.{Itself, Beyond}
 use Rattle.zt_model_test.specs.Script.{matching_in, options}
-use Rattle.zt_promises_test.specs.Premises.{NothingWaits, NoMoment, NoUnlinking, InterestStands, IdsAreLeft, IsOfTrees, GetsLessWithout, GetsMoreWithout, KnowsLessWithout, GetsAlone, KnowsAfter, turns_in}
+use Rattle.zt_promises_test.specs.Premises.{NothingWaits, NoMoment, NoUnlinking, InterestStands, IdsAreLeft, IsOfTrees, GetsLessWithout, GetsMoreWithout, KnowsLessWithout, turns_in}
 use Rattle.zt_promises_test.specs.Lacking as part
 use Rattle.zt_promises_test.proofs.Apart.{never, other_list}
 use Rattle.zt_promises_test.proofs.Opened.{opened}
-use Rattle.zt_promises_test.proofs.Suffices.{some_is, trees_by, turn_at, was_nowhere}
+use Rattle.zt_promises_test.proofs.Tests.{cut_at_both, cut_at_own, first_turn, some_is, trees_by, turn_at, turn_is, was_nowhere}
 '''
 
 def used(names, body):
@@ -222,7 +226,8 @@ def write(path, content):
     with open(path, 'w', encoding='utf-8') as file: file.write(content)
 
 def write_part(lacking):
-    body = '\n'.join(l.definition for l in lacking)
+    kept = [scripts.script_definition(os.path.join(scripts.ROOT, 'tests', 'definitions', name), whole=True) for name in KEPT]
+    body = '\n'.join([l.definition for l in lacking] + kept)
     write('specs/Lacking.antt', DEFINITIONS.substitute(made=MADE, names=scripts.used(scripts.NAMES, body), definitions=body))
     laws = '\n'.join(LAW.substitute(says=l.says, name=l.name, statement=l.statement(), proof=l.proof()) for l in lacking)
     write('proofs/Lacking.antt', LAWS.substitute(made=MADE, names=used(NAMES, laws), laws=laws))
@@ -234,7 +239,7 @@ MODULE = Template("""//! What the promises over trees stand on: `premises_suffic
 //!
 //! $made
 
-ghost use Rattle.std.specs.Prelude.{ℕ, Bool};
+ghost use Rattle.std.specs.Prelude.{ℕ, Bool, [], ◌∷◌};
 ghost use Rattle.std.specs.declared.cmp.Ordering.{Ordering};
 ghost use Rattle.zt_promises_test.specs.Lacking as part;
 ghost use Rattle.zt_promises_test.specs.Premises.{$names};
@@ -245,6 +250,13 @@ pub fn premises_suffice()
     ensures what_stays { (cmp : ℕ → ℕ → Ordering) (matching : ℕ → ℕ → Bool) → SufficeForWhatStays cmp matching }
     ensures what_was { (cmp : ℕ → ℕ → Ordering) (matching : ℕ → ℕ → Bool) → SufficeForWhatWas cmp matching }
     ensures knowledge { (cmp : ℕ → ℕ → Ordering) (matching : ℕ → ℕ → Bool) → SufficeForKnowledge cmp matching }
+{}
+
+/// Two scripts that lack no premise keep the promises: an ask gets the one token that stays, and faces know their trees
+/// after each turn of these numbers.
+pub fn promises_are_kept()
+    ensures asks_in_a_tree { GetsAlone 0 part.asks_in_a_tree }
+    ensures tree_echo { KnowsAfter (14 ∷ 18 ∷ 21 ∷ 23 ∷ 28 ∷ []) part.tree_echo }
 {}
 $functions""")
 
@@ -276,8 +288,9 @@ def write_functions(lacking):
         functions += FUNCTION.substitute(says=says, name=name, clauses=''.join('    ensures %s { %s }\n' % (l.name, l.statement()) for l in own))
         clauses = ''.join('  %s = law.%s;\n' % (l.name, l.name) for l in own)
         write('proofs/premises/%s/Answers.antt' % name, ANSWERS.substitute(made=MADE, function=name, clauses=clauses))
-    words = [term for term, _ in PREMISES.values()] + ['GetsLessWithout', 'GetsMoreWithout', 'KnowsLessWithout', 'GetsAlone', 'KnowsAfter']
-    names = [word for word in words if re.search(r'\b%s\b' % word, functions)] + ['SufficeForWhatStays', 'SufficeForWhatWas', 'SufficeForKnowledge']
+    words = [term for term, _ in PREMISES.values()] + ['GetsLessWithout', 'GetsMoreWithout', 'KnowsLessWithout']
+    names = [word for word in words if re.search(r'\b%s\b' % word, functions)]
+    names += ['GetsAlone', 'KnowsAfter', 'SufficeForWhatStays', 'SufficeForWhatWas', 'SufficeForKnowledge']
     write('src/premises.rt', MODULE.substitute(made=MADE, names=', '.join(names), functions=functions))
 
 def main(words):

@@ -233,7 +233,7 @@ def write_crate(wrongs):
     for n, part in parts: write_part(n, part)
     write_opened()
     modules = ''.join('pub mod Part%d\n' % n for n, _ in parts)
-    write('proofs/Lib.antt', 'pub mod Apart\npub mod Opened\n' + modules + 'pub mod Lacking\npub mod Suffices\n')
+    write('proofs/Lib.antt', 'pub mod Apart\npub mod Opened\n' + modules + 'pub mod Kept\npub mod Lacking\npub mod Suffices\npub mod Tests\n')
     write('specs/Lib.antt', 'pub mod Wrong\n' + modules + 'pub mod Lacking\npub mod Premises\n')
     clauses = lambda n, part: ''.join('    ensures %s { %s }\n' % (name, statement) for wrong in part for name, statement, _ in wrong.laws('part%d' % n))
     functions = ''.join(FUNCTION.substitute(n=n, clauses=clauses(n, part)) for n, part in parts)

@@ -3,6 +3,7 @@
 use Rattle.std.proofs.Common.{[], ◌∷◌, take, drop, Some, None, refl}
 use Rattle.std.specs.Ordering.{nat_cmp}
 use Rattle.zt_protocol.specs.declared.interests.InterestMode.TheVariants.{Current, CurrentFuture}
+use Rattle.zt_model.specs.Lists.{rest_of}
 use Rattle.zt_model.specs.Transcript.{face_numbered}
 use Rattle.zt_model.specs.TreePromises.{Itself, Beyond}
 use Rattle.zt_model_test.specs.Script.{matching_in, options}
@@ -10,7 +11,7 @@ use Rattle.zt_promises_test.specs.Premises.{NothingWaits, NoMoment, NoUnlinking,
 use Rattle.zt_promises_test.specs.Lacking as part
 use Rattle.zt_promises_test.proofs.Apart.{never, other_list}
 use Rattle.zt_promises_test.proofs.Opened.{opened}
-use Rattle.zt_promises_test.proofs.Suffices.{some_is, trees_by, turn_at, was_nowhere}
+use Rattle.zt_promises_test.proofs.Tests.{cut_at_both, cut_at_own, first_turn, some_is, trees_by, turn_at, turn_is, was_nowhere}
 
 -- the answer is refused, since its face has no id left
 pub answer_without_an_id : GetsLessWithout IdsAreLeft part.answer_without_an_id
@@ -18,21 +19,21 @@ unfolding opened
 answer_without_an_id = ((refl, refl), record {
   ask = record {
     earlier = take 6 (turns_in part.answer_without_an_id);
-    asking = (turn_at 7 (turns_in part.answer_without_an_id));
-    between = take 2 (drop 7 (turns_in part.answer_without_an_id));
-    ending = Some (turn_at 10 (turns_in part.answer_without_an_id));
-    later = drop 10 (turns_in part.answer_without_an_id);
-    turns_are = refl;
+    asking = first_turn (drop 6 (turns_in part.answer_without_an_id));
+    between = take 2 (rest_of (drop 6 (turns_in part.answer_without_an_id)));
+    ending = Some (first_turn (drop 2 (rest_of (drop 6 (turns_in part.answer_without_an_id)))));
+    later = rest_of (drop 2 (rest_of (drop 6 (turns_in part.answer_without_an_id))));
+    turns_are = cut_at_both 6 2 (turns_in part.answer_without_an_id) refl refl;
     face = 4;
     id = 1;
-    interest = record { mode = CurrentFuture; options = (options 8); expr = Some 0 };
+    interest = record { mode = CurrentFuture; options = options 8; expr = Some 0 };
     made = record {
       accepted = refl;
       plain = refl;
-      options = (options 8);
-      at = (some_is (face_numbered (turn_at 7 (turns_in part.answer_without_an_id)).before 4) refl).0;
+      options = options 8;
+      at = (some_is (face_numbered (first_turn (drop 6 (turns_in part.answer_without_an_id))).before 4) refl).0;
       line = refl;
-      there = (some_is (face_numbered (turn_at 7 (turns_in part.answer_without_an_id)).before 4) refl).1;
+      there = (some_is (face_numbered (first_turn (drop 6 (turns_in part.answer_without_an_id))).before 4) refl).1;
       kept = refl;
       current = refl;
       tokens = refl;
@@ -51,21 +52,21 @@ unfolding opened
 answered_from_above = ((refl, refl), record {
   ask = record {
     earlier = take 3 (turns_in part.answered_from_above);
-    asking = (turn_at 4 (turns_in part.answered_from_above));
-    between = take 1 (drop 4 (turns_in part.answered_from_above));
-    ending = Some (turn_at 6 (turns_in part.answered_from_above));
-    later = drop 6 (turns_in part.answered_from_above);
-    turns_are = refl;
+    asking = first_turn (drop 3 (turns_in part.answered_from_above));
+    between = take 1 (rest_of (drop 3 (turns_in part.answered_from_above)));
+    ending = Some (first_turn (drop 1 (rest_of (drop 3 (turns_in part.answered_from_above)))));
+    later = rest_of (drop 1 (rest_of (drop 3 (turns_in part.answered_from_above))));
+    turns_are = cut_at_both 3 1 (turns_in part.answered_from_above) refl refl;
     face = 2;
     id = 1;
-    interest = record { mode = Current; options = (options 8); expr = Some 0 };
+    interest = record { mode = Current; options = options 8; expr = Some 0 };
     made = record {
       accepted = refl;
       plain = refl;
-      options = (options 8);
-      at = (some_is (face_numbered (turn_at 4 (turns_in part.answered_from_above)).before 2) refl).0;
+      options = options 8;
+      at = (some_is (face_numbered (first_turn (drop 3 (turns_in part.answered_from_above))).before 2) refl).0;
       line = refl;
-      there = (some_is (face_numbered (turn_at 4 (turns_in part.answered_from_above)).before 2) refl).1;
+      there = (some_is (face_numbered (first_turn (drop 3 (turns_in part.answered_from_above))).before 2) refl).1;
       kept = refl;
       current = refl;
       tokens = refl;
@@ -75,7 +76,7 @@ answered_from_above = ((refl, refl), record {
   premises = (refl, (refl, (refl, (refl, (refl, (λ h. never refl (h.1.0.north.0.0 refl).1, tt))))));
   expr = 0;
   answered = refl;
-  nowhere = λ was. was_nowhere nat_cmp (matching_in part.answered_from_above) 0 ((turn_at 4 (turns_in part.answered_from_above)) ∷ (take 1 (drop 4 (turns_in part.answered_from_above)))) refl was;
+  nowhere = λ was. was_nowhere nat_cmp (matching_in part.answered_from_above) 0 (first_turn (drop 3 (turns_in part.answered_from_above)) ∷ take 1 (drop 4 (turns_in part.answered_from_above))) refl was;
 })
 
 -- the face ends its own interest before the ask has gone up
@@ -84,21 +85,21 @@ unfolding opened
 ended_before_the_final = ((refl, refl), record {
   ask = record {
     earlier = take 6 (turns_in part.ended_before_the_final);
-    asking = (turn_at 7 (turns_in part.ended_before_the_final));
-    between = take 0 (drop 7 (turns_in part.ended_before_the_final));
-    ending = Some (turn_at 8 (turns_in part.ended_before_the_final));
-    later = drop 8 (turns_in part.ended_before_the_final);
-    turns_are = refl;
+    asking = first_turn (drop 6 (turns_in part.ended_before_the_final));
+    between = take 0 (rest_of (drop 6 (turns_in part.ended_before_the_final)));
+    ending = Some (first_turn (drop 0 (rest_of (drop 6 (turns_in part.ended_before_the_final)))));
+    later = rest_of (drop 0 (rest_of (drop 6 (turns_in part.ended_before_the_final))));
+    turns_are = cut_at_both 6 0 (turns_in part.ended_before_the_final) refl refl;
     face = 4;
     id = 1;
-    interest = record { mode = CurrentFuture; options = (options 8); expr = Some 0 };
+    interest = record { mode = CurrentFuture; options = options 8; expr = Some 0 };
     made = record {
       accepted = refl;
       plain = refl;
-      options = (options 8);
-      at = (some_is (face_numbered (turn_at 7 (turns_in part.ended_before_the_final)).before 4) refl).0;
+      options = options 8;
+      at = (some_is (face_numbered (first_turn (drop 6 (turns_in part.ended_before_the_final))).before 4) refl).0;
       line = refl;
-      there = (some_is (face_numbered (turn_at 7 (turns_in part.ended_before_the_final)).before 4) refl).1;
+      there = (some_is (face_numbered (first_turn (drop 6 (turns_in part.ended_before_the_final))).before 4) refl).1;
       kept = refl;
       current = refl;
       tokens = refl;
@@ -117,21 +118,21 @@ unfolding opened
 gone_and_still_told = ((refl, refl), record {
   ask = record {
     earlier = take 8 (turns_in part.gone_and_still_told);
-    asking = (turn_at 9 (turns_in part.gone_and_still_told));
+    asking = first_turn (drop 8 (turns_in part.gone_and_still_told));
     between = [];
     ending = None;
-    later = drop 9 (turns_in part.gone_and_still_told);
-    turns_are = refl;
+    later = rest_of (drop 8 (turns_in part.gone_and_still_told));
+    turns_are = cut_at_own 8 (turns_in part.gone_and_still_told) refl;
     face = 4;
     id = 1;
-    interest = record { mode = Current; options = (options 8); expr = Some 0 };
+    interest = record { mode = Current; options = options 8; expr = Some 0 };
     made = record {
       accepted = refl;
       plain = refl;
-      options = (options 8);
-      at = (some_is (face_numbered (turn_at 9 (turns_in part.gone_and_still_told)).before 4) refl).0;
+      options = options 8;
+      at = (some_is (face_numbered (first_turn (drop 8 (turns_in part.gone_and_still_told))).before 4) refl).0;
       line = refl;
-      there = (some_is (face_numbered (turn_at 9 (turns_in part.gone_and_still_told)).before 4) refl).1;
+      there = (some_is (face_numbered (first_turn (drop 8 (turns_in part.gone_and_still_told))).before 4) refl).1;
       kept = refl;
       current = refl;
       tokens = refl;
@@ -141,15 +142,15 @@ gone_and_still_told = ((refl, refl), record {
   premises = (λ h. never h refl, (refl, (refl, (refl, (refl, (trees_by (turns_in part.gone_and_still_told) refl, tt))))));
   expr = 0;
   answered = refl;
-  nowhere = λ was. was_nowhere nat_cmp (matching_in part.gone_and_still_told) 0 ((turn_at 9 (turns_in part.gone_and_still_told)) ∷ []) refl was;
+  nowhere = λ was. was_nowhere nat_cmp (matching_in part.gone_and_still_told) 0 (first_turn (drop 8 (turns_in part.gone_and_still_told)) ∷ []) refl was;
 })
 
 -- a token still waits on the link
 pub known_only_after_the_step : KnowsLessWithout NothingWaits 7 part.known_only_after_the_step
 unfolding opened
 known_only_after_the_step = ((refl, refl), record {
-  turn = (turn_at 7 (turns_in part.known_only_after_the_step));
-  is_turn = refl;
+  turn = turn_at 7 (turns_in part.known_only_after_the_step);
+  is_turn = turn_is 7 (turns_in part.known_only_after_the_step) refl;
   premises = (λ h. never h refl, (refl, (trees_by (turns_in part.known_only_after_the_step) refl, tt)));
   unknown = λ h. never ((h.0.1.0 refl refl).live_is_kept 0 refl (record { face = 3; at_gateway = 2; place = refl; in_tree = Beyond 1 1 2 (Itself 1) refl; live = refl })) refl;
 })
@@ -160,21 +161,21 @@ unfolding opened
 moment_before_the_final = ((refl, refl), record {
   ask = record {
     earlier = take 6 (turns_in part.moment_before_the_final);
-    asking = (turn_at 7 (turns_in part.moment_before_the_final));
-    between = take 0 (drop 7 (turns_in part.moment_before_the_final));
-    ending = Some (turn_at 8 (turns_in part.moment_before_the_final));
-    later = drop 8 (turns_in part.moment_before_the_final);
-    turns_are = refl;
+    asking = first_turn (drop 6 (turns_in part.moment_before_the_final));
+    between = take 0 (rest_of (drop 6 (turns_in part.moment_before_the_final)));
+    ending = Some (first_turn (drop 0 (rest_of (drop 6 (turns_in part.moment_before_the_final)))));
+    later = rest_of (drop 0 (rest_of (drop 6 (turns_in part.moment_before_the_final))));
+    turns_are = cut_at_both 6 0 (turns_in part.moment_before_the_final) refl refl;
     face = 4;
     id = 1;
-    interest = record { mode = Current; options = (options 8); expr = Some 0 };
+    interest = record { mode = Current; options = options 8; expr = Some 0 };
     made = record {
       accepted = refl;
       plain = refl;
-      options = (options 8);
-      at = (some_is (face_numbered (turn_at 7 (turns_in part.moment_before_the_final)).before 4) refl).0;
+      options = options 8;
+      at = (some_is (face_numbered (first_turn (drop 6 (turns_in part.moment_before_the_final))).before 4) refl).0;
       line = refl;
-      there = (some_is (face_numbered (turn_at 7 (turns_in part.moment_before_the_final)).before 4) refl).1;
+      there = (some_is (face_numbered (first_turn (drop 6 (turns_in part.moment_before_the_final))).before 4) refl).1;
       kept = refl;
       current = refl;
       tokens = refl;
@@ -193,21 +194,21 @@ unfolding opened
 pair_refused = ((refl, refl), record {
   ask = record {
     earlier = take 6 (turns_in part.pair_refused);
-    asking = (turn_at 7 (turns_in part.pair_refused));
+    asking = first_turn (drop 6 (turns_in part.pair_refused));
     between = [];
     ending = None;
-    later = drop 7 (turns_in part.pair_refused);
-    turns_are = refl;
+    later = rest_of (drop 6 (turns_in part.pair_refused));
+    turns_are = cut_at_own 6 (turns_in part.pair_refused) refl;
     face = 4;
     id = 1;
-    interest = record { mode = Current; options = (options 8); expr = Some 0 };
+    interest = record { mode = Current; options = options 8; expr = Some 0 };
     made = record {
       accepted = refl;
       plain = refl;
-      options = (options 8);
-      at = (some_is (face_numbered (turn_at 7 (turns_in part.pair_refused)).before 4) refl).0;
+      options = options 8;
+      at = (some_is (face_numbered (first_turn (drop 6 (turns_in part.pair_refused))).before 4) refl).0;
       line = refl;
-      there = (some_is (face_numbered (turn_at 7 (turns_in part.pair_refused)).before 4) refl).1;
+      there = (some_is (face_numbered (first_turn (drop 6 (turns_in part.pair_refused))).before 4) refl).1;
       kept = refl;
       current = refl;
       tokens = refl;
@@ -224,8 +225,8 @@ pair_refused = ((refl, refl), record {
 pub region_of_peers : KnowsLessWithout IsOfTrees 5 part.region_of_peers
 unfolding opened
 region_of_peers = ((refl, refl), record {
-  turn = (turn_at 5 (turns_in part.region_of_peers));
-  is_turn = refl;
+  turn = turn_at 5 (turns_in part.region_of_peers);
+  is_turn = turn_is 5 (turns_in part.region_of_peers) refl;
   premises = (refl, (refl, (λ h. never h.0.clients.0.0 refl, tt)));
   unknown = λ h. never ((h.0.1.0 refl refl).live_is_kept 0 refl (record { face = 1; at_gateway = 1; place = refl; in_tree = Itself 1; live = refl })) refl;
 })
@@ -236,21 +237,21 @@ unfolding opened
 token_still_on_its_way = ((refl, refl), record {
   ask = record {
     earlier = take 6 (turns_in part.token_still_on_its_way);
-    asking = (turn_at 7 (turns_in part.token_still_on_its_way));
+    asking = first_turn (drop 6 (turns_in part.token_still_on_its_way));
     between = [];
     ending = None;
-    later = drop 7 (turns_in part.token_still_on_its_way);
-    turns_are = refl;
+    later = rest_of (drop 6 (turns_in part.token_still_on_its_way));
+    turns_are = cut_at_own 6 (turns_in part.token_still_on_its_way) refl;
     face = 4;
     id = 1;
-    interest = record { mode = Current; options = (options 8); expr = Some 0 };
+    interest = record { mode = Current; options = options 8; expr = Some 0 };
     made = record {
       accepted = refl;
       plain = refl;
-      options = (options 8);
-      at = (some_is (face_numbered (turn_at 7 (turns_in part.token_still_on_its_way)).before 4) refl).0;
+      options = options 8;
+      at = (some_is (face_numbered (first_turn (drop 6 (turns_in part.token_still_on_its_way))).before 4) refl).0;
       line = refl;
-      there = (some_is (face_numbered (turn_at 7 (turns_in part.token_still_on_its_way)).before 4) refl).1;
+      there = (some_is (face_numbered (first_turn (drop 6 (turns_in part.token_still_on_its_way))).before 4) refl).1;
       kept = refl;
       current = refl;
       tokens = refl;
@@ -267,8 +268,8 @@ token_still_on_its_way = ((refl, refl), record {
 pub token_without_an_id : KnowsLessWithout IdsAreLeft 10 part.token_without_an_id
 unfolding opened
 token_without_an_id = ((refl, refl), record {
-  turn = (turn_at 10 (turns_in part.token_without_an_id));
-  is_turn = refl;
+  turn = turn_at 10 (turns_in part.token_without_an_id);
+  is_turn = turn_is 10 (turns_in part.token_without_an_id) refl;
   premises = (refl, (λ h. never refl h, (trees_by (turns_in part.token_without_an_id) refl, tt)));
   unknown = λ h. never ((h.1.0.1.0 refl refl).live_is_kept 0 refl (record { face = 3; at_gateway = 1; place = refl; in_tree = Beyond 2 2 1 (Itself 2) refl; live = refl })) refl;
 })
@@ -279,21 +280,21 @@ unfolding opened
 unlinked_before_the_final = ((refl, refl), record {
   ask = record {
     earlier = take 6 (turns_in part.unlinked_before_the_final);
-    asking = (turn_at 7 (turns_in part.unlinked_before_the_final));
-    between = take 0 (drop 7 (turns_in part.unlinked_before_the_final));
-    ending = Some (turn_at 8 (turns_in part.unlinked_before_the_final));
-    later = drop 8 (turns_in part.unlinked_before_the_final);
-    turns_are = refl;
+    asking = first_turn (drop 6 (turns_in part.unlinked_before_the_final));
+    between = take 0 (rest_of (drop 6 (turns_in part.unlinked_before_the_final)));
+    ending = Some (first_turn (drop 0 (rest_of (drop 6 (turns_in part.unlinked_before_the_final)))));
+    later = rest_of (drop 0 (rest_of (drop 6 (turns_in part.unlinked_before_the_final))));
+    turns_are = cut_at_both 6 0 (turns_in part.unlinked_before_the_final) refl refl;
     face = 4;
     id = 1;
-    interest = record { mode = Current; options = (options 8); expr = Some 0 };
+    interest = record { mode = Current; options = options 8; expr = Some 0 };
     made = record {
       accepted = refl;
       plain = refl;
-      options = (options 8);
-      at = (some_is (face_numbered (turn_at 7 (turns_in part.unlinked_before_the_final)).before 4) refl).0;
+      options = options 8;
+      at = (some_is (face_numbered (first_turn (drop 6 (turns_in part.unlinked_before_the_final))).before 4) refl).0;
       line = refl;
-      there = (some_is (face_numbered (turn_at 7 (turns_in part.unlinked_before_the_final)).before 4) refl).1;
+      there = (some_is (face_numbered (first_turn (drop 6 (turns_in part.unlinked_before_the_final))).before 4) refl).1;
       kept = refl;
       current = refl;
       tokens = refl;

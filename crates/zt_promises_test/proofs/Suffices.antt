@@ -1,4 +1,4 @@
--- The premises of the promises over trees are those of the promises themselves, and tests that show them by evaluation.
+-- The premises of the promises over trees are those of the promises themselves.
 use Rattle.std.proofs.Common.{◌≡◌, ℕ, ◌+◌, ◌-◌, ◌≤◌, ◌==◌, Bool, true, false, ◌&&◌, ◌||◌, not, List, [], ◌∷◌, ◌++◌, Option, Some, None, is_some, Ok, refl, sym, ap, ◌∙◌, subst, arith, eqb-true, true≢false}
 use Rattle.std.proofs.lemmas.Bool.{and_parts}
 use Rattle.std.specs.List.{list_all, list_any}
@@ -15,11 +15,11 @@ use Rattle.zt_model.specs.Transcript.{Each, face_numbered}
 use Rattle.zt_model.specs.TreePromises.{Here, IsMember, IsTreeFabric, IsTreeTurn, KeepTreePromises, LeadsUpByLink, ServesClients, There, TreeAsk, disturbs, is_client_region, is_ids_spent, is_live_at, is_plain, is_plain_number, is_plainly_live_at}
 use Rattle.zt_promises_test.specs.Premises.{AskIn, FacesKnow, Holds, HoldsAfter, SufficeForKnowledge, SufficeForWhatStays, SufficeForWhatWas, comes, is_end_of_interest, is_moment, is_unlinking, premises_of_asks, premises_of_knowledge, turns_to_final}
 
-by_test : {G : Type 0} (b : Bool) → (b ≡ true → G) → (b ≡ false → G) → G
+pub by_test : {G : Type 0} (b : Bool) → (b ≡ true → G) → (b ≡ false → G) → G
 by_test true yes_ no_ = yes_ refl
 by_test false yes_ no_ = no_ refl
 
-neither : (x y : Bool) → (x || y) ≡ false → (x ≡ false) × (y ≡ false)
+pub neither : (x y : Bool) → (x || y) ≡ false → (x ≡ false) × (y ≡ false)
 neither true y e = absurd (true≢false e)
 neither false y e = (refl, e)
 
@@ -105,129 +105,3 @@ module _ {K : Type 0} (cmp : K → K → Ordering) (matching : K → K → Bool)
 
   pub suffice_for_knowledge : SufficeForKnowledge cmp matching
   suffice_for_knowledge = λ turns keep n t at_ holds. each_nth _ n turns t (keep (each_turn turns holds.1.0 holds.1.1.0)).knowledge at_ holds.0
-
--- ---- trees, by a test
-
-leads : (up client plain : Bool) → (not up || (client && not plain)) ≡ true → up ≡ true → (client ≡ true) × (plain ≡ false)
-leads true true false e = λ h. (refl, refl)
-leads true true true e = absurd (true≢false (sym e))
-leads true false plain e = absurd (true≢false (sym e))
-leads false client plain e = λ h. absurd (true≢false (sym h))
-
-abbrev pub leads_up : {K : Type 0} → Fabric K → ℕ → Rows K → Face K → Bool
-leads_up s n g f = not (is_north f.region) || (whatami_eq g.mode Client && not (is_plain s n f))
-
-abbrev pub all_lead_up : {K : Type 0} → Fabric K → ℕ → List (Node K) → Bool
-all_lead_up s n [] = true
-all_lead_up s n (node ∷ nodes) = list_all (leads_up s n node.rows) node.rows.faces && all_lead_up s (n + 1) nodes
-
-abbrev pub is_nil : {A : Type 0} → List A → Bool
-is_nil [] = true
-is_nil (x ∷ xs) = false
-
-nil_is : {A : Type 0} (xs : List A) → is_nil xs ≡ true → xs ≡ []
-nil_is [] e = refl
-nil_is (x ∷ xs) e = absurd (true≢false (sym e))
-
-abbrev pub serves_clients : {K : Type 0} → Node K → Bool
-serves_clients node = list_all is_client_region node.rows.regions && is_nil node.rows.refused
-
-abbrev pub is_tree_fabric : {K : Type 0} → Fabric K → Bool
-is_tree_fabric s = all_lead_up s 1 s.gateways && list_all serves_clients s.gateways
-
-each_passes : {A : Type 0} (P : A → Type 0) (p : A → Bool) → ((x : A) → p x ≡ true → P x) → (xs : List A) → list_all p xs ≡ true → Each P xs
-each_passes P p h [] e = tt
-each_passes P p h (x ∷ xs) e = let both = and_parts (p x) (list_all p xs) e in (h x both.0, each_passes P p h xs both.1)
-
-north_by : {K : Type 0} (s : Fabric K) (n : ℕ) (nodes : List (Node K)) → all_lead_up s n nodes ≡ true → EachGateway (λ k (node : Node K). Each (LeadsUpByLink s k node.rows) node.rows.faces) n nodes
-north_by s n [] e = tt
-north_by s n (node ∷ nodes) e =
-    let both = and_parts (list_all (leads_up s n node.rows) node.rows.faces) (all_lead_up s (n + 1) nodes) e in
-    (each_passes (LeadsUpByLink s n node.rows) (leads_up s n node.rows) (λ f. leads (is_north f.region) (whatami_eq node.rows.mode Client) (is_plain s n f)) node.rows.faces both.0, north_by s (n + 1) nodes both.1)
-
-clients_by : {K : Type 0} (n : ℕ) (nodes : List (Node K)) → list_all serves_clients nodes ≡ true → EachGateway ServesClients n nodes
-clients_by n [] e = tt
-clients_by n (node ∷ nodes) e =
-    let both = and_parts (serves_clients node) (list_all serves_clients nodes) e in
-    let own = and_parts (list_all is_client_region node.rows.regions) (is_nil node.rows.refused) both.0 in
-    ((own.0, nil_is node.rows.refused own.1), clients_by (n + 1) nodes both.1)
-
-tree_by : {K : Type 0} (s : Fabric K) → is_tree_fabric s ≡ true → IsTreeFabric s
-tree_by s e =
-    let both = and_parts (all_lead_up s 1 s.gateways) (list_all serves_clients s.gateways) e in
-    record { north = north_by s 1 s.gateways both.0; clients = clients_by 1 s.gateways both.1 }
-
-pub trees_by : {K : Type 0} (ts : List (Turn K)) → list_all (λ t. is_tree_fabric t.after) ts ≡ true → Each (λ t. IsTreeFabric t.after) ts
-trees_by ts e = each_passes (λ t. IsTreeFabric t.after) (λ t. is_tree_fabric t.after) (λ t. tree_by t.after) ts e
-
--- ---- what is live nowhere, by a test
-
--- the numbers of a list's members, where i stand before it
-abbrev pub numbers_behind : {A : Type 0} → ℕ → List A → List ℕ
-numbers_behind i [] = []
-numbers_behind i (x ∷ xs) = (i + 1) ∷ numbers_behind (i + 1) xs
-
-nth_real : {A : Type 0} (n : ℕ) (xs : List A) (x : A) → nth n xs ≡ Some x → 1 ≤ n
-nth_real n [] x at_ = cc
-nth_real n (y ∷ xs) x at_ =
-    by_test (n == 1)
-    (λ here. let is : n ≡ 1 = eqb-true n 1 here in omega arith)
-    (λ here. let later : 1 ≤ n - 1 = nth_real (n - 1) xs x (rw here at at_) in omega arith)
-
-none_numbered : {A : Type 0} (p : ℕ → Bool) (i n : ℕ) (xs : List A) (x : A) → list_any p (numbers_behind i xs) ≡ false → nth n xs ≡ Some x → p (i + n) ≡ false
-none_numbered p i n [] x none_ at_ = cc
-none_numbered p i n (y ∷ xs) x none_ at_ =
-    let parts = neither (p (i + 1)) (list_any p (numbers_behind (i + 1) xs)) none_ in
-    by_test (n == 1)
-    (λ here. let one : n ≡ 1 = eqb-true n 1 here in subst (λ k. p (i + k) ≡ false) (sym one) parts.0)
-    (λ here.
-    let rest : nth (n - 1) xs ≡ Some x = rw here at at_ in
-    let real : 1 ≤ n - 1 = nth_real (n - 1) xs x rest in
-    let is : (i + 1) + (n - 1) ≡ i + n = omega arith in
-    subst (λ k. p k ≡ false) is (none_numbered p (i + 1) (n - 1) xs x parts.1 rest))
-
-member_each : {A : Type 0} (P : A → Type 0) (x : A) (xs : List A) → Each P xs → IsMember x xs → P x
-member_each P x xs all (Here ys) = all.0
-member_each P x xs all (There y ys more) = member_each P x ys all.1 more
-
-and_no : (b : Bool) → (b && false) ≡ false
-and_no true = refl
-and_no false = refl
-
-module _ {K : Type 0} (cmp : K → K → Ordering) (matching : K → K → Bool) where
-  -- some plain face of the fabric has the expression live
-  abbrev pub is_live_somewhere : K → Fabric K → Bool
-  is_live_somewhere e s = list_any (λ n. is_plainly_live_at cmp matching s n e) (numbers_behind 0 s.faces)
-
-  pub live_nowhere : (e : K) (s : Fabric K) → is_live_somewhere e s ≡ false → (n : ℕ) → is_plainly_live_at cmp matching s n e ≡ false
-  unfolding face_numbered
-  live_nowhere e s none_ n = by_place (nth n s.faces) refl
-    where
-      by_place : (o : Option Place) → nth n s.faces ≡ o → is_plainly_live_at cmp matching s n e ≡ false
-      by_place None at_ = rw (at_, face_numbered) (and_no (is_plain_number s n))
-      by_place (Some p) at_ =
-          let is : 0 + n ≡ n = omega arith in
-          subst (λ k. is_plainly_live_at cmp matching s k e ≡ false) is (none_numbered (λ k. is_plainly_live_at cmp matching s k e) 0 n s.faces p none_ at_)
-
-  -- in none of the turns
-  pub was_nowhere : (e : K) (ts : List (Turn K)) → list_all (λ t. not (is_live_somewhere e t.after)) ts ≡ true
-      → ((t : Turn K) × (face : ℕ) × IsMember t ts × (is_plainly_live_at cmp matching t.after face e ≡ true)) → ⊥
-  was_nowhere e ts none_ was =
-      let each = each_passes (λ t. not (is_live_somewhere e t.after) ≡ true) (λ t. not (is_live_somewhere e t.after)) (λ t h. h) ts none_ in
-      let here : not (is_live_somewhere e was.0.after) ≡ true = member_each (λ t. not (is_live_somewhere e t.after) ≡ true) was.0 ts each was.2 in
-      true≢false (sym was.3 ∙ live_nowhere e was.0.after (not_true (is_live_somewhere e was.0.after) here) was.1)
-    where
-      not_true : (b : Bool) → not b ≡ true → b ≡ false
-      not_true true h = absurd (true≢false (sym h))
-      not_true false h = refl
-
--- ---- what is there
-
-abbrev pub some_is : {A : Type 0} (o : Option A) → is_some o ≡ true → (x : A) × (o ≡ Some x)
-some_is None e = absurd (true≢false (sym e))
-some_is (Some x) e = (x, refl)
-
--- the turn of a number, and one of no transcript where there is none
-abbrev pub turn_at : {K : Type 0} → ℕ → List (Turn K) → Turn K
-turn_at n turns =
-    elim (nth n turns) [ None ↦ record { line = Moment 0 0; entry = Ok []; before = empty_fabric; after = empty_fabric } | Some t ↦ t ]

@@ -300,3 +300,117 @@ unlinked_before_the_final = record {
       ∷ [];
   totals = Some (record { lines = 8; messages = 2; refusals = 0 });
 }
+
+-- asks-in-a-tree: 0 is k
+abbrev pub asks_in_a_tree : Script
+asks_in_a_tree = record {
+  matches = [];
+  lines =
+      Gateway Router (zid 1) (South 0 Client ∷ []) None None 10000 []
+      ∷ Gateway Client (zid 2) (South 0 Client ∷ []) (Some (Some (record { zids = (Some (zid 4 ∷ [])); interfaces = None; modes = None; region_names = None; negated = false } ∷ []) ∷ [])) None 10000 []
+      ∷ Gateway Client (zid 3) [] None None 10000 []
+      ∷ Gateway Client (zid 4) [] None None 10000 []
+      ∷ LinkLine 2 1 1 1
+      ∷ LinkLine 3 1 1 1
+      ∷ LinkLine 4 2 1 1
+      ∷ Session 4 1
+      ∷ Session 3 1
+      ∷ Speak (DeclareToken 8 1 0 0 None)
+      ∷ Step 2 false
+      ∷ Speak (Interest 7 1 Current (options 8) (Some 0))
+      ∷ Step 3 false
+      ∷ Step 1 false
+      ∷ Step 1 true
+      ∷ Step 1 true
+      ∷ Step 3 true
+      ∷ Step 3 true
+      ∷ [];
+  entries =
+      Ok []
+      ∷ Ok []
+      ∷ Ok []
+      ∷ Ok []
+      ∷ Ok []
+      ∷ Ok []
+      ∷ Ok []
+      ∷ Ok []
+      ∷ Ok []
+      ∷ Ok (sent 3 3 (message.DeclareToken 1 0 None 0) ∷ [])
+      ∷ Ok []
+      ∷ Ok (sent 4 5 (message.Interest 1 Current (options 8) (Some 0)) ∷ [])
+      ∷ Ok (sent 2 1 (message.Interest 1 Current (options 8) (Some 0)) ∷ [])
+      ∷ Ok (sent 1 2 (message.DeclareToken 0 0 (Some 1) 0) ∷ sent 1 2 (message.DeclareFinal 1) ∷ [])
+      ∷ Ok (sent 2 6 (message.DeclareToken 0 0 (Some 1) 0) ∷ [])
+      ∷ Ok (sent 2 6 (message.DeclareFinal 1) ∷ [])
+      ∷ Ok (sent 4 7 (message.DeclareToken 0 0 (Some 1) 0) ∷ [])
+      ∷ Ok (sent 4 7 (message.DeclareFinal 1) ∷ [])
+      ∷ [];
+  totals = Some (record { lines = 18; messages = 9; refusals = 0 });
+}
+
+-- tree-echo: 0 is k
+abbrev pub tree_echo : Script
+tree_echo = record {
+  matches = [];
+  lines =
+      Gateway Router (zid 1) (South 0 Client ∷ []) None None 10000 []
+      ∷ Gateway Client (zid 2) (South 0 Client ∷ []) (Some (Some (record { zids = (Some (zid 4 ∷ [])); interfaces = None; modes = None; region_names = None; negated = false } ∷ []) ∷ [])) None 10000 []
+      ∷ Gateway Client (zid 3) [] None None 10000 []
+      ∷ Gateway Client (zid 4) [] None None 10000 []
+      ∷ LinkLine 2 1 1 1
+      ∷ LinkLine 3 1 1 1
+      ∷ LinkLine 4 2 1 1
+      ∷ Session 4 1
+      ∷ Session 3 1
+      ∷ Speak (Interest 7 1 CurrentFuture (options 8) (Some 0))
+      ∷ Step 3 false
+      ∷ Step 1 false
+      ∷ Step 1 true
+      ∷ Step 3 true
+      ∷ Speak (DeclareToken 8 1 0 0 None)
+      ∷ Step 2 false
+      ∷ Step 1 true
+      ∷ Step 3 true
+      ∷ Speak (DeclareToken 7 1 0 0 None)
+      ∷ Step 3 false
+      ∷ Step 1 false
+      ∷ Speak (UndeclareToken 8 1 None 0)
+      ∷ Step 2 false
+      ∷ Speak (UndeclareToken 7 1 None 0)
+      ∷ Step 3 false
+      ∷ Step 1 false
+      ∷ Step 1 true
+      ∷ Step 3 true
+      ∷ [];
+  entries =
+      Ok []
+      ∷ Ok []
+      ∷ Ok []
+      ∷ Ok []
+      ∷ Ok []
+      ∷ Ok []
+      ∷ Ok []
+      ∷ Ok []
+      ∷ Ok []
+      ∷ Ok (sent 4 5 (message.Interest 1 CurrentFuture (options 8) (Some 0)) ∷ [])
+      ∷ Ok (sent 2 1 (message.Interest 1 CurrentFuture (options 8) (Some 0)) ∷ [])
+      ∷ Ok (sent 1 2 (message.DeclareFinal 1) ∷ [])
+      ∷ Ok (sent 2 6 (message.DeclareFinal 1) ∷ [])
+      ∷ Ok (sent 4 7 (message.DeclareFinal 1) ∷ [])
+      ∷ Ok (sent 3 3 (message.DeclareToken 1 0 None 0) ∷ [])
+      ∷ Ok (sent 1 2 (message.DeclareToken 1 0 None 0) ∷ [])
+      ∷ Ok (sent 2 6 (message.DeclareToken 1 0 None 0) ∷ [])
+      ∷ Ok (sent 4 7 (message.DeclareToken 1 0 None 0) ∷ [])
+      ∷ Ok (sent 4 5 (message.DeclareToken 2 0 None 0) ∷ [])
+      ∷ Ok (sent 2 1 (message.DeclareToken 2 0 None 0) ∷ [])
+      ∷ Ok []
+      ∷ Ok (sent 3 3 (message.UndeclareToken 1 None 0) ∷ [])
+      ∷ Ok []
+      ∷ Ok (sent 4 5 (message.UndeclareToken 2 None 0) ∷ [])
+      ∷ Ok (sent 2 1 (message.UndeclareToken 2 None 0) ∷ [])
+      ∷ Ok (sent 1 2 (message.UndeclareToken 1 None 0) ∷ [])
+      ∷ Ok (sent 2 6 (message.UndeclareToken 1 None 0) ∷ [])
+      ∷ Ok (sent 4 7 (message.UndeclareToken 1 None 0) ∷ [])
+      ∷ [];
+  totals = Some (record { lines = 28; messages = 17; refusals = 0 });
+}

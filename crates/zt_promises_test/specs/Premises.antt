@@ -204,9 +204,12 @@ GetsMoreWithout left_out s = ComesOut s × GetsWhatWasNot nat_cmp (matching_in s
 abbrev pub KnowsLessWithout : Premise → ℕ → Script → Type 0
 KnowsLessWithout left_out n s = ComesOut s × KnowsNot nat_cmp (matching_in s) left_out n (turns_in s)
 
--- what the promises over trees say of a script that keeps them
+-- ---- of scripts that keep the promises over trees
+
+-- the ask gets this one expression
 abbrev pub GetsAlone : ℕ → Script → Type 0
 GetsAlone e s = ComesOut s × GetsOne nat_cmp (matching_in s) e (turns_in s)
 
-abbrev pub KnowsAfter : ℕ → Script → Type 0
-KnowsAfter n s = ComesOut s × Knows nat_cmp (matching_in s) n (turns_in s)
+-- faces know their trees after the turns of these numbers
+abbrev pub KnowsAfter : List ℕ → Script → Type 0
+KnowsAfter numbers s = ComesOut s × Each (λ n. Knows nat_cmp (matching_in s) n (turns_in s)) numbers

@@ -5,10 +5,10 @@
 //!
 //! Written by tools/premises_to_antt.py; change the scripts or the tool, and not this file.
 
-ghost use Rattle.std.specs.Prelude.{ℕ, Bool};
+ghost use Rattle.std.specs.Prelude.{ℕ, Bool, [], ◌∷◌};
 ghost use Rattle.std.specs.declared.cmp.Ordering.{Ordering};
 ghost use Rattle.zt_promises_test.specs.Lacking as part;
-ghost use Rattle.zt_promises_test.specs.Premises.{NothingWaits, NoMoment, NoUnlinking, InterestStands, IdsAreLeft, IsOfTrees, GetsLessWithout, GetsMoreWithout, KnowsLessWithout, SufficeForWhatStays, SufficeForWhatWas, SufficeForKnowledge};
+ghost use Rattle.zt_promises_test.specs.Premises.{NothingWaits, NoMoment, NoUnlinking, InterestStands, IdsAreLeft, IsOfTrees, GetsLessWithout, GetsMoreWithout, KnowsLessWithout, GetsAlone, KnowsAfter, SufficeForWhatStays, SufficeForWhatWas, SufficeForKnowledge};
 
 /// The premises are those of the promises: a transcript that keeps the promises over trees says where all of them hold what
 /// they say.
@@ -16,6 +16,13 @@ pub fn premises_suffice()
     ensures what_stays { (cmp : ℕ → ℕ → Ordering) (matching : ℕ → ℕ → Bool) → SufficeForWhatStays cmp matching }
     ensures what_was { (cmp : ℕ → ℕ → Ordering) (matching : ℕ → ℕ → Bool) → SufficeForWhatWas cmp matching }
     ensures knowledge { (cmp : ℕ → ℕ → Ordering) (matching : ℕ → ℕ → Bool) → SufficeForKnowledge cmp matching }
+{}
+
+/// Two scripts that lack no premise keep the promises: an ask gets the one token that stays, and faces know their trees
+/// after each turn of these numbers.
+pub fn promises_are_kept()
+    ensures asks_in_a_tree { GetsAlone 0 part.asks_in_a_tree }
+    ensures tree_echo { KnowsAfter (14 ∷ 18 ∷ 21 ∷ 23 ∷ 28 ∷ []) part.tree_echo }
 {}
 
 /// Without the premise an ask isn't answered what stays.
