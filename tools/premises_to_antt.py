@@ -192,7 +192,10 @@ $laws''')
 LAW = Template('''-- $says
 pub $name : $statement
 unfolding opened
-$name = ((refl, refl), $proof)
+$name = (
+  (refl, refl),
+  $proof,
+)
 ''')
 
 NAMES = '''use Rattle.std.proofs.Common.{[], ◌∷◌, take, drop, Some, None, refl}
@@ -229,7 +232,7 @@ def write_part(lacking):
     kept = [scripts.script_definition(os.path.join(scripts.ROOT, 'tests', 'definitions', name), whole=True) for name in KEPT]
     body = '\n'.join([l.definition for l in lacking] + kept)
     write('specs/Lacking.antt', DEFINITIONS.substitute(made=MADE, names=scripts.used(scripts.NAMES, body), definitions=body))
-    laws = '\n'.join(LAW.substitute(says=l.says, name=l.name, statement=l.statement(), proof=l.proof()) for l in lacking)
+    laws = '\n'.join(LAW.substitute(says=l.says, name=l.name, statement=l.statement(), proof=l.proof().replace('\n', '\n  ')) for l in lacking)
     write('proofs/Lacking.antt', LAWS.substitute(made=MADE, names=used(NAMES, laws), laws=laws))
 
 MODULE = Template("""//! What the promises over trees stand on: `premises_suffice` says that the premises are those of the promises. Each other

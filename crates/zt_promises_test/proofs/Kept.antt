@@ -7,7 +7,7 @@ use Rattle.zt_model.specs.Transcript.{Each, face_numbered}
 use Rattle.zt_model.specs.TreePromises.{Beyond, IsTreeFabric, Itself}
 use Rattle.zt_model_test.specs.Script.{matching_in, options}
 use Rattle.zt_promises_test.specs.Lacking as part
-use Rattle.zt_promises_test.specs.Premises.{FacesKnow, GetsAlone, Knows, KnowsAfter, turns_in}
+use Rattle.zt_promises_test.specs.Premises.{GetsAlone, Knows, KnowsAfter, turns_in}
 use Rattle.zt_promises_test.proofs.Opened.{opened}
 use Rattle.zt_promises_test.proofs.Tests.{cut_at_both, first_turn, know_it, know_none, some_is, trees_by, turn_at, turn_is}
 
@@ -16,43 +16,46 @@ use Rattle.zt_promises_test.proofs.Tests.{cut_at_both, first_turn, know_it, know
 -- face 8, of gateway 3, has the token live all the while
 pub asks_in_a_tree : GetsAlone 0 part.asks_in_a_tree
 unfolding opened
-asks_in_a_tree = ((refl, refl), record {
-  ask = record {
-    earlier = take 11 (turns_in part.asks_in_a_tree);
-    asking = first_turn (drop 11 (turns_in part.asks_in_a_tree));
-    between = take 5 (rest_of (drop 11 (turns_in part.asks_in_a_tree)));
-    ending = Some (first_turn (drop 5 (rest_of (drop 11 (turns_in part.asks_in_a_tree)))));
-    later = rest_of (drop 5 (rest_of (drop 11 (turns_in part.asks_in_a_tree))));
-    turns_are = cut_at_both 11 5 (turns_in part.asks_in_a_tree) refl refl;
-    face = 7;
-    id = 1;
-    interest = record { mode = Current; options = options 8; expr = Some 0 };
-    made = record {
-      accepted = refl;
-      plain = refl;
-      options = options 8;
-      at = (some_is (face_numbered (first_turn (drop 11 (turns_in part.asks_in_a_tree))).before 7) refl).0;
-      line = refl;
-      there = (some_is (face_numbered (first_turn (drop 11 (turns_in part.asks_in_a_tree))).before 7) refl).1;
-      kept = refl;
-      current = refl;
-      tokens = refl;
+asks_in_a_tree = (
+  (refl, refl),
+  record {
+    ask = record {
+      earlier = take 11 (turns_in part.asks_in_a_tree);
+      asking = first_turn (drop 11 (turns_in part.asks_in_a_tree));
+      between = take 5 (rest_of (drop 11 (turns_in part.asks_in_a_tree)));
+      ending = Some (first_turn (drop 5 (rest_of (drop 11 (turns_in part.asks_in_a_tree)))));
+      later = rest_of (drop 5 (rest_of (drop 11 (turns_in part.asks_in_a_tree))));
+      turns_are = cut_at_both 11 5 (turns_in part.asks_in_a_tree) refl refl;
+      face = 7;
+      id = 1;
+      interest = record { mode = Current; options = options 8; expr = Some 0 };
+      made = record {
+        accepted = refl;
+        plain = refl;
+        options = options 8;
+        at = (some_is (face_numbered (first_turn (drop 11 (turns_in part.asks_in_a_tree))).before 7) refl).0;
+        line = refl;
+        there = (some_is (face_numbered (first_turn (drop 11 (turns_in part.asks_in_a_tree))).before 7) refl).1;
+        kept = refl;
+        current = refl;
+        tokens = refl;
+      };
+      finished = (refl, refl);
     };
-    finished = (refl, refl);
-  };
-  premises = (refl, (refl, (refl, (refl, (refl, (trees_by (turns_in part.asks_in_a_tree) refl, tt))))));
-  stays = record {
-    about = refl;
-    own = 4;
-    other = 3;
-    place = 8;
-    at_own = refl;
-    in_tree = Beyond 4 1 3 (Beyond 4 2 1 (Beyond 4 4 2 (Itself 4) refl) refl) refl;
-    at_other = refl;
-    stays = refl;
-  };
-  answers = refl;
-})
+    premises = (refl, (refl, (refl, (refl, (refl, (trees_by (turns_in part.asks_in_a_tree) refl, tt))))));
+    stays = record {
+      about = refl;
+      own = 4;
+      other = 3;
+      place = 8;
+      at_own = refl;
+      in_tree = Beyond 4 1 3 (Beyond 4 2 1 (Beyond 4 4 2 (Itself 4) refl) refl) refl;
+      at_other = refl;
+      stays = refl;
+    };
+    answers = refl;
+  },
+)
 
 -- ---- knowledge
 

@@ -1,19 +1,15 @@
 -- The premises of the promises over trees are those of the promises themselves.
-use Rattle.std.proofs.Common.{◌≡◌, ℕ, ◌+◌, ◌-◌, ◌≤◌, ◌==◌, Bool, true, false, ◌&&◌, ◌||◌, not, List, [], ◌∷◌, ◌++◌, Option, Some, None, is_some, Ok, refl, sym, ap, ◌∙◌, subst, arith, eqb-true, true≢false}
-use Rattle.std.proofs.lemmas.Bool.{and_parts}
-use Rattle.std.specs.List.{list_all, list_any}
-use Rattle.std.specs.Option.{option_to_list}
+use Rattle.std.proofs.Common.{◌≡◌, ℕ, ◌-◌, ◌==◌, Bool, true, false, ◌&&◌, ◌||◌, List, [], ◌∷◌, Some, refl, subst, true≢false}
+use Rattle.std.specs.List.{list_any}
 use Rattle.std.specs.declared.cmp.Ordering.{Ordering}
-use Rattle.zt_region.specs.declared.region.WhatAmI.TheVariants.{Client}
-use Rattle.zt_region.specs.Region.{is_north, whatami_eq}
 use Rattle.zt_protocol.specs.Plain.{DeclareToken, UndeclareToken, Interest, InterestFinal, DeclareFinal, CloseFace, Expire, SetTrees, SetEntities, NewSession, NewTransport, PlainEntry, PlainLine, Gateway, Session, Face as FaceLine, Link as LinkLine, Unlink, Step, Speak, Moment, SetTreesAt}
-use Rattle.zt_model.specs.Fabric.{Fabric, Node, Place, empty_fabric}
-use Rattle.zt_model.specs.Lists.{is_some_and, nth}
-use Rattle.zt_model.specs.Promises.{EachGateway, Turn, is_accepted}
-use Rattle.zt_model.specs.Rows.{Face, InterestRow, Rows}
-use Rattle.zt_model.specs.Transcript.{Each, face_numbered}
-use Rattle.zt_model.specs.TreePromises.{Here, IsMember, IsTreeFabric, IsTreeTurn, KeepTreePromises, LeadsUpByLink, ServesClients, There, TreeAsk, disturbs, is_client_region, is_ids_spent, is_live_at, is_plain, is_plain_number, is_plainly_live_at}
-use Rattle.zt_promises_test.specs.Premises.{AskIn, FacesKnow, Holds, HoldsAfter, SufficeForKnowledge, SufficeForWhatStays, SufficeForWhatWas, comes, is_end_of_interest, is_moment, is_unlinking, premises_of_asks, premises_of_knowledge, turns_to_final}
+use Rattle.zt_model.specs.Fabric.{Fabric}
+use Rattle.zt_model.specs.Lists.{nth}
+use Rattle.zt_model.specs.Promises.{Turn, is_accepted}
+use Rattle.zt_model.specs.Rows.{InterestRow}
+use Rattle.zt_model.specs.Transcript.{Each}
+use Rattle.zt_model.specs.TreePromises.{IsTreeFabric, IsTreeTurn, TreeAsk, disturbs, is_ids_spent}
+use Rattle.zt_promises_test.specs.Premises.{AskIn, Holds, SufficeForKnowledge, SufficeForWhatStays, SufficeForWhatWas, comes, is_end_of_interest, is_moment, is_unlinking, premises_of_asks, turns_to_final}
 
 pub by_test : {G : Type 0} (b : Bool) → (b ≡ true → G) → (b ≡ false → G) → G
 by_test true yes_ no_ = yes_ refl

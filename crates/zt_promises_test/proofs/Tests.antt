@@ -216,11 +216,11 @@ module _ (matching : ℕ → ℕ → Bool) (k : ℕ) (alone : (e : ℕ) → matc
       let own = asks (λ f. not (keeps nat_cmp f k)) n g f asker plain both_ in
       record {
         kept_is_live = λ e covered keeps_.
-          let kept : keeps nat_cmp f k ≡ true = subst (λ x. keeps nat_cmp f x ≡ true) (sym (own.only e covered)) keeps_ in
-          absurd (true≢false (sym (rw kept at own.passed)));
+            let kept : keeps nat_cmp f k ≡ true = subst (λ x. keeps nat_cmp f x ≡ true) (sym (own.only e covered)) keeps_ in
+            absurd (true≢false (sym (rw kept at own.passed)));
         live_is_kept = λ e covered lives.
-          let lives_ : is_plainly_live_at nat_cmp matching s lives.face k ≡ true = subst (λ x. is_plainly_live_at nat_cmp matching s lives.face x ≡ true) (sym (own.only e covered)) lives.live in
-          absurd (true≢false (sym lives_ ∙ live_nowhere nat_cmp matching k s nowhere lives.face));
+            let lives_ : is_plainly_live_at nat_cmp matching s lives.face k ≡ true = subst (λ x. is_plainly_live_at nat_cmp matching s lives.face x ≡ true) (sym (own.only e covered)) lives.live in
+            absurd (true≢false (sym lives_ ∙ live_nowhere nat_cmp matching k s nowhere lives.face));
       })
       1 s.gateways asking
 

@@ -3,7 +3,7 @@
 --     MissesWhatStays   an ask isn't answered what stays
 --     GetsWhatWasNot    an ask is answered what was nowhere
 --     KnowsNot          a face doesn't know its tree
-use Rattle.std.specs.Prelude.{◌≡◌, ℕ, Bool, true, false, ◌==◌, ◌&&◌, List, [], ◌∷◌, ◌++◌, Option, Some, None}
+use Rattle.std.specs.Prelude.{◌≡◌, ℕ, Bool, true, false, ◌==◌, ◌&&◌, List, [], ◌∷◌, ◌++◌, Option, Some}
 use Rattle.std.specs.List.{list_all, list_any, flat_map}
 use Rattle.std.specs.Option.{option_to_list}
 use Rattle.std.specs.Ordering.{nat_cmp}
@@ -15,7 +15,7 @@ use Rattle.zt_model.specs.Lists.{is_among, nth}
 use Rattle.zt_model.specs.Promises.{EachFace, Turn, is_accepted, turns_from}
 use Rattle.zt_model.specs.Rows.{InterestRow}
 use Rattle.zt_model.specs.Transcript.{Each}
-use Rattle.zt_model.specs.TreePromises.{GetsOnlyWhatWas, GetsWhatStays, IsFinishedBy, IsInTree, IsMember, IsTreeFabric, IsTreeTurn, KeepTreePromises, KnowsItsTree, KnowsTrees, MakesAsk, TreeAsk, answers_of_turn, are_links_empty, holds_both, is_at_gateway, is_ids_spent, is_plain, is_plainly_live_at}
+use Rattle.zt_model.specs.TreePromises.{IsFinishedBy, IsInTree, IsMember, IsTreeFabric, KeepTreePromises, KnowsItsTree, MakesAsk, answers_of_turn, are_links_empty, holds_both, is_at_gateway, is_ids_spent, is_plain, is_plainly_live_at}
 use Rattle.zt_model.specs.Wants.{is_about}
 use Rattle.zt_model_test.specs.Script.{ComesOut, Script, matching_in}
 
