@@ -10,6 +10,9 @@ of these; KEY is the expression, FACE a plain face that has it live all the whil
 or knows, to that of this face:
     gets PREMISE ASKING FINAL KEY FACE WAY             the ask made in line ASKING, with its final in line FINAL, isn't answered it
     only PREMISE ASKING FINAL KEY                      the ask is answered it
+    moves ASKING FINAL KEY OWN FACE/WAY ..             the ask, of gateway OWN, isn't answered what after each of its turns another
+                                                       face has live
+    linked ASKING FINAL KEY FACE WAY                   the ask isn't answered what the face has live, whose gateway is joined later
     knows PREMISE LINE GATEWAY NUMBER KEY FACE WAY     after this line that face of the gateway, counted in order, doesn't keep it
 What `of-trees` lacks stands behind it: a line, a gateway, and `refused`, `regions`, or `north` with a face.
 """
@@ -38,7 +41,12 @@ PROMISES = {
     'gets': ('GetsWhatStays', 'GetsLessWithout', 'asks_get_less'),
     'only': ('GetsOnlyWhatWas', 'GetsMoreWithout', 'asks_get_more'),
     'knows': ('KnowsTrees', 'KnowsLessWithout', 'faces_know_less'),
+    'moves': ('GetsWhatStays', 'GetsLessOfMoving', 'asks_get_less'),
+    'linked': ('GetsWhatStays', 'GetsLessOfLinked', 'asks_get_less'),
 }
+
+# what those say that lack no premise of the ask
+STANDS_ON = {'moves': 'the token stays at one face', 'linked': 'the token is in the tree when the ask is made'}
 
 # ---- proofs
 
@@ -67,7 +75,10 @@ def fails(premise, places):
 class Lacking:
     def __init__(self, base):
         self.base, self.name = base, scripts.name_of(base)
-        self.says = ''
+        first, self.says = scripts.read(base + '.lacks').rstrip('\n').split('\n')
+        self.promise, *self.places = first.split(' ')
+        self.premise, self.premise_places = None, []
+        if self.promise not in STANDS_ON: self.premise, *self.premise_places = self.places.pop(0).split(':')
         self.definition = scripts.script_definition(base, whole=True)
         self.key = scripts.Keys()
         self.lines = scripts.read(base + '.in').split('\n')[:-1]
@@ -75,12 +86,8 @@ class Lacking:
         scripts.transcript_terms(scripts.read(base + '.out'), self.key)
         self.key.settle()
         self.turns = '(turns_in part.%s)' % self.name
-    def read_what(self):
-        first, self.says = scripts.read(self.base + '.lacks').rstrip('\n').split('\n')
-        self.promise, premise, *self.places = first.split(' ')
-        self.premise, *self.premise_places = premise.split(':')
-        return self
     def statement(self):
+        if not self.premise: return '%s part.%s' % (PROMISES[self.promise][1], self.name)
         number = '%s ' % self.places[0] if self.promise == 'knows' else ''
         return '%s %s %spart.%s' % (PROMISES[self.promise][1], PREMISES[self.premise][0], number, self.name)
     def premises(self):
@@ -108,7 +115,7 @@ class Lacking:
     def stays(self, face, way):
         return STAYS.substitute(own=way[0], other=way[-1], face=face, way=way_term(way))
     def proof(self):
-        return {'gets': self.gets, 'only': self.only, 'knows': self.knows}[self.promise]()
+        return {'gets': self.gets, 'only': self.only, 'knows': self.knows, 'moves': self.moves, 'linked': self.linked}[self.promise]()
     def gets(self):
         asking, final, key, face, way = self.places
         return MISSES.substitute(ask=self.ask(int(asking), int(final)), premises=self.premises(), key=self.key(key), stays=self.stays(face, way.split(',')))
@@ -119,12 +126,29 @@ class Lacking:
         here = 'first_turn (drop %d %s)' % (int(asking) - 1, self.turns)
         nowhere = 'was_nowhere nat_cmp (matching_in part.%s) %s (%s ∷ %s) refl' % (self.name, self.key(key), here, between)
         return WAS_NOT.substitute(ask=ask, premises=self.premises(), key=self.key(key), nowhere=nowhere)
+    def live(self, face, way):
+        return 'record { face = %s; at_gateway = %s; place = refl; in_tree = %s; live = refl }' % (face, way[-1], way_term(way))
+    def moves(self):
+        asking, final, key, own, *lives = self.places
+        terms = [self.live(face, way.split(',')) for face, way in (live.split('/') for live in lives)]
+        here = 'drop %d %s' % (int(asking) - 1, self.turns)
+        later = 'take %d (rest_of (%s))' % (int(final) - int(asking), here)
+        moves = 'λ stays. none_stays nat_cmp (matching_in part.%s) %s (first_turn (%s)) (%s) refl stays.place stays.stays' % (self.name, self.key(key), here, later)
+        return MOVES.substitute(ask=self.ask(int(asking), int(final)), premises=self.premises(), key=self.key(key), own=own, live=nested(terms), moves=moves)
+    def linked(self):
+        asking, final, key, face, way = self.places
+        way = way.split(',')
+        before = '(first_turn (drop %d %s)).before' % (int(asking) - 1, self.turns)
+        inside = 'λ n. not (n == %s)' % way[-1]
+        apart = 'λ tree. true≢false (same_tree_same_side %s (%s) %s %s refl tree)' % (before, inside, way[0], way[-1])
+        return LINKED.substitute(
+            ask=self.ask(int(asking), int(final)), premises=self.premises(), key=self.key(key), own=way[0], other=way[-1], face=face,
+            apart=apart, joined=nested([way_term(way)]))
     def knows(self):
         line, gateway, number, key, face, way = self.places
         way = way.split(',')
         known = member(member('h', gateway), number)
-        live = 'record { face = %s; at_gateway = %s; place = refl; in_tree = %s; live = refl }' % (face, way[-1], way_term(way))
-        return KNOWS_NOT.substitute(number=line, turns=self.turns, premises=self.premises(), known=known, key=self.key(key), live=live)
+        return KNOWS_NOT.substitute(number=line, turns=self.turns, premises=self.premises(), known=known, key=self.key(key), live=self.live(face, way))
 
 ASK = Template('''record {
     earlier = $earlier;
@@ -157,6 +181,34 @@ MISSES = Template('''record {
   premises = $premises;
   expr = $key;
   stays = $stays;
+  missed = refl;
+}''')
+
+MOVES = Template('''record {
+  ask = $ask;
+  premises = $premises;
+  expr = $key;
+  about = refl;
+  own = $own;
+  at_own = refl;
+  live = $live;
+  moves = $moves;
+  missed = refl;
+}''')
+
+LINKED = Template('''record {
+  ask = $ask;
+  premises = $premises;
+  expr = $key;
+  about = refl;
+  own = $own;
+  other = $other;
+  place = $face;
+  at_own = refl;
+  at_other = refl;
+  apart = $apart;
+  joined = $joined;
+  stays = refl;
   missed = refl;
 }''')
 
@@ -198,18 +250,18 @@ $name = (
 )
 ''')
 
-NAMES = '''use Rattle.std.proofs.Common.{[], ◌∷◌, take, drop, Some, None, refl}
+NAMES = '''use Rattle.std.proofs.Common.{◌==◌, not, [], ◌∷◌, take, drop, Some, None, refl, true≢false}
 use Rattle.std.specs.Ordering.{nat_cmp}
 use Rattle.zt_protocol.specs.declared.interests.InterestMode.TheVariants.{Current, Future, CurrentFuture}
 use Rattle.zt_model.specs.Lists.{rest_of}
 use Rattle.zt_model.specs.Transcript.{face_numbered}
 use Rattle.zt_model.specs.TreePromises.{Itself, Beyond}
 use Rattle.zt_model_test.specs.Script.{matching_in, options}
-use Rattle.zt_promises_test.specs.Premises.{NothingWaits, NoMoment, NoUnlinking, InterestStands, IdsAreLeft, IsOfTrees, GetsLessWithout, GetsMoreWithout, KnowsLessWithout, turns_in}
+use Rattle.zt_promises_test.specs.Premises.{NothingWaits, NoMoment, NoUnlinking, InterestStands, IdsAreLeft, IsOfTrees, GetsLessWithout, GetsMoreWithout, KnowsLessWithout, GetsLessOfMoving, GetsLessOfLinked, turns_in}
 use Rattle.zt_promises_test.specs.Lacking as part
 use Rattle.zt_promises_test.proofs.Apart.{never, other_list}
 use Rattle.zt_promises_test.proofs.Opened.{opened}
-use Rattle.zt_promises_test.proofs.Tests.{cut_at_both, cut_at_own, first_turn, some_is, trees_by, turn_at, turn_is, was_nowhere}
+use Rattle.zt_promises_test.proofs.Tests.{cut_at_both, cut_at_own, first_turn, none_stays, same_tree_same_side, some_is, trees_by, turn_at, turn_is, was_nowhere}
 '''
 
 def used(names, body):
@@ -270,7 +322,7 @@ $clauses{}
 """)
 
 FUNCTIONS = [
-    ('gets', 'Without the premise an ask isn\'t answered what stays.'),
+    ('gets', 'Without the premise an ask isn\'t answered what stays; nor, with all of them, what moves or is linked later.'),
     ('only', 'Without the premise an ask is answered what was nowhere.'),
     ('knows', 'Without the premise a face doesn\'t know its tree after the turn of this number.'),
 ]
@@ -287,19 +339,27 @@ $clauses}
 def write_functions(lacking):
     functions = ''
     for promise, says in FUNCTIONS:
-        own, name = [l for l in lacking if l.promise == promise], PROMISES[promise][2]
+        name = PROMISES[promise][2]
+        own = [l for l in lacking if PROMISES[l.promise][2] == name]
         functions += FUNCTION.substitute(says=says, name=name, clauses=''.join('    ensures %s { %s }\n' % (l.name, l.statement()) for l in own))
         clauses = ''.join('  %s = law.%s;\n' % (l.name, l.name) for l in own)
         write('proofs/premises/%s/Answers.antt' % name, ANSWERS.substitute(made=MADE, function=name, clauses=clauses))
-    words = [term for term, _ in PREMISES.values()] + ['GetsLessWithout', 'GetsMoreWithout', 'KnowsLessWithout']
+    words = [term for term, _ in PREMISES.values()] + ['GetsLessWithout', 'GetsMoreWithout', 'KnowsLessWithout', 'GetsLessOfMoving', 'GetsLessOfLinked']
     names = [word for word in words if re.search(r'\b%s\b' % word, functions)]
     names += ['GetsAlone', 'KnowsAfter', 'SufficeForWhatStays', 'SufficeForWhatWas', 'SufficeForKnowledge']
     write('src/premises.rt', MODULE.substitute(made=MADE, names=', '.join(names), functions=functions))
 
+def table(lacking):
+    for l in sorted(lacking, key=lambda l: (list(PROMISES).index(l.promise) if l.premise else len(PROMISES), list(PREMISES).index(l.premise) if l.premise else l.name)):
+        premise = PREMISES[l.premise][1] if l.premise else STANDS_ON[l.promise]
+        print('| %s | `%s` | %s | %s |' % (os.path.basename(l.base), PROMISES[l.promise][0], premise, l.says))
+
 def main(words):
-    folder = words[-1]
-    lacking = [Lacking(path[:-len('.lacks')]).read_what() for path in sorted(glob.glob(os.path.join(folder, '*.lacks')))]
-    write_part(lacking)
-    write_functions(lacking)
+    printing = words[:1] == ['--table']
+    folders = words[1:] if printing else words
+    if len(folders) != 1: sys.exit(__doc__)
+    lacking = [Lacking(path[:-len('.lacks')]) for path in sorted(glob.glob(os.path.join(folders[0], '*.lacks')))]
+    if printing: table(lacking)
+    else: write_part(lacking); write_functions(lacking); print('%d scripts that lack a premise' % len(lacking))
 
 if __name__ == "__main__": main(sys.argv[1:])

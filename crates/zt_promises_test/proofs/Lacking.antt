@@ -1,17 +1,17 @@
 -- The laws of these scripts, by evaluation.
 -- Written by tools/premises_to_antt.py; change the scripts or the tool, and not this file.
-use Rattle.std.proofs.Common.{[], ◌∷◌, take, drop, Some, None, refl}
+use Rattle.std.proofs.Common.{◌==◌, not, [], ◌∷◌, take, drop, Some, None, refl, true≢false}
 use Rattle.std.specs.Ordering.{nat_cmp}
 use Rattle.zt_protocol.specs.declared.interests.InterestMode.TheVariants.{Current, CurrentFuture}
 use Rattle.zt_model.specs.Lists.{rest_of}
 use Rattle.zt_model.specs.Transcript.{face_numbered}
 use Rattle.zt_model.specs.TreePromises.{Itself, Beyond}
 use Rattle.zt_model_test.specs.Script.{matching_in, options}
-use Rattle.zt_promises_test.specs.Premises.{NothingWaits, NoMoment, NoUnlinking, InterestStands, IdsAreLeft, IsOfTrees, GetsLessWithout, GetsMoreWithout, KnowsLessWithout, turns_in}
+use Rattle.zt_promises_test.specs.Premises.{NothingWaits, NoMoment, NoUnlinking, InterestStands, IdsAreLeft, IsOfTrees, GetsLessWithout, GetsMoreWithout, KnowsLessWithout, GetsLessOfMoving, GetsLessOfLinked, turns_in}
 use Rattle.zt_promises_test.specs.Lacking as part
 use Rattle.zt_promises_test.proofs.Apart.{never, other_list}
 use Rattle.zt_promises_test.proofs.Opened.{opened}
-use Rattle.zt_promises_test.proofs.Tests.{cut_at_both, cut_at_own, first_turn, some_is, trees_by, turn_at, turn_is, was_nowhere}
+use Rattle.zt_promises_test.proofs.Tests.{cut_at_both, cut_at_own, first_turn, none_stays, same_tree_same_side, some_is, trees_by, turn_at, turn_is, was_nowhere}
 
 -- the answer is refused, since its face has no id left
 pub answer_without_an_id : GetsLessWithout IdsAreLeft part.answer_without_an_id
@@ -170,6 +170,50 @@ known_only_after_the_step = (
   },
 )
 
+-- the gateway of the token is linked after the ask was made
+pub linked_after_the_asking : GetsLessOfLinked part.linked_after_the_asking
+unfolding opened
+linked_after_the_asking = (
+  (refl, refl),
+  record {
+    ask = record {
+      earlier = take 7 (turns_in part.linked_after_the_asking);
+      asking = first_turn (drop 7 (turns_in part.linked_after_the_asking));
+      between = take 2 (rest_of (drop 7 (turns_in part.linked_after_the_asking)));
+      ending = Some (first_turn (drop 2 (rest_of (drop 7 (turns_in part.linked_after_the_asking)))));
+      later = rest_of (drop 2 (rest_of (drop 7 (turns_in part.linked_after_the_asking))));
+      turns_are = cut_at_both 7 2 (turns_in part.linked_after_the_asking) refl refl;
+      face = 3;
+      id = 1;
+      interest = record { mode = Current; options = options 8; expr = Some 0 };
+      made = record {
+        accepted = refl;
+        plain = refl;
+        options = options 8;
+        at = (some_is (face_numbered (first_turn (drop 7 (turns_in part.linked_after_the_asking))).before 3) refl).0;
+        line = refl;
+        there = (some_is (face_numbered (first_turn (drop 7 (turns_in part.linked_after_the_asking))).before 3) refl).1;
+        kept = refl;
+        current = refl;
+        tokens = refl;
+      };
+      finished = (refl, refl);
+    };
+    premises = (refl, (refl, (refl, (refl, (refl, (trees_by (turns_in part.linked_after_the_asking) refl, tt))))));
+    expr = 0;
+    about = refl;
+    own = 2;
+    other = 3;
+    place = 4;
+    at_own = refl;
+    at_other = refl;
+    apart = λ tree. true≢false (same_tree_same_side (first_turn (drop 7 (turns_in part.linked_after_the_asking))).before (λ n. not (n == 3)) 2 3 refl tree);
+    joined = (Beyond 2 1 3 (Beyond 2 2 1 (Itself 2) refl) refl, tt);
+    stays = refl;
+    missed = refl;
+  },
+)
+
 -- a moment ends the ask at its timeout, before it has gone up the link
 pub moment_before_the_final : GetsLessWithout NoMoment part.moment_before_the_final
 unfolding opened
@@ -287,6 +331,46 @@ token_still_on_its_way = (
     premises = (λ h. never h refl, (refl, (refl, (refl, (refl, (trees_by (turns_in part.token_still_on_its_way) refl, tt))))));
     expr = 0;
     stays = record { about = refl; own = 1; other = 2; place = 3; at_own = refl; in_tree = Beyond 1 1 2 (Itself 1) refl; at_other = refl; stays = refl };
+    missed = refl;
+  },
+)
+
+-- the token moves from one face to another while the ask is on its way
+pub token_that_moves : GetsLessOfMoving part.token_that_moves
+unfolding opened
+token_that_moves = (
+  (refl, refl),
+  record {
+    ask = record {
+      earlier = take 7 (turns_in part.token_that_moves);
+      asking = first_turn (drop 7 (turns_in part.token_that_moves));
+      between = take 3 (rest_of (drop 7 (turns_in part.token_that_moves)));
+      ending = Some (first_turn (drop 3 (rest_of (drop 7 (turns_in part.token_that_moves)))));
+      later = rest_of (drop 3 (rest_of (drop 7 (turns_in part.token_that_moves))));
+      turns_are = cut_at_both 7 3 (turns_in part.token_that_moves) refl refl;
+      face = 4;
+      id = 1;
+      interest = record { mode = Current; options = options 8; expr = Some 0 };
+      made = record {
+        accepted = refl;
+        plain = refl;
+        options = options 8;
+        at = (some_is (face_numbered (first_turn (drop 7 (turns_in part.token_that_moves))).before 4) refl).0;
+        line = refl;
+        there = (some_is (face_numbered (first_turn (drop 7 (turns_in part.token_that_moves))).before 4) refl).1;
+        kept = refl;
+        current = refl;
+        tokens = refl;
+      };
+      finished = (refl, refl);
+    };
+    premises = (refl, (refl, (refl, (refl, (refl, (trees_by (turns_in part.token_that_moves) refl, tt))))));
+    expr = 0;
+    about = refl;
+    own = 2;
+    at_own = refl;
+    live = (record { face = 3; at_gateway = 1; place = refl; in_tree = Beyond 2 2 1 (Itself 2) refl; live = refl }, (record { face = 3; at_gateway = 1; place = refl; in_tree = Beyond 2 2 1 (Itself 2) refl; live = refl }, (record { face = 5; at_gateway = 2; place = refl; in_tree = Itself 2; live = refl }, (record { face = 5; at_gateway = 2; place = refl; in_tree = Itself 2; live = refl }, (record { face = 5; at_gateway = 2; place = refl; in_tree = Itself 2; live = refl }, tt)))));
+    moves = λ stays. none_stays nat_cmp (matching_in part.token_that_moves) 0 (first_turn (drop 7 (turns_in part.token_that_moves))) (take 4 (rest_of (drop 7 (turns_in part.token_that_moves)))) refl stays.place stays.stays;
     missed = refl;
   },
 )

@@ -11,12 +11,12 @@ use Rattle.zt_region.specs.declared.region.WhatAmI.TheVariants.{Client}
 use Rattle.zt_region.specs.Region.{is_north, whatami_eq}
 use Rattle.zt_protocol.specs.Interest.{is_current, has_tokens}
 use Rattle.zt_protocol.specs.Plain.{Moment}
-use Rattle.zt_model.specs.Fabric.{Fabric, Node, Place, empty_fabric}
+use Rattle.zt_model.specs.Fabric.{Fabric, Link, Node, Place, empty_fabric}
 use Rattle.zt_model.specs.Lists.{nth, rest_of}
 use Rattle.zt_model.specs.Promises.{EachGateway, Turn}
 use Rattle.zt_model.specs.Rows.{ById, Face, InterestRow, Rows}
 use Rattle.zt_model.specs.Transcript.{Each, face_numbered}
-use Rattle.zt_model.specs.TreePromises.{Here, IsMember, IsPlainlyLive, IsTreeFabric, KnowsItsTree, LeadsUpByLink, ServesClients, There, holds_both, is_client_region, is_plain, is_plain_number, is_plainly_live_at}
+use Rattle.zt_model.specs.TreePromises.{Beyond, Here, IsInTree, IsMember, IsPlainlyLive, Itself, IsTreeFabric, KnowsItsTree, LeadsUpByLink, ServesClients, There, holds_both, is_at_gateway, is_client_region, is_plain, is_plain_number, is_plainly_live_at}
 use Rattle.zt_model.specs.Visible.{keeps}
 use Rattle.zt_model.specs.Wants.{asks_token, covers, is_about}
 use Rattle.zt_promises_test.specs.Premises.{FacesKnow}
@@ -128,6 +128,22 @@ module _ {K : Type 0} (cmp : K → K → Ordering) (matching : K → K → Bool)
           let is : 0 + n ≡ n = omega arith in
           subst (λ k. is_plainly_live_at cmp matching s k e ≡ false) is (none_numbered (λ k. is_plainly_live_at cmp matching s k e) 0 n s.faces p none_ at_)
 
+  -- at no face in all of the turns
+  pub none_stays : (e : K) (t : Turn K) (ts : List (Turn K)) → list_any (λ n. list_all (λ u. is_plainly_live_at cmp matching u.after n e) (t ∷ ts)) (numbers_behind 0 t.after.faces) ≡ false
+      → (n : ℕ) → list_all (λ u. is_plainly_live_at cmp matching u.after n e) (t ∷ ts) ≡ true → ⊥
+  unfolding face_numbered
+  none_stays e t ts none_ n stays = by_place (nth n t.after.faces) refl
+    where
+      by_place : (o : Option Place) → nth n t.after.faces ≡ o → ⊥
+      by_place None at_ =
+          let first = (and_parts (is_plainly_live_at cmp matching t.after n e) (list_all (λ u. is_plainly_live_at cmp matching u.after n e) ts) stays).0 in
+          let no_ : is_plainly_live_at cmp matching t.after n e ≡ false = rw (at_, face_numbered) (and_no (is_plain_number t.after n)) in
+          true≢false (sym first ∙ no_)
+      by_place (Some p) at_ =
+          let is : 0 + n ≡ n = omega arith in
+          let no_ = subst (λ k. list_all (λ u. is_plainly_live_at cmp matching u.after k e) (t ∷ ts) ≡ false) is (none_numbered (λ k. list_all (λ u. is_plainly_live_at cmp matching u.after k e) (t ∷ ts)) 0 n t.after.faces p none_ at_) in
+          true≢false (sym stays ∙ no_)
+
   -- in none of the turns
   pub was_nowhere : (e : K) (ts : List (Turn K)) → list_all (λ t. not (is_live_somewhere e t.after)) ts ≡ true
       → ((t : Turn K) × (face : ℕ) × IsMember t ts × (is_plainly_live_at cmp matching t.after face e ≡ true)) → ⊥
@@ -139,6 +155,59 @@ module _ {K : Type 0} (cmp : K → K → Ordering) (matching : K → K → Bool)
       not_true : (b : Bool) → not b ≡ true → b ≡ false
       not_true true h = absurd (true≢false (sym h))
       not_true false h = refl
+
+-- ---- gateways that no links join, by a test
+
+-- Links join gateways inside a set alone, and gateways outside it.
+module _ {K : Type 0} (s : Fabric K) (inside : ℕ → Bool) where
+  abbrev pub is_place_inside : ℕ → Option Bool
+  is_place_inside face = elim (nth face s.faces) [ None ↦ None | Some p ↦ Some (inside p.gateway) ]
+
+  abbrev pub same_side : Option Bool → Option Bool → Bool
+  same_side None b = true
+  same_side (Some x) None = true
+  same_side (Some true) (Some y) = y
+  same_side (Some false) (Some y) = not y
+
+  abbrev pub crosses_nothing : Link → Bool
+  crosses_nothing link = not link.is_open || same_side (is_place_inside link.one) (is_place_inside link.two)
+
+  place_is : (face gateway : ℕ) → is_at_gateway s face gateway ≡ true → is_place_inside face ≡ Some (inside gateway)
+  place_is face gateway at_ = by_place (nth face s.faces) refl
+    where
+      by_place : (o : Option Place) → nth face s.faces ≡ o → is_place_inside face ≡ Some (inside gateway)
+      by_place None none_ = absurd (true≢false (sym (rw none_ at at_)))
+      by_place (Some p) there =
+          let equal : (gateway == p.gateway) ≡ true = rw there at at_ in
+          let is : gateway ≡ p.gateway = eqb-true gateway p.gateway equal in
+          rw (there, is_place_inside) (ap (λ n. Some (inside n)) (sym is))
+
+  sides : (x y : Bool) → same_side (Some x) (Some y) ≡ true → x ≡ y
+  sides true y e = sym e
+  sides false true e = e
+  sides false false e = refl
+
+  linked_sides : (a b : ℕ) (links : List Link) → list_all crosses_nothing links ≡ true
+      → list_any (λ link. link.is_open && ((is_at_gateway s link.one a && is_at_gateway s link.two b) || (is_at_gateway s link.one b && is_at_gateway s link.two a))) links ≡ true → inside a ≡ inside b
+  linked_sides a b [] all some = absurd (true≢false (sym some))
+  linked_sides a b (link ∷ links) all some =
+      let both = and_parts (crosses_nothing link) (list_all crosses_nothing links) all in
+      let one_way = is_at_gateway s link.one a && is_at_gateway s link.two b in
+      let other_way = is_at_gateway s link.one b && is_at_gateway s link.two a in
+      ⊎_elim
+      (λ here.
+      let parts = and_parts link.is_open (one_way || other_way) here in
+      let crossing : same_side (is_place_inside link.one) (is_place_inside link.two) ≡ true = rw parts.0 at both.0 in
+      let joins : (c d : ℕ) → (is_at_gateway s link.one c && is_at_gateway s link.two d) ≡ true → inside c ≡ inside d = λ c d ends.
+      let ends_ = and_parts (is_at_gateway s link.one c) (is_at_gateway s link.two d) ends in
+      sides (inside c) (inside d) (subst (λ y. same_side (Some (inside c)) y ≡ true) (place_is link.two d ends_.1) (subst (λ x. same_side x (is_place_inside link.two) ≡ true) (place_is link.one c ends_.0) crossing)) in
+      ⊎_elim (λ first. joins a b first) (λ second. sym (joins b a second)) (or_cases one_way other_way parts.1))
+      (λ there. linked_sides a b links both.1 there)
+      (or_cases (link.is_open && (one_way || other_way)) (list_any (λ link. link.is_open && ((is_at_gateway s link.one a && is_at_gateway s link.two b) || (is_at_gateway s link.one b && is_at_gateway s link.two a))) links) some)
+
+  pub same_tree_same_side : (a b : ℕ) → list_all crosses_nothing s.links ≡ true → IsInTree s a b → inside a ≡ inside b
+  same_tree_same_side a b none_ (Itself c) = refl
+  same_tree_same_side a b none_ (Beyond c d e walk linked) = same_tree_same_side c d none_ walk ∙ linked_sides d e s.links none_ linked
 
 -- ---- faces that know their trees, by a test
 

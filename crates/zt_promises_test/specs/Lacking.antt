@@ -145,6 +145,39 @@ known_only_after_the_step = record {
   totals = Some (record { lines = 7; messages = 2; refusals = 0 });
 }
 
+-- linked-after-the-asking: 0 is k
+abbrev pub linked_after_the_asking : Script
+linked_after_the_asking = record {
+  matches = [];
+  lines =
+      Gateway Router (zid 1) (South 0 Client ∷ []) None None 10000 []
+      ∷ Gateway Client (zid 2) [] None None 10000 []
+      ∷ Gateway Client (zid 3) [] None None 10000 []
+      ∷ LinkLine 2 1 1 1
+      ∷ Session 2 1
+      ∷ Session 3 1
+      ∷ Speak (DeclareToken 4 1 0 0 None)
+      ∷ Speak (Interest 3 1 Current (options 8) (Some 0))
+      ∷ Step 1 false
+      ∷ LinkLine 3 1 1 1
+      ∷ Step 1 true
+      ∷ [];
+  entries =
+      Ok []
+      ∷ Ok []
+      ∷ Ok []
+      ∷ Ok []
+      ∷ Ok []
+      ∷ Ok []
+      ∷ Ok []
+      ∷ Ok (sent 2 1 (message.Interest 1 Current (options 8) (Some 0)) ∷ [])
+      ∷ Ok (sent 1 2 (message.DeclareFinal 1) ∷ [])
+      ∷ Ok (sent 3 5 (message.DeclareToken 1 0 None 0) ∷ [])
+      ∷ Ok (sent 2 3 (message.DeclareFinal 1) ∷ [])
+      ∷ [];
+  totals = Some (record { lines = 11; messages = 4; refusals = 0 });
+}
+
 -- moment-before-the-final: 0 is k
 abbrev pub moment_before_the_final : Script
 moment_before_the_final = record {
@@ -241,6 +274,41 @@ token_still_on_its_way = record {
       ∷ Ok (sent 1 4 (message.DeclareFinal 1) ∷ [])
       ∷ [];
   totals = Some (record { lines = 7; messages = 2; refusals = 0 });
+}
+
+-- token-that-moves: 0 is k
+abbrev pub token_that_moves : Script
+token_that_moves = record {
+  matches = [];
+  lines =
+      Gateway Router (zid 1) (South 0 Client ∷ []) None None 10000 []
+      ∷ Gateway Client (zid 2) [] None None 10000 []
+      ∷ LinkLine 2 1 1 1
+      ∷ Session 1 1
+      ∷ Session 2 1
+      ∷ Session 2 1
+      ∷ Speak (DeclareToken 3 1 0 0 None)
+      ∷ Speak (Interest 4 1 Current (options 8) (Some 0))
+      ∷ Speak (DeclareToken 5 1 0 0 None)
+      ∷ Speak (UndeclareToken 3 1 None 0)
+      ∷ Step 1 false
+      ∷ Step 1 true
+      ∷ [];
+  entries =
+      Ok []
+      ∷ Ok []
+      ∷ Ok []
+      ∷ Ok []
+      ∷ Ok []
+      ∷ Ok []
+      ∷ Ok []
+      ∷ Ok (sent 2 1 (message.Interest 1 Current (options 8) (Some 0)) ∷ [])
+      ∷ Ok (sent 2 1 (message.DeclareToken 2 0 None 0) ∷ [])
+      ∷ Ok []
+      ∷ Ok (sent 1 2 (message.DeclareFinal 1) ∷ [])
+      ∷ Ok (sent 2 4 (message.DeclareFinal 1) ∷ [])
+      ∷ [];
+  totals = Some (record { lines = 12; messages = 4; refusals = 0 });
 }
 
 -- token-without-an-id: 0 is k

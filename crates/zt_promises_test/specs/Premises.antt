@@ -15,7 +15,7 @@ use Rattle.zt_model.specs.Lists.{is_among, nth}
 use Rattle.zt_model.specs.Promises.{EachFace, Turn, is_accepted, turns_from}
 use Rattle.zt_model.specs.Rows.{InterestRow}
 use Rattle.zt_model.specs.Transcript.{Each}
-use Rattle.zt_model.specs.TreePromises.{IsFinishedBy, IsInTree, IsMember, IsTreeFabric, KeepTreePromises, KnowsItsTree, MakesAsk, answers_of_turn, are_links_empty, holds_both, is_at_gateway, is_ids_spent, is_plain, is_plainly_live_at}
+use Rattle.zt_model.specs.TreePromises.{IsFinishedBy, IsInTree, IsMember, IsPlainlyLive, IsTreeFabric, KeepTreePromises, KnowsItsTree, MakesAsk, answers_of_turn, are_links_empty, holds_both, is_at_gateway, is_ids_spent, is_plain, is_plainly_live_at}
 use Rattle.zt_model.specs.Wants.{is_about}
 use Rattle.zt_model_test.specs.Script.{ComesOut, Script, matching_in}
 
@@ -136,6 +136,35 @@ module _ {K : Type 0} (cmp : K → K → Ordering) (matching : K → K → Bool)
     pub answered : is_answered ask expr ≡ true
     pub nowhere : WasSomewhere ask expr → ⊥
 
+  -- With all of them it isn't answered what doesn't stay at one face: each turn leaves it live in the asking gateway's
+  -- tree ..
+  pub record MissesWhatMoves (turns : List (Turn K)) : Type 0 where
+    pub ask : AskIn turns
+    pub premises : Each (Holds ask) premises_of_asks
+    pub expr : K
+    pub about : is_about matching ask.interest.expr expr ≡ true
+    pub own : ℕ
+    pub at_own : is_at_gateway ask.asking.before ask.face own ≡ true
+    pub live : Each (λ t. IsPlainlyLive cmp matching t.after own expr) (turns_to_final ask)
+    pub moves : StaysInTree ask expr → ⊥
+    pub missed : is_answered ask expr ≡ false
+
+  -- .. or what stays at a face whose gateway wasn't in that tree when it asked: it is when the final comes.
+  pub record MissesWhatIsLinked (turns : List (Turn K)) : Type 0 where
+    pub ask : AskIn turns
+    pub premises : Each (Holds ask) premises_of_asks
+    pub expr : K
+    pub about : is_about matching ask.interest.expr expr ≡ true
+    pub own : ℕ
+    pub other : ℕ
+    pub place : ℕ
+    pub at_own : is_at_gateway ask.asking.before ask.face own ≡ true
+    pub at_other : is_at_gateway ask.asking.before place other ≡ true
+    pub apart : IsInTree ask.asking.before own other → ⊥
+    pub joined : Each (λ t. IsInTree t.after own other) (option_to_list ask.ending)
+    pub stays : list_all (λ t. is_plainly_live_at cmp matching t.after place expr) (turns_to_final ask) ≡ true
+    pub missed : is_answered ask expr ≡ false
+
   -- With all of them it is answered this one expression, which stays, and no other.
   pub record GetsOne (expr : K) (turns : List (Turn K)) : Type 0 where
     pub ask : AskIn turns
@@ -195,6 +224,13 @@ turns_in s = turns_from nat_cmp (matching_in s) s.lines s.entries empty_fabric
 -- what asks get of what stays wants the premise: the script shows it
 abbrev pub GetsLessWithout : Premise → Script → Type 0
 GetsLessWithout left_out s = ComesOut s × MissesWhatStays nat_cmp (matching_in s) left_out (turns_in s)
+
+-- it wants that the expression stays at one face, and that it is in the tree when the ask is made
+abbrev pub GetsLessOfMoving : Script → Type 0
+GetsLessOfMoving s = ComesOut s × MissesWhatMoves nat_cmp (matching_in s) (turns_in s)
+
+abbrev pub GetsLessOfLinked : Script → Type 0
+GetsLessOfLinked s = ComesOut s × MissesWhatIsLinked nat_cmp (matching_in s) (turns_in s)
 
 -- that asks get only what was wants it
 abbrev pub GetsMoreWithout : Premise → Script → Type 0

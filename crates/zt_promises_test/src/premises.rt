@@ -8,7 +8,7 @@
 ghost use Rattle.std.specs.Prelude.{ℕ, Bool, [], ◌∷◌};
 ghost use Rattle.std.specs.declared.cmp.Ordering.{Ordering};
 ghost use Rattle.zt_promises_test.specs.Lacking as part;
-ghost use Rattle.zt_promises_test.specs.Premises.{NothingWaits, NoMoment, NoUnlinking, InterestStands, IdsAreLeft, IsOfTrees, GetsLessWithout, GetsMoreWithout, KnowsLessWithout, GetsAlone, KnowsAfter, SufficeForWhatStays, SufficeForWhatWas, SufficeForKnowledge};
+ghost use Rattle.zt_promises_test.specs.Premises.{NothingWaits, NoMoment, NoUnlinking, InterestStands, IdsAreLeft, IsOfTrees, GetsLessWithout, GetsMoreWithout, KnowsLessWithout, GetsLessOfMoving, GetsLessOfLinked, GetsAlone, KnowsAfter, SufficeForWhatStays, SufficeForWhatWas, SufficeForKnowledge};
 
 /// The premises are those of the promises: a transcript that keeps the promises over trees says where all of them hold what
 /// they say.
@@ -25,13 +25,15 @@ pub fn promises_are_kept()
     ensures tree_echo { KnowsAfter (14 ∷ 18 ∷ 21 ∷ 23 ∷ 28 ∷ []) part.tree_echo }
 {}
 
-/// Without the premise an ask isn't answered what stays.
+/// Without the premise an ask isn't answered what stays; nor, with all of them, what moves or is linked later.
 pub fn asks_get_less()
     ensures answer_without_an_id { GetsLessWithout IdsAreLeft part.answer_without_an_id }
     ensures ended_before_the_final { GetsLessWithout InterestStands part.ended_before_the_final }
+    ensures linked_after_the_asking { GetsLessOfLinked part.linked_after_the_asking }
     ensures moment_before_the_final { GetsLessWithout NoMoment part.moment_before_the_final }
     ensures pair_refused { GetsLessWithout IsOfTrees part.pair_refused }
     ensures token_still_on_its_way { GetsLessWithout NothingWaits part.token_still_on_its_way }
+    ensures token_that_moves { GetsLessOfMoving part.token_that_moves }
     ensures unlinked_before_the_final { GetsLessWithout NoUnlinking part.unlinked_before_the_final }
 {}
 
