@@ -8,7 +8,8 @@ NAME.in is a script and NAME.out its transcript, which is the machine's own. NAM
 promise over trees it breaks, which premise alone it lacks, and where, and in its second what is seen. The first line is one
 of these; KEY is the expression, FACE a plain face that has it live all the while, WAY the gateways from that which asks,
 or knows, to that of this face:
-    gets PREMISE ASKING FINAL KEY FACE WAY             the ask made in line ASKING, with its final in line FINAL, isn't answered it
+    gets PREMISE ASKING FINAL KEY FACE WAY             the ask made in line ASKING, with its final in line FINAL,
+                                                       isn't answered it
     only PREMISE ASKING FINAL KEY                      the ask is answered it
     moves ASKING FINAL KEY OWN FACE/WAY ..             the ask, of gateway OWN, isn't answered what after each of its turns another
                                                        face has live
@@ -287,10 +288,11 @@ def write_part(lacking):
     laws = '\n'.join(LAW.substitute(says=l.says, name=l.name, statement=l.statement(), proof=l.proof().replace('\n', '\n  ')) for l in lacking)
     write('proofs/Lacking.antt', LAWS.substitute(made=MADE, names=used(NAMES, laws), laws=laws))
 
-MODULE = Template("""//! What the promises over trees stand on: `premises_suffice` says that the premises are those of the promises. Each other
-//! law is named for its script, and says that the definitions give the script its transcript, and of this what it names:
-//! that a promise is broken and one premise alone fails, or that the promises are kept. The scripts that lack a premise are
-//! those of `tests/premises`, the others stand in `tests/definitions`.
+MODULE = Template("""//! What the promises over trees stand on: `premises_suffice` says that the premises are those of
+//! the promises. Each other law is named for its script, and says that the definitions give the
+//! script its transcript, and of this what it names: that a promise is broken and one premise alone
+//! fails, or that the promises are kept. The scripts that lack a premise are those of
+//! `tests/premises`, the two others stand in `tests/definitions`.
 //!
 //! $made
 
@@ -299,16 +301,16 @@ ghost use Rattle.std.specs.declared.cmp.Ordering.{Ordering};
 ghost use Rattle.zt_promises_test.specs.Lacking as part;
 ghost use Rattle.zt_promises_test.specs.Premises.{$names};
 
-/// The premises are those of the promises: a transcript that keeps the promises over trees says where all of them hold what
-/// they say.
+/// The premises are those of the promises: of a transcript that keeps the promises over trees, what
+/// they say holds wherever all of the premises do.
 pub fn premises_suffice()
     ensures what_stays { (cmp : ℕ → ℕ → Ordering) (matching : ℕ → ℕ → Bool) → SufficeForWhatStays cmp matching }
     ensures what_was { (cmp : ℕ → ℕ → Ordering) (matching : ℕ → ℕ → Bool) → SufficeForWhatWas cmp matching }
     ensures knowledge { (cmp : ℕ → ℕ → Ordering) (matching : ℕ → ℕ → Bool) → SufficeForKnowledge cmp matching }
 {}
 
-/// Two scripts that lack no premise keep the promises: an ask gets the one token that stays, and faces know their trees
-/// after each turn of these numbers.
+/// Two scripts that lack no premise keep the promises: an ask gets the one token that stays, and
+/// faces know their trees after each turn of these numbers.
 pub fn promises_are_kept()
     ensures asks_in_a_tree { GetsAlone 0 part.asks_in_a_tree }
     ensures tree_echo { KnowsAfter (14 ∷ 18 ∷ 21 ∷ 23 ∷ 28 ∷ []) part.tree_echo }
@@ -322,7 +324,7 @@ $clauses{}
 """)
 
 FUNCTIONS = [
-    ('gets', 'Without the premise an ask isn\'t answered what stays; nor, with all of them, what moves or is linked later.'),
+    ('gets', 'Without the premise an ask isn\'t answered what stays; nor, with all premises, what moves or is\n/// linked later.'),
     ('only', 'Without the premise an ask is answered what was nowhere.'),
     ('knows', 'Without the premise a face doesn\'t know its tree after the turn of this number.'),
 ]

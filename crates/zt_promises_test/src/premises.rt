@@ -1,7 +1,8 @@
-//! What the promises over trees stand on: `premises_suffice` says that the premises are those of the promises. Each other
-//! law is named for its script, and says that the definitions give the script its transcript, and of this what it names:
-//! that a promise is broken and one premise alone fails, or that the promises are kept. The scripts that lack a premise are
-//! those of `tests/premises`, the others stand in `tests/definitions`.
+//! What the promises over trees stand on: `premises_suffice` says that the premises are those of
+//! the promises. Each other law is named for its script, and says that the definitions give the
+//! script its transcript, and of this what it names: that a promise is broken and one premise alone
+//! fails, or that the promises are kept. The scripts that lack a premise are those of
+//! `tests/premises`, the two others stand in `tests/definitions`.
 //!
 //! Written by tools/premises_to_antt.py; change the scripts or the tool, and not this file.
 
@@ -10,22 +11,23 @@ ghost use Rattle.std.specs.declared.cmp.Ordering.{Ordering};
 ghost use Rattle.zt_promises_test.specs.Lacking as part;
 ghost use Rattle.zt_promises_test.specs.Premises.{NothingWaits, NoMoment, NoUnlinking, InterestStands, IdsAreLeft, IsOfTrees, GetsLessWithout, GetsMoreWithout, KnowsLessWithout, GetsLessOfMoving, GetsLessOfLinked, GetsAlone, KnowsAfter, SufficeForWhatStays, SufficeForWhatWas, SufficeForKnowledge};
 
-/// The premises are those of the promises: a transcript that keeps the promises over trees says where all of them hold what
-/// they say.
+/// The premises are those of the promises: of a transcript that keeps the promises over trees, what
+/// they say holds wherever all of the premises do.
 pub fn premises_suffice()
     ensures what_stays { (cmp : ℕ → ℕ → Ordering) (matching : ℕ → ℕ → Bool) → SufficeForWhatStays cmp matching }
     ensures what_was { (cmp : ℕ → ℕ → Ordering) (matching : ℕ → ℕ → Bool) → SufficeForWhatWas cmp matching }
     ensures knowledge { (cmp : ℕ → ℕ → Ordering) (matching : ℕ → ℕ → Bool) → SufficeForKnowledge cmp matching }
 {}
 
-/// Two scripts that lack no premise keep the promises: an ask gets the one token that stays, and faces know their trees
-/// after each turn of these numbers.
+/// Two scripts that lack no premise keep the promises: an ask gets the one token that stays, and
+/// faces know their trees after each turn of these numbers.
 pub fn promises_are_kept()
     ensures asks_in_a_tree { GetsAlone 0 part.asks_in_a_tree }
     ensures tree_echo { KnowsAfter (14 ∷ 18 ∷ 21 ∷ 23 ∷ 28 ∷ []) part.tree_echo }
 {}
 
-/// Without the premise an ask isn't answered what stays; nor, with all of them, what moves or is linked later.
+/// Without the premise an ask isn't answered what stays; nor, with all premises, what moves or is
+/// linked later.
 pub fn asks_get_less()
     ensures answer_without_an_id { GetsLessWithout IdsAreLeft part.answer_without_an_id }
     ensures ended_before_the_final { GetsLessWithout InterestStands part.ended_before_the_final }
