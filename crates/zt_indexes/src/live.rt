@@ -1,5 +1,5 @@
 // How many live rows of each expression stand in each region.
-ghost use Rattle.std.specs.Prelude.{◌≡◌, ◌∷◌, ◌++◌, [], false, if◌then◌else◌, true, IfOk, OnErr, OnOk};
+ghost use Rattle.std.specs.Prelude.{◌≡◌, ◌&&◌, ◌∷◌, ◌++◌, [], false, filter, if◌then◌else◌, true, IfOk, OnErr, OnOk};
 ghost use Rattle.std.specs.List.Sorted.{IsStrictlySortedBy};
 ghost use Rattle.std.specs.Map.{keys_of};
 ghost use Rattle.zt_indexes.specs.Counted.{is_shown_in};
@@ -97,6 +97,25 @@ fn push_shown<K: Key, T: RegionTest>(
     Ok(())
 }
 
+// Adds the expression where it matches the key and some of its rows stand in a region that passes. The only error is want of
+// memory.
+fn push_matching<K: Key, T: RegionTest>(
+    alloc: Global,
+    expr: &K,
+    counts: &RegionCounts,
+    test: &T,
+    key: &K,
+    exprs: &mut Vec<K>,
+) -> Result<(), Memory>
+    ensures { OnOk result (exprs.new.items ≡ exprs.old.items
+        ++ (if K.matching key.now expr.now && is_shown_in (T.passes test.now) counts.now then expr.now ∷ [] else [])) }
+{
+    if key.matches(expr) && counts.is_shown(test) {
+        exprs.push(expr.copy(alloc)?)?;
+    }
+    Ok(())
+}
+
 impl<K: Key> LiveCounts<K> {
     /// No row at all. It takes no memory.
     pub fn new(alloc: Global) -> Self
@@ -157,6 +176,25 @@ impl<K: Key> LiveCounts<K> {
         let mut exprs = Vec::new(alloc);
         for (expr, counts) in &self.keys {
             push_shown(alloc, expr, counts, test, &mut exprs)?;
+        }
+        Ok(exprs)
+    }
+
+    /// The expressions that match the key, of rows in regions that pass, in key order, each once. The only error is want of
+    /// memory.
+    pub fn matching_keys<T: RegionTest>(
+        &self,
+        alloc: Global,
+        test: &T,
+        key: &K,
+    ) -> Result<Vec<K>, Memory>
+        ensures matching { IfOk result (λ exprs. exprs.items
+            ≡ filter (K.matching key.now) (shown_keys (T.passes test.now) self.now)) }
+        ensures in_order { IsStrictlySortedBy K.cmp (keys_of self.now) }
+    {
+        let mut exprs = Vec::new(alloc);
+        for (expr, counts) in &self.keys {
+            push_matching(alloc, expr, counts, test, key, &mut exprs)?;
         }
         Ok(exprs)
     }
