@@ -2,8 +2,10 @@
 //! containers know keys and regions, and no gateway.
 #![tactic(auto)]
 
+mod groups;
 mod live;
 mod regions;
+mod search;
 
 pub use live::{LiveCounts, RegionTest};
 pub use regions::RegionCounts;
