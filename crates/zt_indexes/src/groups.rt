@@ -111,7 +111,8 @@ fn put_in<K: Key>(
     number: Option<u64>,
     key: K,
 ) -> Result<(), Memory>
-    ensures ok { OnOk result (HasChanged K.cmp number key true groups.old.entries groups.new.entries) }
+    ensures ok { OnOk result
+        (HasChanged K.cmp number key true groups.old.entries groups.new.entries) }
     ensures err { OnErr result (groups.new.entries ≡ groups.old.entries) }
 {
     match groups.get_mut(&number) {
@@ -176,7 +177,8 @@ impl<K: Key> KeyGroups<K> {
 
     /// A copy of a key stands at its number. The only error is want of memory, and then all stays.
     pub fn put(&mut self, alloc: Global, at: Anchor, key: &K) -> Result<(), Memory>
-        ensures ok { OnOk result (HasChanged K.cmp (K.anchored at key.now) key.now true self.old self.new) }
+        ensures ok { OnOk result
+            (HasChanged K.cmp (K.anchored at key.now) key.now true self.old self.new) }
         ensures err { OnErr result (self.new ≡ self.old) }
     {
         let copy = key.copy(alloc)?;

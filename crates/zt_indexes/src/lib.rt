@@ -1,5 +1,5 @@
-//! Look-ups in place of going over all rows: how many live rows of an expression stand in each region. The
-//! containers know keys and regions, and no gateway.
+//! Look-ups in place of going over all rows: how many live rows of an expression stand in each
+//! region. The containers know keys and regions, and no gateway.
 #![tactic(auto)]
 
 mod groups;

@@ -31,10 +31,10 @@ pub trait RegionTest {
 }
 
 /// How many live rows of each expression stand in each region: an index beside rows that are kept
-/// elsewhere, one row more or less at a time. Contracts see the expressions in key order, each with its
-/// counts by region; the definitions say when these are what the rows give from scratch, and that each
-/// call keeps it. The expressions are found by their numbers at the anchors too, so that those that
-/// match a key are looked for among few.
+/// elsewhere, one row more or less at a time. Contracts see the expressions in key order, each with
+/// its counts by region; the definitions say when these are what the rows give from scratch, and
+/// that each call keeps it. The expressions are found by their numbers at the anchors too, so that
+/// those that match a key are looked for among few.
 #[derive(Drop)]
 pub struct LiveCounts<K: Key> {
     keys: BTreeMap<K, RegionCounts>,
@@ -54,8 +54,8 @@ impl<K: Key> Model for LiveCounts<K> {
     ghost invariant = { λ a. AreGrouped K.cmp K.anchored a.firsts a.lasts a.keys.entries };
 }
 
-// One row more of an expression, where it has rows. Whether it has. The only error is want of numbers,
-// and then the counts stay.
+// One row more of an expression, where it has rows. Whether it has. The only error is want of
+// numbers, and then the counts stay.
 fn add_to<K: Key>(
     keys: &mut BTreeMap<K, RegionCounts>,
     region: Region,
@@ -100,7 +100,8 @@ fn put_copy<K: Key>(
     expr: &K,
     counts: &RegionCounts,
 ) -> Result<(), Memory>
-    ensures with { OnOk result (IsWith K.cmp expr.now counts.now keys.old.entries keys.new.entries) }
+    ensures with { OnOk result
+        (IsWith K.cmp expr.now counts.now keys.old.entries keys.new.entries) }
     ensures in_order { OnOk result (IsStrictlySortedBy K.cmp (keys_of keys.new.entries)) }
 {
     let copy = counts.copy(alloc)?;
@@ -124,7 +125,8 @@ fn put_first<K: Key>(
     put_counts(alloc, keys, expr, counts)
 }
 
-// The expression stands at its numbers. The only error is want of memory, and then it may stand at one.
+// The expression stands at its numbers. The only error is want of memory, and then it may stand at
+// one.
 fn put_at_anchors<K: Key>(
     alloc: Global,
     firsts: &mut KeyGroups<K>,
@@ -133,15 +135,18 @@ fn put_at_anchors<K: Key>(
 ) -> Result<(), Memory>
     ensures first { Grows K.cmp firsts.old firsts.new }
     ensures last { Grows K.cmp lasts.old lasts.new }
-    ensures at_first { OnOk result (is_grouped K.cmp (K.anchored First expr.now) expr.now firsts.new ≡ true) }
-    ensures at_last { OnOk result (is_grouped K.cmp (K.anchored Last expr.now) expr.now lasts.new ≡ true) }
+    ensures at_first { OnOk result
+        (is_grouped K.cmp (K.anchored First expr.now) expr.now firsts.new ≡ true) }
+    ensures at_last { OnOk result
+        (is_grouped K.cmp (K.anchored Last expr.now) expr.now lasts.new ≡ true) }
 {
     firsts.put(alloc, Anchor::First, expr)?;
     lasts.put(alloc, Anchor::Last, expr)?;
     Ok(())
 }
 
-// One row less of the expression in the region, if there is one. Whether its counts are gone with it.
+// One row less of the expression in the region, if there is one. Whether its counts are gone with
+// it.
 fn lessen<K: Key>(keys: &mut BTreeMap<K, RegionCounts>, region: Region, expr: &K) -> bool
     ensures less { HasOneLess K.cmp region expr.now keys.old.entries keys.new.entries }
     ensures last { result ≡ true →
@@ -165,7 +170,8 @@ fn drop_key<K: Key>(keys: &mut BTreeMap<K, RegionCounts>, expr: &K)
     drop(keys.remove(expr));
 }
 
-// Adds the expression where some of its rows stand in a region that passes. The only error is want of memory.
+// Adds the expression where some of its rows stand in a region that passes. The only error is want
+// of memory.
 fn push_shown<K: Key, T: RegionTest>(
     alloc: Global,
     expr: &K,
@@ -194,8 +200,8 @@ impl<K: Key> LiveCounts<K> {
         }
     }
 
-    /// One row more of the expression in the region. The only error is want of memory, or of numbers, and
-    /// then the counts stay.
+    /// One row more of the expression in the region. The only error is want of memory, or of
+    /// numbers, and then the counts stay.
     pub fn add(&mut self, alloc: Global, region: Region, expr: &K) -> Result<(), Memory>
         ensures ok { OnOk result (HasOneMore K.cmp region expr.now self.old self.new) }
         ensures err { OnErr result (self.new ≡ self.old) }
@@ -208,8 +214,8 @@ impl<K: Key> LiveCounts<K> {
         Ok(())
     }
 
-    /// One row less of the expression in the region, if there is one. With its last row an expression
-    /// goes.
+    /// One row less of the expression in the region, if there is one. With its last row an
+    /// expression goes.
     pub fn remove(&mut self, region: Region, expr: &K)
         ensures less { HasOneLess K.cmp region expr.now self.old self.new }
         ensures tidy { HasRowsOrNoKey K.cmp expr.now self.new }
@@ -228,10 +234,11 @@ impl<K: Key> LiveCounts<K> {
         is_shown_at(&self.keys, expr, test)
     }
 
-    /// The expressions of rows in regions that pass, in key order, each once. The only error is want of
-    /// memory.
+    /// The expressions of rows in regions that pass, in key order, each once. The only error is
+    /// want of memory.
     pub fn shown_keys<T: RegionTest>(&self, alloc: Global, test: &T) -> Result<Vec<K>, Memory>
-        ensures shown { IfOk result (λ exprs. exprs.items ≡ shown_keys (T.passes test.now) self.now) }
+        ensures shown { IfOk result (λ exprs. exprs.items
+            ≡ shown_keys (T.passes test.now) self.now) }
         ensures in_order { IsStrictlySortedBy K.cmp (keys_of self.now) }
     {
         let mut exprs = Vec::new(alloc);
@@ -241,9 +248,9 @@ impl<K: Key> LiveCounts<K> {
         Ok(exprs)
     }
 
-    /// The expressions that match the key, of rows in regions that pass, in key order, each once. Those
-    /// alone are tried that may match by their numbers, unless these are many. The only error is want of
-    /// memory.
+    /// The expressions that match the key, of rows in regions that pass, in key order, each once.
+    /// Those alone are tried that may match by their numbers, unless these are many. The only error
+    /// is want of memory.
     pub fn matching_keys<T: RegionTest>(
         &self,
         alloc: Global,

@@ -29,8 +29,8 @@ pub fn is_shown_at<K: Key, T: RegionTest>(
     }
 }
 
-// Adds the expression where it matches the key and some of its rows stand in a region that passes. The
-// only error is want of memory.
+// Adds the expression where it matches the key and some of its rows stand in a region that passes.
+// The only error is want of memory.
 fn push_matching<K: Key, T: RegionTest>(
     alloc: Global,
     expr: &K,
@@ -40,7 +40,8 @@ fn push_matching<K: Key, T: RegionTest>(
     exprs: &mut Vec<K>,
 ) -> Result<(), Memory>
     ensures { OnOk result (exprs.new.items ≡ exprs.old.items
-        ++ (if K.matching key.now expr.now && is_shown_in (T.passes test.now) counts.now then expr.now ∷ [] else [])) }
+        ++ (if K.matching key.now expr.now && is_shown_in (T.passes test.now) counts.now
+        then expr.now ∷ [] else [])) }
 {
     if key.matches(expr) && counts.is_shown(test) {
         exprs.push(expr.copy(alloc)?)?;
@@ -48,8 +49,8 @@ fn push_matching<K: Key, T: RegionTest>(
     Ok(())
 }
 
-/// The expressions that match the key, of rows in regions that pass, in key order: each is tried. The
-/// only error is want of memory.
+/// The expressions that match the key, of rows in regions that pass, in key order: each is tried.
+/// The only error is want of memory.
 pub fn try_all<K: Key, T: RegionTest>(
     alloc: Global,
     keys: &BTreeMap<K, RegionCounts>,
@@ -66,7 +67,8 @@ pub fn try_all<K: Key, T: RegionTest>(
     Ok(exprs)
 }
 
-// Puts a copy of the expression among those found, where it is sought. The only error is want of memory.
+// Puts a copy of the expression among those found, where it is sought. The only error is want of
+// memory.
 fn add_sought<K: Key, T: RegionTest>(
     alloc: Global,
     found: &mut BTreeSet<K>,
@@ -142,8 +144,8 @@ fn gather_in<K: Key, T: RegionTest>(
     gather_more(alloc, found, more, keys, test, key)
 }
 
-// Puts those among those found that are sought and stand at a number, or at none. The only error is want
-// of memory.
+// Puts those among those found that are sought and stand at a number, or at none. The only error is
+// want of memory.
 fn gather_at<K: Key, T: RegionTest>(
     alloc: Global,
     found: &mut BTreeSet<K>,
@@ -194,8 +196,8 @@ fn listed<K: Key>(alloc: Global, found: BTreeSet<K>) -> Result<Vec<K>, Memory>
     Ok(exprs)
 }
 
-/// The expressions that match the key, of rows in regions that pass, and stand at the number or at none,
-/// in key order. The only error is want of memory.
+/// The expressions that match the key, of rows in regions that pass, and stand at the number or at
+/// none, in key order. The only error is want of memory.
 pub fn try_at<K: Key, T: RegionTest>(
     alloc: Global,
     groups: &KeyGroups<K>,
