@@ -12,7 +12,7 @@ use Rattle.zt_keys.specs.Test.{by_test}
 use Rattle.zt_region.specs.declared.region.Region.{Region}
 use Rattle.zt_indexes.specs.Counted.{is_shown_in}
 use Rattle.zt_indexes.specs.Grouped.{Covers, equal-from, is_grouped, is_in}
-use Rattle.zt_indexes.specs.Live.{counts_at, shown_keys}
+use Rattle.zt_indexes.specs.Live.{shown_keys}
 use Rattle.zt_indexes.specs.Shown.{among-shown, shown-sorted}
 use Rattle.zt_indexes.specs.Sought.{AreFound, is_found, is_sought}
 

@@ -1,4 +1,3 @@
-use Rattle.std.proofs.Common.{false}
 use Rattle.zt_indexes.proofs.Changed.{changed-released}
 use Rattle.zt_indexes.proofs.groups.KeyGroups.remove.Goals as goal
 

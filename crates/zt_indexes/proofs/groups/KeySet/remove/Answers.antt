@@ -1,4 +1,3 @@
-use Rattle.std.proofs.Common.{sym, ◌∙◌}
 use Rattle.zt_indexes.proofs.Sets.{drop-both}
 use Rattle.zt_indexes.proofs.groups.KeySet.remove.Goals as goal
 
