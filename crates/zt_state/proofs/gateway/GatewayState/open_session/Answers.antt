@@ -7,4 +7,4 @@ pub invariant_of-self-2 : goal.invariant_of-self-2
 invariant_of-self-2 g c =
     let s = c.self.inside in
     rw c.in_ok-push.ensures.ok
-    (indexed-opened g.K.Ord.cmp s.zid s.made s.routed.items s.faces s.live c.self.invariant c.new-session.result (ap (λ (x : Face g.row.K.Denot). x.number) c.new-session.ensures) (ap (λ (x : Face g.row.K.Denot). x.live) c.new-session.ensures))
+    (indexed-opened g.K.Ord.cmp g.K.Key.anchored s.zid s.made s.routed.items s.faces s.live s.seekers c.self.invariant c.new-session.result (ap (λ (x : Face g.row.K.Denot). x.number) c.new-session.ensures) (ap (λ (x : Face g.row.K.Denot). x.live) c.new-session.ensures))
