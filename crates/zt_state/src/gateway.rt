@@ -8,6 +8,7 @@ ghost use Rattle.zt_model.specs.Wants.{seeks};
 ghost use Rattle.zt_indexes.specs.Rows.{AreCountsOf};
 ghost use Rattle.zt_region.specs.Region.{is_north};
 ghost use Rattle.zt_protocol.specs.Plain.{trees_of};
+ghost use Rattle.zt_state.specs.Rising.{IsRising};
 
 use crate::by_number::Faces;
 use std::alloc::Global;
@@ -271,7 +272,8 @@ impl<K: Key> GatewayState<K> {
 
     /// The numbers of the faces to the north, in order.
     pub fn north(&self) -> &[u32]
-        ensures { result.now ≡ map (λ f. f.number) (filter (λ f. is_north f.region) self.now.faces) }
+        ensures rising { IsRising (λ f. f.number) self.now.faces }
+        ensures north { result.now ≡ map (λ f. f.number) (filter (λ f. is_north f.region) self.now.faces) }
     {
         self.seekers.north()
     }
@@ -280,7 +282,8 @@ impl<K: Key> GatewayState<K> {
     /// those that hold an interest in its tokens. A look-up. `None` where the expression can't be looked
     /// up, as a key expression with wild ends. The only error is want of memory.
     pub fn find_seekers(&self, alloc: Global, expr: &K) -> Result<Option<Vec<u32>>, Memory>
-        ensures { IfOk result (λ found. IfSome found (λ numbers. numbers.items
+        ensures rising { IsRising (λ f. f.number) self.now.faces }
+        ensures found { IfOk result (λ found. IfSome found (λ numbers. numbers.items
             ≡ map (λ f. f.number) (filter (λ f. seeks K.matching f expr.now) self.now.faces))) }
     {
         self.seekers.find(alloc, expr)
