@@ -132,12 +132,7 @@ fn gather_all<K: Key>(
         Bucket::At(Anchor::Whole, numbers.whole),
         expr,
     )?;
-    gather_from(
-        found,
-        buckets,
-        Bucket::At(Anchor::Last, numbers.last),
-        expr,
-    )?;
+    gather_from(found, buckets, Bucket::At(Anchor::Last, numbers.last), expr)?;
     gather_from(
         found,
         buckets,

@@ -79,12 +79,7 @@ fn ask_in<K: Key>(
 }
 
 // The face of the number holds an interest no more.
-fn unhold_in<K: Key>(
-    faces: &mut Faces<K>,
-    seekers: &mut Seekers<K>,
-    face: u32,
-    id: InterestId,
-)
+fn unhold_in<K: Key>(faces: &mut Faces<K>, seekers: &mut Seekers<K>, face: u32, id: InterestId)
     requires { AreSeekers K.anchored seekers.old faces.old }
     ensures faces { faces.new ≡ map (λ f. if face == f.number then unheld id f else f) faces.old }
     ensures seekers { AreSeekers K.anchored seekers.new faces.new }
