@@ -1,5 +1,5 @@
 -- Faces to the south are given nothing that goes north.
-use Rattle.std.proofs.Common.{◌≡◌, ◌<◌, ◌≤◌, ◌+◌, ℕ, ◌==◌, drop, get_or, length, Bool, true, false, ◌&&◌, not, if◌then◌else◌, List, [], ◌∷◌, ◌++◌, Option, Some, None, ap, filter, flat_map, map, refl, sym, ◌∙◌}
+use Rattle.std.proofs.Common.{◌≡◌, ◌<◌, ◌≤◌, ◌+◌, ℕ, ◌==◌, drop, get_or, length, Bool, true, false, ◌&&◌, not, List, [], ◌∷◌, Option, Some, None, ap, filter, flat_map, map, refl, ◌∙◌}
 use Rattle.std.specs.List.{AllByRecursion, list_any}
 use Rattle.std.specs.declared.cmp.Ordering.{Ordering}
 use Rattle.zt_keys.specs.Test.{by_test}
@@ -11,7 +11,7 @@ use Rattle.zt_protocol.specs.declared.messages.Message.TheVariants as message
 use Rattle.std.proofs.lemmas.List.{drop_all, drop_more}
 use Rattle.zt_model.specs.Lists.{first_where, is_some_and}
 use Rattle.zt_model.specs.Parts.{find_face}
-use Rattle.zt_model.specs.Routing.{asks_same, end_upstream_to, is_held_south, is_lowest_up, is_target, is_target_of, leads_up, route_to}
+use Rattle.zt_model.specs.Routing.{asks_same, end_upstream_to, is_held_south, is_target, is_target_of, leads_up, route_to}
 use Rattle.zt_model.specs.Rows.{Face, InterestRow, Rows}
 use Rattle.zt_state.specs.Rising.{IsRising}
 use Rattle.zt_interests.specs.Chosen.{all_chosen, chosen}

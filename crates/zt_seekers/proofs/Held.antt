@@ -24,7 +24,7 @@ use Rattle.zt_interest_index.specs.Index.{ChangesAt}
 use Rattle.zt_interest_index.specs.declared.bucket.Bucket.{Bucket}
 use Rattle.zt_model.specs.Lists.{at_id, without_id}
 use Rattle.zt_model.specs.Rows.{ById, Face, InterestRow}
-use Rattle.zt_seekers.specs.Seekers.{IsOnlyOne, TokenRow, token_rows, token_rows_of}
+use Rattle.zt_seekers.specs.Seekers.{TokenRow, token_rows, token_rows_of}
 
 by_ordering : {G : Type 0} (r : Ordering) → (r ≡ Less → G) → (r ≡ Equal → G) → (r ≡ Greater → G) → G
 by_ordering Less less equal greater = less refl

@@ -14,7 +14,7 @@ use Rattle.zt_interest_index.specs.Holdings.{asks_from, is_about}
 use Rattle.zt_model.specs.Rows.{ById, Face, InterestRow}
 use Rattle.zt_model.specs.Wants as model
 use Rattle.zt_model.specs.Wants.{seeks, wants}
-use Rattle.zt_seekers.specs.Seekers.{TokenRow, north_numbers, token_rows, token_rows_of}
+use Rattle.zt_seekers.specs.Seekers.{token_rows, token_rows_of}
 use Rattle.zt_seekers.proofs.Held.{any_tokens}
 
 by_ordering : {G : Type 0} (r : Ordering) → (r ≡ Less → G) → (r ≡ Equal → G) → (r ≡ Greater → G) → G

@@ -2,4 +2,4 @@ mod Visible
 pub mod Gathering
 pub mod Answers
 pub mod Chosen
-mod Unsought
+pub mod Unsought

@@ -1,4 +1,4 @@
-use Rattle.std.proofs.Common.{◌≡◌, ◌==◌, ℕ, Option, ap, sym, ◌∙◌}
+use Rattle.std.proofs.Common.{◌==◌, ℕ, Option, ap, sym, ◌∙◌}
 use Rattle.zt_model.specs.Lists.{first_where, is_some_and}
 use Rattle.zt_model.specs.Parts.{find_face}
 use Rattle.zt_model.specs.Routing.{leads_up}

@@ -1,4 +1,4 @@
-use Rattle.std.proofs.Common.{◌++◌, ap, drop, flat_map, sym, ◌∙◌}
+use Rattle.std.proofs.Common.{◌++◌, ap, flat_map, sym, ◌∙◌}
 use Rattle.std.proofs.lemmas.List.{append-nil, drop_all}
 use Rattle.zt_region.specs.Region.{is_north}
 use Rattle.zt_model.specs.Routing.{is_target, sent_as}

@@ -1,4 +1,4 @@
-use Rattle.std.proofs.Common.{ℕ, ◌∷◌, Some, ap, filter, flat_map, subst, sym, ◌≡◌, ◌∙◌}
+use Rattle.std.proofs.Common.{ℕ, ◌∷◌, filter, flat_map, subst, sym, ◌≡◌, ◌∙◌}
 use Rattle.std.specs.List.{AllByRecursion}
 use Rattle.std.specs.List.Sorted.{IsStrictlySortedBy}
 use Rattle.std.specs.Map.{keys_of}
@@ -6,7 +6,6 @@ use Rattle.std.specs.Ordering.{nat_cmp}
 use Rattle.std.specs.declared.cmp.Ordering.TheVariants.{Less}
 use Rattle.zt_face.specs.Told.{IsInOrder}
 use Rattle.zt_interest_index.specs.Holders.{IsIndexOf}
-use Rattle.zt_model.specs.Lists.{at_id}
 use Rattle.zt_model.specs.Rows.{ById, InterestRow}
 use Rattle.zt_seekers.specs.Seekers.{token_rows}
 use Rattle.zt_seekers.proofs.Held.{all-found, all_stay, index_alike, none_of_kept, one_less, only_one, others_stay, removed, stays}

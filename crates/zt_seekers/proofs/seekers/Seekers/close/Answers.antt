@@ -1,4 +1,3 @@
-use Rattle.std.proofs.Common.{refl}
 use Rattle.zt_seekers.proofs.Changed.{seekers-closed}
 use Rattle.zt_seekers.proofs.seekers.Seekers.close.Goals as goal
 
