@@ -31,7 +31,7 @@ module _ {K : Type 0} where
     no_ids : (f : Face K) → seeks matching f e ≡ false → ids_for_token cmp matching n None e g f ≡ 0
     no_ids f h =
         let untold = unsought cmp matching g from.region e f h in
-        rw (is, untold) refl
+        rw (is, ids_for_token) (rw untold refl)
 
     pub seekers_lack : IsRising (λ f. f.number) g.faces → list_any (λ m. is_some_and (find_face m g) (lacks_for_token cmp matching n None e g)) (map (λ f. f.number) (filter (λ f. seeks matching f e) g.faces)) ≡ list_any (lacks_for_token cmp matching n None e g) g.faces
     seekers_lack rising =
