@@ -1,4 +1,6 @@
+mod Counted
 mod Greetings
 mod Loops
 mod Ordered
 mod Rows
+mod Treeless

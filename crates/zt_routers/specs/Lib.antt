@@ -1,2 +1,5 @@
+pub mod Children
+pub mod First
 pub mod Greeting
 pub mod Hiding
+pub mod Shown

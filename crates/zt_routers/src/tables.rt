@@ -1,11 +1,12 @@
 // The tables of router regions.
-ghost use Rattle.std.specs.Prelude.{◌≡◌, ◌==◌, ◌&&◌, ◌++◌, ◌∷◌, [], IfOk, OnOk, if◌then◌else◌, option_map};
+ghost use Rattle.std.specs.Prelude.{◌≡◌, ◌==◌, ◌&&◌, ◌++◌, ◌∷◌, [], IfNone, IfOk, IfSome, None, OnOk, if◌then◌else◌, option_map};
 ghost use Rattle.std.specs.List.{list_any};
 ghost use Rattle.std.specs.Option.{option_copied};
 ghost use Rattle.zt_model.specs.Lists.{first_where};
-ghost use Rattle.zt_model.specs.Trees.{counted_beside, counted_table, is_same_link, is_same_router, source_of, table_of};
+ghost use Rattle.zt_model.specs.Trees.{counted_beside, counted_table, is_same_link, is_same_router, node_of, source_of, table_of};
 ghost use Rattle.zt_protocol.specs.Plain.{trees_of};
-ghost use Rattle.zt_region.specs.Region.{region_eq};
+ghost use Rattle.zt_region.specs.Region.{region_eq, zid_eq};
+ghost use Rattle.zt_routers.specs.First.{IsFirst};
 
 use std::alloc::Global;
 use zt_keys::{Key, Memory};
@@ -138,17 +139,158 @@ pub fn table_of<K: Key>(
     Ok(table)
 }
 
-// The router that a link of the face means by a node id.
-fn linked(links: &[(u32, NodeId, Zid)], face: u32, node_id: NodeId) -> Option<Zid>
-    ensures { result ≡ option_map (λ l. l.2)
-        (first_where (λ l. (l.0 == face) && (l.1 == node_id)) links.now) }
+// The place of the first entry of a router.
+fn place_of_router(routers: &[(NodeId, Zid)], zid: Zid) -> Option<usize>
+    ensures found { IfSome result (λ place. IsFirst (λ r. zid_eq zid r.1) routers.now place) }
+    ensures none { IfNone result (first_where (λ r. zid_eq zid r.1) routers.now ≡ None) }
 {
-    for link in links {
-        if link.0 == face && link.1 == node_id {
-            return Some(link.2);
+    for (place, router) in routers.iter().enumerate() {
+        if zid == router.1 {
+            return Some(place);
         }
     }
     None
+}
+
+// The first of these entries that is a router's.
+fn find_router(routers: &[(NodeId, Zid)], zid: Zid) -> Option<(NodeId, Zid)>
+    ensures { result ≡ first_where (λ r. zid_eq zid r.1) routers.now }
+{
+    for router in routers {
+        if zid == router.1 {
+            return Some(*router);
+        }
+    }
+    None
+}
+
+// The entry of a router that counts. The first one does, unless one before it has its node id; only then
+// is all of it counted.
+fn counted_router(
+    alloc: Global,
+    routers: &[(NodeId, Zid)],
+    zid: Zid,
+) -> Result<Option<(NodeId, Zid)>, Memory>
+    ensures { IfOk result (λ found. found
+        ≡ first_where (λ r. zid_eq zid r.1) (counted_beside is_same_router [] routers.now)) }
+{
+    let Some(place) = place_of_router(routers, zid) else {
+        return Ok(None);
+    };
+    let router = routers[place];
+    if !clashes_with_router(&router, &routers[..place]) {
+        return Ok(Some(router));
+    }
+    let counted = counted_routers(alloc, routers)?;
+    Ok(find_router(&counted, zid))
+}
+
+// Whether a link is a face's for a node id.
+fn is_link_for(link: &(u32, NodeId, Zid), face: u32, node_id: NodeId) -> bool
+    ensures { result ≡ ((link.now.0 == face) && (link.now.1 == node_id)) }
+{
+    link.0 == face && link.1 == node_id
+}
+
+// The place of the first link of a face for a node id.
+fn place_of_link(links: &[(u32, NodeId, Zid)], face: u32, node_id: NodeId) -> Option<usize>
+    ensures found { IfSome result (λ place. IsFirst
+        (λ l. (l.0 == face) && (l.1 == node_id)) links.now place) }
+    ensures none { IfNone result
+        (first_where (λ l. (l.0 == face) && (l.1 == node_id)) links.now ≡ None) }
+{
+    for (place, link) in links.iter().enumerate() {
+        if is_link_for(link, face, node_id) {
+            return Some(place);
+        }
+    }
+    None
+}
+
+// The first of these links that is a face's for a node id.
+fn find_link(links: &[(u32, NodeId, Zid)], face: u32, node_id: NodeId) -> Option<(u32, NodeId, Zid)>
+    ensures { result ≡ first_where (λ l. (l.0 == face) && (l.1 == node_id)) links.now }
+{
+    for link in links {
+        if link.0 == face && link.1 == node_id {
+            return Some(*link);
+        }
+    }
+    None
+}
+
+// The link of a face for a node id that counts. The first one does, unless one before it is the face's
+// for the same router; only then are all of them counted.
+fn counted_link(
+    alloc: Global,
+    links: &[(u32, NodeId, Zid)],
+    face: u32,
+    node_id: NodeId,
+) -> Result<Option<(u32, NodeId, Zid)>, Memory>
+    ensures { IfOk result (λ found. found ≡ first_where
+        (λ l. (l.0 == face) && (l.1 == node_id)) (counted_beside is_same_link [] links.now)) }
+{
+    let Some(place) = place_of_link(links, face, node_id) else {
+        return Ok(None);
+    };
+    let link = links[place];
+    if !clashes_with_link(&link, &links[..place]) {
+        return Ok(Some(link));
+    }
+    let counted = counted_links(alloc, links)?;
+    Ok(find_link(&counted, face, node_id))
+}
+
+/// Where each source's tokens go on to in a region; at first nowhere.
+#[tactic(auto, unfolding(zt_model::specs::Trees::table_of, zt_model::specs::Trees::counted_table))]
+pub(crate) fn children_in<K: Key>(g: &GatewayState<K>, region: Region) -> &[(Zid, Zid)]
+    ensures { result.now ≡ (table_of g.now region).children }
+{
+    match kept_table(g.trees(), region) {
+        None => &[],
+        Some(row) => &row.1.table().children,
+    }
+}
+
+/// The gateway's own number for a router of a region; 0 where it has none. The only error is want of
+/// memory.
+#[tactic(auto, unfolding(zt_model::specs::Trees::table_of, zt_model::specs::Trees::counted_table))]
+pub(crate) fn node_in<K: Key>(
+    alloc: Global,
+    g: &GatewayState<K>,
+    region: Region,
+    zid: Zid,
+) -> Result<NodeId, Memory>
+    ensures { IfOk result (λ node. node ≡ node_of zid (table_of g.now region)) }
+{
+    let Some(row) = kept_table(g.trees(), region) else {
+        return Ok(0);
+    };
+    match counted_router(alloc, &row.1.table().routers, zid)? {
+        None => Ok(0),
+        Some(router) => Ok(router.0),
+    }
+}
+
+// The router that a face of a region means by a node id.
+#[tactic(auto, unfolding(zt_model::specs::Trees::table_of, zt_model::specs::Trees::counted_table))]
+fn linked<K: Key>(
+    alloc: Global,
+    g: &GatewayState<K>,
+    region: Region,
+    face: u32,
+    node_id: NodeId,
+) -> Result<Option<Zid>, Memory>
+    ensures { IfOk result (λ source. source ≡ option_map (λ l. l.2)
+        (first_where (λ l. (l.0 == face) && (l.1 == node_id)) (table_of g.now region).links)) }
+{
+    let Some(row) = kept_table(g.trees(), region) else {
+        return Ok(None);
+    };
+    match counted_link(alloc, &row.1.table().links, face, node_id)? {
+        None => Ok(None),
+        Some(link) => Ok(Some(link.2)),
+    }
 }
 
 /// The router that a face means by a node id, where that isn't the gateway itself. The only error is
@@ -162,6 +304,6 @@ pub fn source_of<K: Key>(
 ) -> Result<Option<Zid>, Memory>
     ensures { IfOk result (λ source. source ≡ source_of g.now f.now node_id) }
 {
-    let table = table_of(alloc, g, f.region())?;
-    Ok(linked(&table.links, f.number(), node_id).filter(|zid| *zid != g.zid()))
+    let zid = linked(alloc, g, f.region(), f.number(), node_id)?;
+    Ok(zid.filter(|zid| *zid != g.zid()))
 }

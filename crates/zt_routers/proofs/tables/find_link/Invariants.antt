@@ -1,6 +1,6 @@
 use Rattle.std.proofs.Common.{◌≡◌, ◌==◌, ◌&&◌, drop}
 use Rattle.zt_model.specs.Lists.{first_where}
-use Rattle.zt_routers.proofs.tables.linked.Given as goal
+use Rattle.zt_routers.proofs.tables.find_link.Given as goal
 
 -- the first is among those that are left
 abbrev pub invariant-loop-link : goal.invariant-loop-link

@@ -1,7 +1,7 @@
 use Rattle.std.proofs.Common.{◌≡◌, drop}
 use Rattle.zt_region.specs.Region.{zid_eq}
 use Rattle.zt_model.specs.Lists.{first_where}
-use Rattle.zt_routers.proofs.passing.find_router.Given as goal
+use Rattle.zt_routers.proofs.tables.find_router.Given as goal
 
 -- the first is among those that are left
 abbrev pub invariant-loop-router : goal.invariant-loop-router
