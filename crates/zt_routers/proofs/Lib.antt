@@ -1,3 +1,4 @@
+mod Clashes
 mod Counted
 mod Greetings
 mod Loops

@@ -1,14 +1,17 @@
 // The tables of router regions.
-ghost use Rattle.std.specs.Prelude.{◌≡◌, ◌==◌, ◌&&◌, ◌++◌, ◌∷◌, [], IfNone, IfOk, IfSome, None, OnOk, if◌then◌else◌, option_map};
+ghost use Rattle.std.specs.Prelude.{◌≡◌, ◌==◌, ◌&&◌, ◌||◌, ◌++◌, ◌∷◌, [], IfNone, IfOk, IfSome, None, OnOk, if◌then◌else◌, option_map};
 ghost use Rattle.std.specs.List.{list_any};
 ghost use Rattle.std.specs.Option.{option_copied};
+ghost use Rattle.std.specs.Ordering.{is_eq, nat_cmp};
 ghost use Rattle.zt_model.specs.Lists.{first_where};
 ghost use Rattle.zt_model.specs.Trees.{counted_beside, counted_table, is_same_link, is_same_router, node_of, source_of, table_of};
 ghost use Rattle.zt_protocol.specs.Plain.{trees_of};
-ghost use Rattle.zt_region.specs.Region.{region_eq, zid_eq};
+ghost use Rattle.zt_region.specs.Region.{region_eq, zid_cmp, zid_eq};
 ghost use Rattle.zt_routers.specs.First.{IsFirst};
+ghost use Rattle.zt_routers.specs.KeysOf.{AreKeysOf, node_key_cmp, zid_key_cmp};
 
 use std::alloc::Global;
+use std::collections::BTreeSet;
 use zt_keys::{Key, Memory};
 use zt_protocol::TreeTable;
 use zt_region::{NodeId, Region, Zid};
@@ -35,14 +38,34 @@ fn clashes_with_router(router: &(NodeId, Zid), counted: &[(NodeId, Zid)]) -> boo
     counted.iter().any(|known| is_same_router(router, known))
 }
 
-// Counts a router, unless it clashes with one that counts.
-fn count_router(router: &(NodeId, Zid), counted: &mut Vec<(NodeId, Zid)>) -> Result<(), Memory>
-    ensures { OnOk result (counted.new.items
-        ≡ (if list_any (is_same_router router.now) counted.old.items then counted.old.items else counted.old.items ++ router.now ∷ [])) }
+// Whether a router's node id or its number is among these.
+fn is_taken(router: &(NodeId, Zid), nodes: &BTreeSet<NodeId>, zids: &BTreeSet<Zid>) -> bool
+    ensures { result ≡ (list_any (λ k. is_eq (nat_cmp router.now.0 k)) nodes.now.keys
+        || list_any (λ k. is_eq (zid_cmp router.now.1 k)) zids.now.keys) }
 {
-    if !clashes_with_router(router, counted) {
-        counted.push(*router)?;
+    nodes.contains(&router.0) || zids.contains(&router.1)
+}
+
+// Counts a router, unless it clashes with one that counts: those have these node ids and numbers.
+fn count_router(
+    router: &(NodeId, Zid),
+    nodes: &mut BTreeSet<NodeId>,
+    zids: &mut BTreeSet<Zid>,
+    counted: &mut Vec<(NodeId, Zid)>,
+) -> Result<(), Memory>
+    requires nodes { AreKeysOf nat_cmp (λ x. x.0) nodes.old.keys counted.old.items }
+    requires zids { AreKeysOf zid_cmp (λ x. x.1) zids.old.keys counted.old.items }
+    ensures counted { OnOk result (counted.new.items
+        ≡ (if list_any (is_same_router router.now) counted.old.items then counted.old.items else counted.old.items ++ router.now ∷ [])) }
+    ensures nodes { OnOk result (AreKeysOf nat_cmp (λ x. x.0) nodes.new.keys counted.new.items) }
+    ensures zids { OnOk result (AreKeysOf zid_cmp (λ x. x.1) zids.new.keys counted.new.items) }
+{
+    if is_taken(router, nodes, zids) {
+        return Ok(());
     }
+    nodes.insert(router.0)?;
+    zids.insert(router.1)?;
+    counted.push(*router)?;
     Ok(())
 }
 
@@ -52,8 +75,10 @@ fn counted_routers(alloc: Global, routers: &[(NodeId, Zid)]) -> Result<Vec<(Node
         ≡ counted_beside is_same_router [] routers.now) }
 {
     let mut counted = Vec::new(alloc);
+    let mut nodes = BTreeSet::new(alloc);
+    let mut zids = BTreeSet::new(alloc);
     for router in routers {
-        count_router(router, &mut counted)?;
+        count_router(router, &mut nodes, &mut zids, &mut counted)?;
     }
     Ok(counted)
 }
@@ -65,17 +90,42 @@ fn clashes_with_link(link: &(u32, NodeId, Zid), counted: &[(u32, NodeId, Zid)]) 
     counted.iter().any(|known| is_same_link(link, known))
 }
 
-// Counts a link, unless it clashes with one that counts.
+// Whether for its face a link's node id or its router is among these.
+fn is_link_taken(
+    link: &(u32, NodeId, Zid),
+    nodes: &BTreeSet<(u32, NodeId)>,
+    zids: &BTreeSet<(u32, Zid)>,
+) -> bool
+    ensures { result
+        ≡ (list_any (λ k. is_eq (node_key_cmp (link.now.0, link.now.1) k)) nodes.now.keys
+        || list_any (λ k. is_eq (zid_key_cmp (link.now.0, link.now.2) k)) zids.now.keys) }
+{
+    nodes.contains(&(link.0, link.1)) || zids.contains(&(link.0, link.2))
+}
+
+// Counts a link, unless it clashes with one that counts: for their faces those have these node ids and
+// routers.
 fn count_link(
     link: &(u32, NodeId, Zid),
+    nodes: &mut BTreeSet<(u32, NodeId)>,
+    zids: &mut BTreeSet<(u32, Zid)>,
     counted: &mut Vec<(u32, NodeId, Zid)>,
 ) -> Result<(), Memory>
-    ensures { OnOk result (counted.new.items
+    requires nodes { AreKeysOf node_key_cmp (λ x. (x.0, x.1)) nodes.old.keys counted.old.items }
+    requires zids { AreKeysOf zid_key_cmp (λ x. (x.0, x.2)) zids.old.keys counted.old.items }
+    ensures counted { OnOk result (counted.new.items
         ≡ (if list_any (is_same_link link.now) counted.old.items then counted.old.items else counted.old.items ++ link.now ∷ [])) }
+    ensures nodes { OnOk result
+        (AreKeysOf node_key_cmp (λ x. (x.0, x.1)) nodes.new.keys counted.new.items) }
+    ensures zids { OnOk result
+        (AreKeysOf zid_key_cmp (λ x. (x.0, x.2)) zids.new.keys counted.new.items) }
 {
-    if !clashes_with_link(link, counted) {
-        counted.push(*link)?;
+    if is_link_taken(link, nodes, zids) {
+        return Ok(());
     }
+    nodes.insert((link.0, link.1))?;
+    zids.insert((link.0, link.2))?;
+    counted.push(*link)?;
     Ok(())
 }
 
@@ -88,8 +138,10 @@ fn counted_links(
         ≡ counted_beside is_same_link [] links.now) }
 {
     let mut counted = Vec::new(alloc);
+    let mut nodes = BTreeSet::new(alloc);
+    let mut zids = BTreeSet::new(alloc);
     for link in links {
-        count_link(link, &mut counted)?;
+        count_link(link, &mut nodes, &mut zids, &mut counted)?;
     }
     Ok(counted)
 }
