@@ -51,8 +51,9 @@ fn is_hidden<K: Key>(g: &GatewayState<K>, source: Region, expr: &K, region: Regi
     is_router_region(g.mode(), region) && region != source && !is_visible(g, region, expr)
 }
 
-// Whether the region is newly shown the token, where that may be known already of the region that was asked
-// of last: faces of one region often stand together, and to find a row the gateway's rows are gone through.
+// Whether the region is newly shown the token, where that may be known already of the region that was
+// asked of last: faces of one region often stand together, and to find a row the gateway's rows are gone
+// through.
 fn is_shown_again<K: Key>(
     g: &GatewayState<K>,
     source: Region,
@@ -108,8 +109,8 @@ fn show_to<K: Key>(
     Ok(())
 }
 
-/// The gateway shows a token of the region `source` in its router regions that are newly shown it. Where it
-/// was handed no table there is nobody to tell. The only error is want of memory.
+/// The gateway shows a token of the region `source` in its router regions that are newly shown it. Where
+/// it was handed no table there is nobody to tell. The only error is want of memory.
 pub fn show<K: Key>(
     alloc: Global,
     g: &GatewayState<K>,
@@ -226,7 +227,8 @@ fn hide_to<K: Key>(
 }
 
 /// The gateway hides an expression that is gone from the region `source` in its router regions that
-/// can't see it now. Where it was handed no table there is nobody to tell. The only error is want of memory.
+/// can't see it now. Where it was handed no table there is nobody to tell. The only error is want of
+/// memory.
 pub fn hide<K: Key>(
     alloc: Global,
     g: &GatewayState<K>,

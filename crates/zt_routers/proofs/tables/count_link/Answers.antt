@@ -1,9 +1,8 @@
-use Rattle.std.proofs.Common.{◌≡◌, ◌++◌, ◌∷◌, ◌||◌, [], ℕ, Bool, List, cond, false, true, ap, subst, sym, ◌∙◌}
+use Rattle.std.proofs.Common.{◌≡◌, ◌++◌, ◌∷◌, [], ℕ, Bool, List, cond, ap, subst, sym, ◌∙◌}
 use Rattle.std.specs.BTreeSet.{insert_key}
 use Rattle.std.specs.List.{list_any}
 use Rattle.std.specs.Ordering.{is_eq}
 use Rattle.zt_region.specs.declared.region.Zid.{Zid}
-use Rattle.zt_model.specs.Trees.{is_same_link}
 use Rattle.zt_routers.specs.KeysOf.{AreKeysOf, node_key_cmp, zid_key_cmp}
 use Rattle.zt_routers.proofs.Clashes.{left_fails, one_key_more, right_fails, link_clashes}
 use Rattle.zt_routers.proofs.tables.count_link.Goals as goal

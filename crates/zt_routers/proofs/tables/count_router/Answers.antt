@@ -1,10 +1,9 @@
-use Rattle.std.proofs.Common.{◌≡◌, ◌++◌, ◌∷◌, ◌||◌, [], ℕ, Bool, List, cond, false, true, ap, subst, sym, ◌∙◌}
+use Rattle.std.proofs.Common.{◌≡◌, ◌++◌, ◌∷◌, [], ℕ, Bool, List, cond, ap, subst, sym, ◌∙◌}
 use Rattle.std.specs.BTreeSet.{insert_key}
 use Rattle.std.specs.List.{list_any}
 use Rattle.std.specs.Ordering.{is_eq, nat_cmp}
 use Rattle.zt_region.specs.declared.region.Zid.{Zid}
 use Rattle.zt_region.specs.Region.{zid_cmp}
-use Rattle.zt_model.specs.Trees.{is_same_router}
 use Rattle.zt_routers.specs.KeysOf.{AreKeysOf}
 use Rattle.zt_routers.proofs.Clashes.{left_fails, one_key_more, right_fails, router_clashes}
 use Rattle.zt_routers.proofs.tables.count_router.Goals as goal
