@@ -131,6 +131,20 @@ impl<K: Key> Gateway<K> {
         self.twin.catch_up(self.alloc, former, call);
     }
 
+    /// Carries out a call as `commit` does, one that `prepare` accepted, and brings the gateway's second
+    /// state up to date by it, where memory is there for that: so the next call copies nothing.
+    pub fn commit_call(&mut self, prepared: Prepared<K>, call: &Call<K>) -> Option<u32>
+        requires accepted { cause_of K.cmp K.matching (plain_call call.now) self.old.rows ≡ None }
+        requires planned { prepared ≡ planned K.cmp K.matching (plain_call call.now) self.old }
+        ensures done { self.new ≡ prepared.after }
+        ensures made { result ≡ prepared.made }
+        ensures sound { FacesKeepWhatTheyShould K.cmp K.matching self.new.rows }
+    {
+        let (made, former) = self.exchange(prepared);
+        self.catch_up(former, call);
+        made
+    }
+
     /// Carries out a call; a first id is at least 1. The answer is the number of the face that it makes,
     /// if it makes one. It is refused by the first cause that holds of it; after a refusal or want of
     /// memory nothing is changed. An accepted call leaves each face outside router regions with visible
@@ -145,11 +159,7 @@ impl<K: Key> Gateway<K> {
         ensures sound { OnOk result (FacesKeepWhatTheyShould K.cmp K.matching self.new.rows) }
     {
         match self.prepare(call) {
-            Ok(prepared) => {
-                let (made, former) = self.exchange(prepared);
-                self.catch_up(former, call);
-                Ok(made)
-            }
+            Ok(prepared) => Ok(self.commit_call(prepared, call)),
             Err(error) => Err(error),
         }
     }

@@ -109,7 +109,7 @@ impl<K: Key> Journaled<K> {
         let sent = sent_by(self.alloc, &prepared)?;
         self.entries.reserve(1)?;
         let place = self.entries.len() as u64;
-        let made = self.gateway.commit(prepared);
+        let made = self.gateway.commit_call(prepared, &call);
         self.gateway.clear_outbox();
         let entry = JournalEntry {
             pass,
