@@ -8,7 +8,7 @@ NAME.in is a script, NAME.out the wrong transcript and NAME.breaks says in its f
 in its second what is wrong. The first line is a word of BREAKS below, the line of the script, and places in it: a
 message of the entry, counted from 1; or a gateway, and one of its open faces in order, and then an ask or a message of
 the face; or a key. What is written lies in src/, specs/ and proofs/ of the crate; specs/Wrong.antt and
-proofs/Apart.antt alone are written by hand.
+proofs/Apart.antt alone are written by hand, and what is of premises by tools/premises_to_antt.py and hand.
 """
 import glob, os, re, sys
 from string import Template
@@ -167,10 +167,13 @@ $clauses}
 
 LIBRARY = Template('''//! The wrong transcripts of `tests/wrong`: each breaks a promise of `zt_model`, but for one that has other totals than
 //! its lines and one that no promise forbids, which alone isn't the machine's own. A law is named for its script, and
-//! names the promise and the line whose entry breaks it.
+//! names the promise and the line whose entry breaks it. In `premises` stand the laws of scripts that lack a premise of the
+//! promises over trees.
 //!
 //! $made
 #![tactic(auto)]
+
+pub mod premises;
 
 $uses$functions''')
 
@@ -230,8 +233,8 @@ def write_crate(wrongs):
     for n, part in parts: write_part(n, part)
     write_opened()
     modules = ''.join('pub mod Part%d\n' % n for n, _ in parts)
-    write('proofs/Lib.antt', 'pub mod Apart\npub mod Opened\n' + modules)
-    write('specs/Lib.antt', 'pub mod Wrong\n' + modules)
+    write('proofs/Lib.antt', 'pub mod Apart\npub mod Opened\n' + modules + 'pub mod Kept\npub mod Lacking\npub mod Suffices\npub mod Tests\n')
+    write('specs/Lib.antt', 'pub mod Wrong\n' + modules + 'pub mod Lacking\npub mod Premises\n')
     clauses = lambda n, part: ''.join('    ensures %s { %s }\n' % (name, statement) for wrong in part for name, statement, _ in wrong.laws('part%d' % n))
     functions = ''.join(FUNCTION.substitute(n=n, clauses=clauses(n, part)) for n, part in parts)
     here = lambda names: ', '.join(name for name in names if re.search(r'\b%s\b' % name, functions))

@@ -177,7 +177,7 @@ module _ {K : Type 0} (cmp : K → K → Ordering) (matching : K → K → Bool)
         is.changed.faces t.after.faces (printed t) is.changed.gateways (with_line cmp matching t).gateways is.after_places (ap (λ (X : Fabric K). X.gateways) is.with_is) is.comes)
 
     -- Each turn of a transcript answers its asks.
-    pub turns_answer : (is_built : PlainLine K → Bool) (lines : List (PlainLine K)) (s : Fabric K) → Each HasFirstIds lines → FabricIsInOrder cmp matching s
-        → Each (AnswersAsks cmp matching) (turns_from cmp matching lines (entries_from cmp matching is_built lines s) (as_shown s))
-    turns_answer is_built lines s real fine =
-        turns_show cmp matching total (λ s. Unit {0}) Comes asks_of_calls (AnswersAsks cmp matching) asks_shown is_built (λ line x first ordered _. tt) lines s real fine tt
+    pub turns_answer : (lines : List (PlainLine K)) (s : Fabric K) → Each HasFirstIds lines → FabricIsInOrder cmp matching s
+        → Each (AnswersAsks cmp matching) (turns_from cmp matching lines (entries_from cmp matching lines s) (as_shown s))
+    turns_answer lines s real fine =
+        turns_show cmp matching total (λ s. Unit {0}) Comes asks_of_calls (AnswersAsks cmp matching) asks_shown (λ line x first ordered _. tt) lines s real fine tt

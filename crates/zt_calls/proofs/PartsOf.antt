@@ -7,14 +7,14 @@ use Rattle.zt_protocol.specs.declared.interests.InterestMode.{InterestMode}
 use Rattle.zt_protocol.specs.declared.interests.InterestOptions.{InterestOptions}
 use Rattle.zt_laws.proofs.Hearing.{find_passes}
 use Rattle.zt_model.specs.Closing.{closing}
-use Rattle.zt_model.specs.Parts.{Part, find_face, is_routed}
+use Rattle.zt_model.specs.Parts.{Alter, Part, Say, find_face, is_routed, with_face}
 use Rattle.zt_model.specs.Routing.{finishing}
 use Rattle.zt_model.specs.Rows.{Face, Rows}
 use Rattle.zt_model.specs.Says.{asking, declaring_of, finalising_held, hiding_undeclared, parts_of, row_of, undeclaring_of}
-use Rattle.zt_model.specs.Telling.{answering, declaring, registers, undeclaring}
-use Rattle.zt_model.specs.Trees.{showing, source_of}
+use Rattle.zt_model.specs.Telling.{answering, declaring, forget, registers, undeclared, undeclaring, unregistered}
+use Rattle.zt_model.specs.Trees.{hiding, showing, source_of}
 use Rattle.zt_region.specs.declared.region.Zid.{Zid}
-use Rattle.zt_calls.specs.Speaking.{declaring_at, declaring_from, undeclaring_at, undeclaring_from}
+use Rattle.zt_calls.specs.Speaking.{declaring_at, declaring_from, undeclaring_at, undeclaring_from, undeclaring_plain}
 
 module _ {K : Type 0} where
   -- a face that is found has the number
@@ -113,6 +113,15 @@ module _ {K : Type 0} (cmp : K → K → Ordering) (matching : K → K → Bool)
       ap (λ b. if_routed b (undeclaring_of cmp matching n (source_of g f node) e f) (undeclaring cmp matching n id e f ++ hiding_undeclared cmp matching id e f)) routed
       ∙ undeclaring_named n (source_of g f node) e f
 
-  pub undeclare_plain_at : (n id node : ℕ) (e : Option K) (g : Rows K) (f : Face K) → is_routed g f ≡ false → undeclaring_at cmp matching n id e node g f ≡ undeclaring cmp matching n id e f ++ hiding_undeclared cmp matching id e f
+  undeclaring_named_plain : (n id : ℕ) (f : Face K) (o : Option K)
+      → elim o [ None ↦ [] | Some e ↦ Alter (with_face n (unregistered id)) ∷ Say (forget cmp matching f.region e) ∷ [] ]
+      ++ elim o [ None ↦ [] | Some e ↦ hiding cmp f.region e ]
+      ≡ undeclaring_plain cmp matching n f.region id o
+  undeclaring_named_plain n id f None = refl
+  undeclaring_named_plain n id f (Some e) = refl
+
+  pub undeclare_plain_at : (n id node : ℕ) (e : Option K) (g : Rows K) (f : Face K) → is_routed g f ≡ false
+      → undeclaring_at cmp matching n id e node g f ≡ undeclaring_plain cmp matching n f.region id (undeclared cmp matching id e f)
   undeclare_plain_at n id node e g f plain =
       ap (λ b. if_routed b (undeclaring_of cmp matching n (source_of g f node) e f) (undeclaring cmp matching n id e f ++ hiding_undeclared cmp matching id e f)) plain
+      ∙ undeclaring_named_plain n id f (undeclared cmp matching id e f)

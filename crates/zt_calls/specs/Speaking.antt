@@ -8,7 +8,7 @@ use Rattle.zt_model.specs.Closing.{leaving, without_face}
 use Rattle.zt_model.specs.Parts.{Alter, Part, Say, is_routed, unsaid_to, with_face}
 use Rattle.zt_model.specs.Rows.{Face, Rows}
 use Rattle.zt_model.specs.Says.{declaring_of, hiding_undeclared, undeclaring_of}
-use Rattle.zt_model.specs.Telling.{answer, answering, declaring, forget, registered, registers, tell, undeclaring}
+use Rattle.zt_model.specs.Telling.{answer, answering, declaring, forget, registered, registers, tell, undeclaring, unregistered}
 use Rattle.zt_model.specs.Trees.{but_for, hiding, pass_on, showing, source_of, unpass, with_routed, without_routed}
 
 module _ {K : Type 0} (cmp : K → K → Ordering) (matching : K → K → Bool) where
@@ -38,6 +38,12 @@ module _ {K : Type 0} (cmp : K → K → Ordering) (matching : K → K → Bool)
       ∷ Say (forget cmp matching region e)
       ∷ hiding cmp region e
   undeclaring_from n region _ _ = []
+
+  -- an expression is undeclared under an id, if any is
+  abbrev pub undeclaring_plain : ℕ → Region → ℕ → Option K → List (Part K)
+  undeclaring_plain n region id None = []
+  undeclaring_plain n region id (Some e) =
+      Alter (with_face n (unregistered id)) ∷ Say (forget cmp matching region e) ∷ hiding cmp region e
 
   -- what a declaration of an open face comes to, and an undeclaration
   abbrev pub declaring_at : ℕ → ℕ → K → ℕ → Option ℕ → Rows K → Face K → List (Part K)

@@ -15,7 +15,6 @@ use crate::asking::ask;
 use crate::closing::leave;
 use crate::ending::{declare_final, finalise};
 use crate::expiring::expire;
-use crate::finding::find;
 use crate::opening::open;
 use crate::routed::change_table;
 use crate::speaking::{declare_token, undeclare_token};
@@ -26,7 +25,7 @@ use zt_keys::{Key, Memory};
 use zt_protocol::{Call, InterestId, InterestMode, InterestOptions, Message, copy_expression};
 use zt_region::WhatAmI;
 use zt_state::{FaceState, GatewayState, RemoteInterest};
-use zt_tokens::is_routed;
+use zt_tokens::{find_face, is_routed};
 
 // Whether the options ask for tokens.
 fn asks_for_tokens(options: InterestOptions) -> bool
@@ -84,7 +83,7 @@ fn interest<K: Key>(
         (parts_of K.cmp K.matching (plain.Interest face id mode options expr.now) g.old)
         g.old g.new speech.old speech.new) }
 {
-    let Some(f) = find(g, face) else {
+    let Some(f) = find_face(g, face) else {
         return Ok(());
     };
     let interest = interest_of(alloc, f, mode, options, expr)?;
@@ -104,7 +103,7 @@ fn interest_final<K: Key>(
         (parts_of K.cmp K.matching (plain.InterestFinal face id) g.old)
         g.old g.new speech.old speech.new) }
 {
-    let Some(f) = find(g, face) else {
+    let Some(f) = find_face(g, face) else {
         return Ok(());
     };
     let Some(held) = f.held().at(id) else {
@@ -126,7 +125,7 @@ fn final_from_north<K: Key>(
         (parts_of K.cmp K.matching (plain.DeclareFinal face id) g.old)
         g.old g.new speech.old speech.new) }
 {
-    let Some(f) = find(g, face) else {
+    let Some(f) = find_face(g, face) else {
         return Ok(());
     };
     let waits = f.pendings().has(id);
@@ -204,7 +203,7 @@ fn close_face<K: Key>(
         (parts_of K.cmp K.matching (plain.CloseFace face) g.old)
         g.old g.new speech.old speech.new) }
 {
-    let Some(f) = find(g, face) else {
+    let Some(f) = find_face(g, face) else {
         return Ok(());
     };
     let is_routed = is_routed(g, f);
@@ -335,8 +334,8 @@ fn do_parts<K: Key>(
 
 /// Carries out a call that nothing refuses, and answers its messages in the order sent, each with the
 /// number of its face. The only error is want of memory, and then the gateway may be left in between:
-/// it is for a copy that the caller drops. Ids that run out count as want of memory; a call that would
-/// need so many is refused.
+/// the caller drops it, and has another that is as before. Ids that run out count as want of memory; a
+/// call that would need so many is refused.
 pub fn carry_out<K: Key>(
     alloc: Global,
     g: &mut GatewayState<K>,

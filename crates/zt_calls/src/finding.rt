@@ -1,24 +1,12 @@
-// What a call finds of its face before it changes anything.
-ghost use Rattle.std.specs.Prelude.{◌≡◌};
+// What an undeclaration is about.
+ghost use Rattle.std.specs.Prelude.{◌≡◌, IfOk};
 ghost use Rattle.std.specs.Option.{option_copied};
-ghost use Rattle.zt_model.specs.Parts.{find_face};
 ghost use Rattle.zt_model.specs.Telling.{undeclared};
 
-use zt_keys::Key;
+use std::alloc::Global;
+use zt_keys::{Key, Memory};
 use zt_protocol::TokenId;
-use zt_state::{FaceState, GatewayState};
-
-/// The open face of a number.
-pub(crate) fn find<K: Key>(g: &GatewayState<K>, number: u32) -> Option<&FaceState<K>>
-    ensures { option_copied result ≡ find_face number g.now }
-{
-    for f in g.faces() {
-        if number == f.number() {
-            return Some(f);
-        }
-    }
-    None
-}
+use zt_state::FaceState;
 
 /// The expression that an undeclaration is about: that of its id, or else the given one.
 pub(crate) fn undeclared<'a, K: Key>(
@@ -32,5 +20,21 @@ pub(crate) fn undeclared<'a, K: Key>(
     match f.live().at(id) {
         None => given.as_ref(),
         Some(expr) => Some(expr),
+    }
+}
+
+/// A copy of that expression, if there is one. The only error is want of memory.
+pub(crate) fn copy_undeclared<K: Key>(
+    alloc: Global,
+    f: &FaceState<K>,
+    id: TokenId,
+    given: &Option<K>,
+) -> Result<Option<K>, Memory>
+    ensures { IfOk result (λ copy. copy
+        ≡ undeclared K.cmp K.matching id given.now f.now) }
+{
+    match undeclared(f, id, given) {
+        None => Ok(None),
+        Some(expr) => Ok(Some(expr.copy(alloc)?)),
     }
 }

@@ -1,22 +1,22 @@
 // Tokens that faces declare and undeclare, in whichever region.
 ghost use Rattle.std.specs.Prelude.{◌≡◌, ◌++◌, ℕ, OnOk};
 ghost use Rattle.zt_calls.specs.Does.{Does};
-ghost use Rattle.zt_calls.specs.Speaking.{answering_asked, declaring_from, declaring_if, undeclaring_from};
-ghost use Rattle.zt_model.specs.Says.{hiding_undeclared, parts_of};
-ghost use Rattle.zt_model.specs.Telling.{answering, registers, undeclaring};
+ghost use Rattle.zt_calls.specs.Speaking.{answering_asked, declaring_from, declaring_if, undeclaring_from, undeclaring_plain};
+ghost use Rattle.zt_model.specs.Says.{parts_of};
+ghost use Rattle.zt_model.specs.Telling.{answering, registers};
 ghost use Rattle.zt_protocol.specs.Plain as plain;
 
-use crate::finding::{find, undeclared};
+use crate::finding::copy_undeclared;
 use crate::routed::{declare_routed, undeclare_routed};
 use crate::speech::{Speech, say};
-use crate::tokens::{declare, hide_token, undeclare_found};
+use crate::tokens::{declare, hide_token, undeclare};
 use std::alloc::Global;
 use zt_keys::{Key, Memory};
 use zt_protocol::{InterestId, TokenId};
 use zt_region::{NodeId, Region, Zid};
 use zt_routers::source_of;
 use zt_state::{FaceState, GatewayState};
-use zt_tokens::{answer, is_routed};
+use zt_tokens::{answer, find_face, is_routed};
 
 // The interest that a declaration names, where it waits at the face.
 fn asked_by<K: Key>(f: &FaceState<K>, interest: Option<InterestId>) -> Option<InterestId>
@@ -145,7 +145,7 @@ pub(crate) fn declare_token<K: Key>(
         (parts_of K.cmp K.matching (plain.DeclareToken face id expr.now node_id interest) g.old)
         g.old g.new speech.old speech.new) }
 {
-    let Some(f) = find(g, face) else {
+    let Some(f) = find_face(g, face) else {
         return Ok(());
     };
     let region = f.region();
@@ -158,41 +158,26 @@ pub(crate) fn declare_token<K: Key>(
     declare_plain(alloc, g, speech, face, region, id, expr, asked, registers)
 }
 
-// The router regions hear too of what was undeclared. The only error is want of memory.
-fn hide_undeclared<K: Key>(
-    alloc: Global,
-    g: &mut GatewayState<K>,
-    speech: &mut Speech<K>,
-    f: &FaceState<K>,
-    id: TokenId,
-    given: &Option<K>,
-) -> Result<(), Memory>
-    ensures { OnOk result (Does K.cmp K.matching
-        (hiding_undeclared K.cmp K.matching id given.now f.now)
-        g.old g.new speech.old speech.new) }
-{
-    match undeclared(f, id, given) {
-        None => Ok(()),
-        Some(expr) => hide_token(alloc, g, speech, f.region(), expr),
-    }
-}
-
-// A face outside router regions undeclares a token. The only error is want of memory.
+// An undeclaration by a face outside router regions, which is about this expression, if about any: the
+// faces and the router regions hear that it is gone. The only error is want of memory.
 fn undeclare_plain<K: Key>(
     alloc: Global,
     g: &mut GatewayState<K>,
     speech: &mut Speech<K>,
-    f: &FaceState<K>,
+    face: u32,
+    region: Region,
     id: TokenId,
-    given: &Option<K>,
+    expr: &Option<K>,
 ) -> Result<(), Memory>
     ensures { OnOk result (Does K.cmp K.matching
-        (undeclaring K.cmp K.matching f.now.number id given.now f.now
-        ++ hiding_undeclared K.cmp K.matching id given.now f.now)
+        (undeclaring_plain K.cmp K.matching face region id expr.now)
         g.old g.new speech.old speech.new) }
 {
-    undeclare_found(alloc, g, speech, f, id, given)?;
-    hide_undeclared(alloc, g, speech, f, id, given)
+    let Some(expr) = expr else {
+        return Ok(());
+    };
+    undeclare(alloc, g, speech, face, region, id, expr)?;
+    hide_token(alloc, g, speech, region, expr)
 }
 
 // A token of a router goes, where the face means one and names the expression. The only error is want
@@ -233,14 +218,14 @@ pub(crate) fn undeclare_token<K: Key>(
         (parts_of K.cmp K.matching (plain.UndeclareToken face id given.now node_id) g.old)
         g.old g.new speech.old speech.new) }
 {
-    let Some(f) = find(g, face) else {
+    let Some(f) = find_face(g, face) else {
         return Ok(());
     };
+    let region = f.region();
     if is_routed(g, f) {
-        let region = f.region();
         let source = source_of(alloc, g, f, node_id)?;
         return undeclare_from(alloc, g, speech, face, region, source, given);
     }
-    let f = f.copy(alloc)?;
-    undeclare_plain(alloc, g, speech, &f, id, given)
+    let expr = copy_undeclared(alloc, f, id, given)?;
+    undeclare_plain(alloc, g, speech, face, region, id, &expr)
 }

@@ -1,2 +1,3 @@
 pub mod LeftIds
 pub mod Numbering
+mod Seekers

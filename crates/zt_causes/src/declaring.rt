@@ -45,7 +45,7 @@ pub(crate) fn declaring_cause<K: Key>(
     if adds && is_token_id_in_use(f, id, expr) {
         return Ok(Some(Refusal::TokenIdInUse));
     }
-    if do_tokens_spend(g, face, interest, expr) {
+    if do_tokens_spend(alloc, g, face, interest, expr)? {
         return Ok(Some(Refusal::IdsSpent));
     }
     Ok(None)

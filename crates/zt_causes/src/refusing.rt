@@ -89,7 +89,7 @@ pub fn spends_ids<K: Key>(
             expr,
             interest_id,
             ..
-        } => Ok(do_tokens_spend(g, *face, *interest_id, expr)),
+        } => do_tokens_spend(alloc, g, *face, *interest_id, expr),
         Call::Interest {
             face,
             mode,

@@ -1,9 +1,10 @@
 // Whether faces have ids left for what a call would send them.
-ghost use Rattle.std.specs.Prelude.{◌≡◌, ℕ, ◌&&◌, not, IfOk, Some, filter, length};
+ghost use Rattle.std.specs.Prelude.{◌≡◌, ℕ, ◌&&◌, not, IfOk, None, Some, filter, length};
 ghost use Rattle.std.specs.List.{list_any};
 ghost use Rattle.std.specs.Option.{option_copied};
 ghost use Rattle.zt_causes.specs.Lacking.{lacks_for_interest, lacks_for_token};
 ghost use Rattle.zt_protocol.specs.Interest.{is_future};
+ghost use Rattle.zt_model.specs.Lists.{is_some_and};
 ghost use Rattle.zt_model.specs.Parts.{find_face};
 ghost use Rattle.zt_model.specs.Refusals.{ids_for_target, is_answered_anew, left_ids};
 ghost use Rattle.zt_model.specs.Says.{row_of};
@@ -87,22 +88,95 @@ fn lacks_token_id<K: Key>(
         && (is_told(g, from.region(), expr, f) || is_answered_anew(face, interest, expr, from, f))
 }
 
-/// Whether a token that a face declares needs an id of some face that has none left.
-pub(crate) fn do_tokens_spend<K: Key>(
+// The same of the face of a number, if it is open.
+fn lacks_token_id_at<K: Key>(
+    g: &GatewayState<K>,
+    face: u32,
+    expr: &K,
+    from: &FaceState<K>,
+    number: u32,
+) -> bool
+    requires { find_face face g.now ≡ Some from.now }
+    ensures { result ≡ is_some_and (find_face number g.now)
+        (lacks_for_token K.cmp K.matching face None expr.now g.now) }
+{
+    match find_face(g, number) {
+        None => false,
+        Some(f) => lacks_token_id(g, face, None, expr, from, f),
+    }
+}
+
+// Whether a token that answers nobody needs an id of some face of these numbers that has none left.
+fn do_numbers_lack<K: Key>(
+    g: &GatewayState<K>,
+    face: u32,
+    expr: &K,
+    from: &FaceState<K>,
+    numbers: &[u32],
+) -> bool
+    requires { find_face face g.now ≡ Some from.now }
+    ensures { result ≡ list_any (λ n. is_some_and (find_face n g.now)
+        (lacks_for_token K.cmp K.matching face None expr.now g.now)) numbers.now }
+{
+    numbers
+        .iter()
+        .any(|number| lacks_token_id_at(g, face, expr, from, *number))
+}
+
+// Whether the token needs an id of some face that has none left, asking each.
+fn does_each_lack<K: Key>(
     g: &GatewayState<K>,
     face: u32,
     interest: Option<InterestId>,
     expr: &K,
+    from: &FaceState<K>,
 ) -> bool
+    requires { find_face face g.now ≡ Some from.now }
     ensures { result
         ≡ list_any (lacks_for_token K.cmp K.matching face interest expr.now g.now) g.now.faces }
 {
-    match find_face(g, face) {
-        None => false,
-        Some(from) => g
-            .faces()
-            .iter()
-            .any(|f| lacks_token_id(g, face, interest, expr, from, f)),
+    g.faces()
+        .iter()
+        .any(|f| lacks_token_id(g, face, interest, expr, from, f))
+}
+
+// The same of a token that answers nobody: of the faces that seek it, where these can be looked up. The
+// only error is want of memory.
+fn do_seekers_lack<K: Key>(
+    alloc: Global,
+    g: &GatewayState<K>,
+    face: u32,
+    expr: &K,
+    from: &FaceState<K>,
+) -> Result<bool, Memory>
+    requires { find_face face g.now ≡ Some from.now }
+    ensures { IfOk result (λ lack. lack
+        ≡ list_any (lacks_for_token K.cmp K.matching face None expr.now g.now) g.now.faces) }
+{
+    match g.find_seekers(alloc, expr)? {
+        Some(numbers) => Ok(do_numbers_lack(g, face, expr, from, &numbers)),
+        None => Ok(does_each_lack(g, face, None, expr, from)),
+    }
+}
+
+/// Whether a token that a face declares needs an id of some face that has none left. The only error is
+/// want of memory.
+pub(crate) fn do_tokens_spend<K: Key>(
+    alloc: Global,
+    g: &GatewayState<K>,
+    face: u32,
+    interest: Option<InterestId>,
+    expr: &K,
+) -> Result<bool, Memory>
+    ensures { IfOk result (λ spend. spend
+        ≡ list_any (lacks_for_token K.cmp K.matching face interest expr.now g.now) g.now.faces) }
+{
+    let Some(from) = find_face(g, face) else {
+        return Ok(false);
+    };
+    match interest {
+        None => do_seekers_lack(alloc, g, face, expr, from),
+        Some(_) => Ok(does_each_lack(g, face, interest, expr, from)),
     }
 }
 

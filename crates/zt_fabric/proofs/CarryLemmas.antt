@@ -17,7 +17,6 @@ use Rattle.zt_wire.specs.Reading.{line_read}
 use Rattle.zt_wire.specs.Text.{entries_text, entry_text, report_text}
 use Rattle.zt_model.specs.Fabric.{Fabric, entries_from, entry_of, fabric_after}
 use Rattle.zt_model.specs.Transcript.{messages_in, refusals_in}
-use Rattle.zt_links.specs.Lines.{every_line}
 use Rattle.zt_fabric.specs.Carrying.{Carries, EndsInPart, LineStops, Shows, Stops, StopsBehind, StopsWriting, Writes, WritesUntil, fabric_from, with_entries, with_entry}
 
 -- ---- totals
@@ -57,22 +56,22 @@ module _ {K : Type 0} where
 
 module _ {K : Type 0} (cmp : K → K → Ordering) (matching : K → K → Bool) where
   abbrev entries : List (PlainLine K) → Fabric K → List (PlainEntry K)
-  entries lines s = entries_from cmp matching every_line lines s
+  entries lines s = entries_from cmp matching lines s
 
   pub entries-append : (ls ms : List (PlainLine K)) (s : Fabric K) → entries (ls ++ ms) s ≡ entries ls s ++ entries ms (fabric_from cmp matching ls s)
   unfolding entries_from fabric_from
   entries-append [] ms s = refl
-  entries-append (l ∷ ls) ms s = ap (λ es. entry_of cmp matching every_line l s ∷ es) (entries-append ls ms (fabric_after cmp matching l (entry_of cmp matching every_line l s) s))
+  entries-append (l ∷ ls) ms s = ap (λ es. entry_of cmp matching l s ∷ es) (entries-append ls ms (fabric_after cmp matching l (entry_of cmp matching l s) s))
 
   pub fabric_from-append : (ls ms : List (PlainLine K)) (s : Fabric K) → fabric_from cmp matching (ls ++ ms) s ≡ fabric_from cmp matching ms (fabric_from cmp matching ls s)
   unfolding fabric_from
   fabric_from-append [] ms s = refl
-  fabric_from-append (l ∷ ls) ms s = fabric_from-append ls ms (fabric_after cmp matching l (entry_of cmp matching every_line l s) s)
+  fabric_from-append (l ∷ ls) ms s = fabric_from-append ls ms (fabric_after cmp matching l (entry_of cmp matching l s) s)
 
   pub entries-length : (ls : List (PlainLine K)) (s : Fabric K) → length (entries ls s) ≡ length ls
   unfolding entries_from
   entries-length [] s = refl
-  entries-length (l ∷ ls) s = ap suc (entries-length ls (fabric_after cmp matching l (entry_of cmp matching every_line l s) s))
+  entries-length (l ∷ ls) s = ap suc (entries-length ls (fabric_after cmp matching l (entry_of cmp matching l s) s))
 
 module _ {K : Type 0} (cmp : K → K → Ordering) (matching : K → K → Bool) (reading : List ℕ → Result K KeyError) (printed : K → List ℕ) where
   pub carries-none : (s : Fabric K) (r : Report) (text : List ℕ) → Carries cmp matching reading printed [] s r text s r text
@@ -80,7 +79,7 @@ module _ {K : Type 0} (cmp : K → K → Ordering) (matching : K → K → Bool)
   carries-none s r text = record { lines = []; are_read = refl; fabric_is = refl; totals_are = with_entries-none K r; text_is = sym (append-nil text) }
 
   pub carries-one : (bytes : List ℕ) (line : PlainLine K) (entry : PlainEntry K) (s s' : Fabric K) (r r' : Report) (text text' : List ℕ)
-      → line_read reading bytes ≡ Ok line → entry ≡ entry_of cmp matching every_line line s → s' ≡ fabric_after cmp matching line entry s
+      → line_read reading bytes ≡ Ok line → entry ≡ entry_of cmp matching line s → s' ≡ fabric_after cmp matching line entry s
       → r' ≡ with_entry entry r → text' ≡ text ++ entry_text printed (r.lines + 1) entry
       → Carries cmp matching reading printed (bytes ∷ []) s r text s' r' text'
   unfolding entries_from fabric_from

@@ -29,13 +29,12 @@ use Rattle.zt_trees.proofs.Start.{agree_at_first}
 use Rattle.zt_tree_lines.proofs.Turns.{turns_know}
 use Rattle.zt_tree_asks.proofs.Asks.{gets_only}
 use Rattle.zt_tree_answers.proofs.Gets.{gets_what_stays}
-use Rattle.zt_links.specs.Lines.{every_line}
 
 module _ {K : Type 0} (cmp : K → K → Ordering) (matching : K → K → Bool) where
   -- entries of lines that are right, from the empty fabric on
   pub record AreRight (lines : List (PlainLine K)) (entries : List (PlainEntry K)) : Type 0 where
-    pub faithful : IsFaithfulFrom cmp matching every_line lines entries empty_fabric
-    pub strict : IsStrictFrom cmp matching every_line lines entries empty_fabric
+    pub faithful : IsFaithfulFrom cmp matching lines entries empty_fabric
+    pub strict : IsStrictFrom cmp matching lines entries empty_fabric
     pub promises : Each (MeetsPromises cmp matching) (turns_from cmp matching lines entries empty_fabric)
     pub stricter_promises : Each (MeetsStricterPromises cmp matching) (turns_from cmp matching lines entries empty_fabric)
     pub tree_promises : KeepTreePromises cmp matching (turns_from cmp matching lines entries empty_fabric)
@@ -109,37 +108,37 @@ module _ {K : Type 0} (cmp : K → K → Ordering) (matching : K → K → Bool)
   module _ (total : IsTotalOrder cmp) (equal_is_same : (a b : K) → cmp a b ≡ Equal → a ≡ b) where
     -- The machine's are, where the first ids are at least 1 and interests carry named options alone.
     pub right_of_lines : (lines : List (PlainLine K)) → Each HasFirstIds lines → Each HasNamedOptions lines
-        → AreRight lines (entries_from cmp matching every_line lines empty_fabric)
+        → AreRight lines (entries_from cmp matching lines empty_fabric)
     right_of_lines lines real named =
         let sound = sound_start cmp matching in
         let ordered = in_order_empty cmp matching in
         record {
-          faithful = faithful_from cmp matching total equal_is_same every_line lines empty_fabric real named sound (record { gateways = tt; waiting = tt });
-          strict = strict_from cmp matching total equal_is_same every_line lines empty_fabric real sound;
-          promises = each_kept (turns_from cmp matching lines (entries_from cmp matching every_line lines empty_fabric) empty_fabric) (record {
-            exact = turns_exact cmp matching total equal_is_same every_line lines empty_fabric real sound;
-            sparing = turns_spare cmp matching total every_line lines empty_fabric real ordered;
-            future = future_told cmp matching total every_line lines empty_fabric real ordered;
-            asks = turns_answer cmp matching total equal_is_same every_line lines empty_fabric real ordered;
-            finals = turns_send_first cmp matching total equal_is_same every_line lines real;
-            upstream = turns_send cmp matching total equal_is_same every_line lines empty_fabric real ordered;
-            upstream_ends = turns_end cmp matching total every_line lines empty_fabric real ordered tt;
-            undeclarations = turns_untell cmp matching total equal_is_same every_line lines empty_fabric real ordered;
+          faithful = faithful_from cmp matching total equal_is_same lines empty_fabric real named sound (record { gateways = tt; waiting = tt });
+          strict = strict_from cmp matching total equal_is_same lines empty_fabric real sound;
+          promises = each_kept (turns_from cmp matching lines (entries_from cmp matching lines empty_fabric) empty_fabric) (record {
+            exact = turns_exact cmp matching total equal_is_same lines empty_fabric real sound;
+            sparing = turns_spare cmp matching total lines empty_fabric real ordered;
+            future = future_told cmp matching total lines empty_fabric real ordered;
+            asks = turns_answer cmp matching total equal_is_same lines empty_fabric real ordered;
+            finals = turns_send_first cmp matching total equal_is_same lines real;
+            upstream = turns_send cmp matching total equal_is_same lines empty_fabric real ordered;
+            upstream_ends = turns_end cmp matching total lines empty_fabric real ordered tt;
+            undeclarations = turns_untell cmp matching total equal_is_same lines empty_fabric real ordered;
           });
-          stricter_promises = each_kept_beside (turns_from cmp matching lines (entries_from cmp matching every_line lines empty_fabric) empty_fabric) (record {
-            sparing = turns_spare_more cmp matching total equal_is_same every_line lines empty_fabric real ordered;
-            future = routers_told cmp matching total every_line lines empty_fabric real ordered;
-            initial = turns_finish_initial cmp matching total every_line lines empty_fabric real ordered;
-            undeclarations = turns_undeclare_kept cmp matching total every_line lines empty_fabric real ordered;
-            ids = turns_draw cmp matching total every_line lines empty_fabric real ordered;
-            ends = turns_name cmp matching total every_line lines empty_fabric real ordered;
+          stricter_promises = each_kept_beside (turns_from cmp matching lines (entries_from cmp matching lines empty_fabric) empty_fabric) (record {
+            sparing = turns_spare_more cmp matching total equal_is_same lines empty_fabric real ordered;
+            future = routers_told cmp matching total lines empty_fabric real ordered;
+            initial = turns_finish_initial cmp matching total lines empty_fabric real ordered;
+            undeclarations = turns_undeclare_kept cmp matching total lines empty_fabric real ordered;
+            ids = turns_draw cmp matching total lines empty_fabric real ordered;
+            ends = turns_name cmp matching total lines empty_fabric real ordered;
           });
           tree_promises = λ trees.
               let agree = agree_at_first cmp matching in
               let none : IsTreeFabric empty_fabric = record { north = tt; clients = tt } in
               record {
-                knowledge = turns_know cmp matching total equal_is_same every_line lines empty_fabric real sound agree trees;
-                gets = gets_what_stays cmp matching total equal_is_same every_line lines empty_fabric real sound agree none trees;
-                gets_only = gets_only cmp matching total equal_is_same every_line lines empty_fabric real sound agree none trees;
+                knowledge = turns_know cmp matching total equal_is_same lines empty_fabric real sound agree trees;
+                gets = gets_what_stays cmp matching total equal_is_same lines empty_fabric real sound agree none trees;
+                gets_only = gets_only cmp matching total equal_is_same lines empty_fabric real sound agree none trees;
               };
         }

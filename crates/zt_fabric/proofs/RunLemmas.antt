@@ -19,7 +19,6 @@ use Rattle.zt_model.specs.Fabric.{Fabric, empty_fabric, entries_from}
 use Rattle.zt_model.specs.Transcript.{Each, report_of}
 use Rattle.zt_laws.specs.Sound.{HasFirstIds}
 use Rattle.zt_faithful.specs.Named.{HasNamedOptions}
-use Rattle.zt_links.specs.Lines.{every_line}
 use Rattle.zt_fabric.specs.Transcripts.{Answers, BeginsWith, FailedToRead, FailedToWrite, FoundTooMuch, IsTranscript, RanToItsEnd, most_bytes, streams}
 use Rattle.zt_fabric.specs.Carrying.{Carries, Ends, EndsInPart, Shows, StopsWriting, Writes, WritesUntil, no_totals, with_entries}
 use Rattle.zt_fabric.proofs.ReadLines.{first_ids_of, named_options_of}
@@ -119,9 +118,9 @@ module _ {K : Type 0} (cmp : K → K → Ordering) (matching : K → K → Bool)
   totals-from_none es = same_totals (zero-add _) (zero-add _) (zero-add _)
 
   -- The law: what the machine comes to on lines with first ids and named options is right.
-  module _ (law : (lines : List (PlainLine K)) → Each HasFirstIds lines → Each HasNamedOptions lines → AreRight cmp matching lines (entries_from cmp matching every_line lines empty_fabric)) where
+  module _ (law : (lines : List (PlainLine K)) → Each HasFirstIds lines → Each HasNamedOptions lines → AreRight cmp matching lines (entries_from cmp matching lines empty_fabric)) where
     transcript_of : (texts : List (List ℕ)) (text : List ℕ) (p : Shows cmp matching reading printed texts empty_fabric 1 text)
-        → IsTranscript cmp matching reading texts (entries_from cmp matching every_line p.lines empty_fabric)
+        → IsTranscript cmp matching reading texts (entries_from cmp matching p.lines empty_fabric)
     transcript_of texts text p =
         let right = law p.lines (first_ids_of reading texts p.lines p.are_read) (named_options_of reading texts p.lines p.are_read) in
         record { lines = p.lines; are_read = p.are_read; are_the_machines = refl; are_faithful = right.faithful; are_strict = right.strict; keep_promises = right.promises; keep_stricter_promises = right.stricter_promises; keep_tree_promises = right.tree_promises }
@@ -133,7 +132,7 @@ module _ {K : Type 0} (cmp : K → K → Ordering) (matching : K → K → Bool)
       pub is_text : text ≡ entries_text printed 1 entries
 
     told : (texts : List (List ℕ)) (text : List ℕ) → Shows cmp matching reading printed texts empty_fabric 1 text → Told texts text
-    told texts text p = record { entries = entries_from cmp matching every_line p.lines empty_fabric; transcript = transcript_of texts text p; is_text = p.is_text }
+    told texts text p = record { entries = entries_from cmp matching p.lines empty_fabric; transcript = transcript_of texts text p; is_text = p.is_text }
 
     -- the lines before were carried out, and of those behind them only some
     stopped_at : (left0 written0 left written left' written' : Option (List ℕ)) (s : Fabric K) (r : Report) (kept : List ℕ) (total rf0 rf wf0 wf wf' : ℕ) (e : RunError)
@@ -236,10 +235,10 @@ module _ {K : Type 0} (cmp : K → K → Ordering) (matching : K → K → Bool)
         (carries-behind cmp matching reading printed (last_line (rest_of kept)) s last r report text more q) in
         let all = subst (λ (ls : List (List ℕ)). Carries cmp matching reading printed ls empty_fabric no_totals [] last report (text ++ more)) (sym (lines-ended read kept is)) both in
         record {
-          entries = entries_from cmp matching every_line all.lines empty_fabric;
+          entries = entries_from cmp matching all.lines empty_fabric;
           transcript = transcript_of (lines_of read) (text ++ more) (record { lines = all.lines; are_read = all.are_read; is_text = all.text_is });
           is_text = all.text_is;
-          totals = all.totals_are ∙ totals-from_none (entries_from cmp matching every_line all.lines empty_fabric);
+          totals = all.totals_are ∙ totals-from_none (entries_from cmp matching all.lines empty_fabric);
         }
 
     ended : (left0 written0 left written written' : Option (List ℕ)) (s : Fabric K) (r report : Report) (kept : List ℕ) (total rf0 rf wf0 wf' : ℕ)

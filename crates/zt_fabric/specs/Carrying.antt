@@ -12,7 +12,6 @@ use Rattle.zt_wire.specs.Reading.{line_read}
 use Rattle.zt_wire.specs.Text.{entries_text, report_text}
 use Rattle.zt_model.specs.Fabric.{Fabric, entries_from, entry_of, fabric_after}
 use Rattle.zt_model.specs.Transcript.{messages_in, refusals_in}
-use Rattle.zt_links.specs.Lines.{every_line}
 
 -- ---- totals
 
@@ -38,7 +37,7 @@ module _ {K : Type 0} (cmp : K → K → Ordering) (matching : K → K → Bool)
   -- the fabric after these lines
   unfoldable pub fabric_from : List (PlainLine K) → Fabric K → Fabric K
   fabric_from [] s = s
-  fabric_from (line ∷ lines) s = fabric_from lines (fabric_after cmp matching line (entry_of cmp matching every_line line s) s)
+  fabric_from (line ∷ lines) s = fabric_from lines (fabric_after cmp matching line (entry_of cmp matching line s) s)
 
 module _ {K : Type 0} (cmp : K → K → Ordering) (matching : K → K → Bool) (reading : List ℕ → Result K KeyError) (printed : K → List ℕ) where
   -- These texts are lines, and from one fabric on the entries that they come to have this text, the first entry
@@ -46,7 +45,7 @@ module _ {K : Type 0} (cmp : K → K → Ordering) (matching : K → K → Bool)
   pub record Shows (texts : List (List ℕ)) (s : Fabric K) (number : ℕ) (text : List ℕ) : Type 0 where
     pub lines : List (PlainLine K)
     pub are_read : map (line_read reading) texts ≡ map (λ line. Ok line) lines
-    pub is_text : text ≡ entries_text printed number (entries_from cmp matching every_line lines s)
+    pub is_text : text ≡ entries_text printed number (entries_from cmp matching lines s)
 
   -- These texts are lines and were carried out: the fabric and the totals are those after them, and the text grew
   -- by that of their entries.
@@ -54,8 +53,8 @@ module _ {K : Type 0} (cmp : K → K → Ordering) (matching : K → K → Bool)
     pub lines : List (PlainLine K)
     pub are_read : map (line_read reading) texts ≡ map (λ line. Ok line) lines
     pub fabric_is : s' ≡ fabric_from cmp matching lines s
-    pub totals_are : r' ≡ with_entries (entries_from cmp matching every_line lines s) r
-    pub text_is : text' ≡ text ++ entries_text printed (r.lines + 1) (entries_from cmp matching every_line lines s)
+    pub totals_are : r' ≡ with_entries (entries_from cmp matching lines s) r
+    pub text_is : text' ≡ text ++ entries_text printed (r.lines + 1) (entries_from cmp matching lines s)
 
   -- These texts were carried out, and the text of their entries was written.
   pub record Writes (texts : List (List ℕ)) (s : Fabric K) (r : Report) (s' : Fabric K) (r' : Report) (old new : Option (List ℕ)) : Type 0 where

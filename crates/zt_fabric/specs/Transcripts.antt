@@ -16,7 +16,6 @@ use Rattle.zt_model.specs.Fabric.{empty_fabric, entries_from}
 use Rattle.zt_model.specs.Promises.{MeetsPromises, MeetsStricterPromises, turns_from}
 use Rattle.zt_model.specs.Transcript.{Each, IsFaithfulFrom, IsStrictFrom, report_of}
 use Rattle.zt_model.specs.TreePromises.{KeepTreePromises}
-use Rattle.zt_links.specs.Lines.{every_line}
 
 -- the most bytes of a script
 abbrev pub most_bytes : ℕ
@@ -50,9 +49,9 @@ module _ {K : Type 0} (cmp : K → K → Ordering) (matching : K → K → Bool)
   pub record IsTranscript (texts : List (List ℕ)) (entries : List (PlainEntry K)) : Type 0 where
     pub lines : List (PlainLine K)
     pub are_read : map (line_read reading) texts ≡ map (λ line. Ok line) lines
-    pub are_the_machines : entries ≡ entries_from cmp matching every_line lines empty_fabric
-    pub are_faithful : IsFaithfulFrom cmp matching every_line lines entries empty_fabric
-    pub are_strict : IsStrictFrom cmp matching every_line lines entries empty_fabric
+    pub are_the_machines : entries ≡ entries_from cmp matching lines empty_fabric
+    pub are_faithful : IsFaithfulFrom cmp matching lines entries empty_fabric
+    pub are_strict : IsStrictFrom cmp matching lines entries empty_fabric
     pub keep_promises : Each (MeetsPromises cmp matching) (turns_from cmp matching lines entries empty_fabric)
     pub keep_stricter_promises : Each (MeetsStricterPromises cmp matching) (turns_from cmp matching lines entries empty_fabric)
     pub keep_tree_promises : KeepTreePromises cmp matching (turns_from cmp matching lines entries empty_fabric)

@@ -25,7 +25,8 @@ pub struct Progress<K: Key> {
 // The line that the text is.
 fn good_line<K: Key>(alloc: Global, text: &[u8], number: u64) -> Result<Line<K>, RunError>
     ensures ok { IfOk result (λ line. line_read K.reading text.now ≡ Ok (plain_line line)) }
-    ensures err { IfErr result (λ error. LineStops K.cmp K.matching K.reading K.printed text.now number error) }
+    ensures err { IfErr result
+        (λ error. LineStops K.cmp K.matching K.reading K.printed text.now number error) }
 {
     match read_line(alloc, text) {
         Ok(line) => Ok(line),
@@ -53,10 +54,13 @@ pub fn carry_line<K: Key>(alloc: Global, run: &mut Progress<K>, line: &[u8]) -> 
     requires room { run.old.report.lines < SCRIPT_BYTES }
     requires range { IsInRange run.old.report }
     ensures ok { OnOk result (Carries K.cmp K.matching K.reading K.printed (line.now ∷ [])
-        run.old.fabric run.old.report (string_bytes run.old.text) run.new.fabric run.new.report (string_bytes run.new.text)) }
+        run.old.fabric run.old.report (string_bytes run.old.text) run.new.fabric run.new.report
+        (string_bytes run.new.text)) }
     ensures lines { OnOk result (run.new.report.lines ≡ run.old.report.lines + 1) }
     ensures range { OnOk result (IsInRange run.new.report) }
-    ensures err { IfErr result (λ error. LineStops K.cmp K.matching K.reading K.printed line.now (run.old.report.lines + 1) error) }
+    ensures err { IfErr result
+        (λ error. LineStops K.cmp K.matching K.reading K.printed line.now
+        (run.old.report.lines + 1) error) }
     ensures kept { OnErr result (string_bytes run.new.text ≡ string_bytes run.old.text) }
 {
     let number = run.report.lines + 1;
@@ -83,12 +87,16 @@ fn carry_lines<K: Key>(
     requires room { run.old.report.lines + length feeder.old ≤ SCRIPT_BYTES }
     requires range { IsInRange run.old.report }
     ensures ok { OnOk result (Carries K.cmp K.matching K.reading K.printed (whole_lines feeder.old)
-        run.old.fabric run.old.report (string_bytes run.old.text) run.new.fabric run.new.report (string_bytes run.new.text)) }
+        run.old.fabric run.old.report (string_bytes run.old.text) run.new.fabric run.new.report
+        (string_bytes run.new.text)) }
     ensures rest { OnOk result (feeder.new ≡ rest_of feeder.old) }
-    ensures lines { OnOk result (run.new.report.lines + length feeder.new ≤ run.old.report.lines + length feeder.old) }
+    ensures lines { OnOk result
+        (run.new.report.lines + length feeder.new ≤ run.old.report.lines + length feeder.old) }
     ensures range { OnOk result (IsInRange run.new.report) }
-    ensures err { IfErr result (λ error. Stops K.cmp K.matching K.reading K.printed (whole_lines feeder.old)
-        run.old.fabric (run.old.report.lines + 1) (string_bytes run.old.text) (string_bytes run.new.text) error) }
+    ensures err { IfErr result
+        (λ error. Stops K.cmp K.matching K.reading K.printed (whole_lines feeder.old)
+        run.old.fabric (run.old.report.lines + 1) (string_bytes run.old.text)
+        (string_bytes run.new.text) error) }
 {
     while let Some(line) = feeder.next_line() {
         if let Err(error) = carry_line(alloc, run, line) {
@@ -107,10 +115,14 @@ fn carry_rest<K: Key>(
     requires whole { whole_lines feeder.old ≡ [] }
     requires room { run.old.report.lines + length feeder.old ≤ SCRIPT_BYTES }
     requires range { IsInRange run.old.report }
-    ensures ok { OnOk result (Carries K.cmp K.matching K.reading K.printed (last_line (rest_of feeder.old))
-        run.old.fabric run.old.report (string_bytes run.old.text) run.new.fabric run.new.report (string_bytes run.new.text)) }
-    ensures err { IfErr result (λ error. Stops K.cmp K.matching K.reading K.printed (last_line (rest_of feeder.old))
-        run.old.fabric (run.old.report.lines + 1) (string_bytes run.old.text) (string_bytes run.new.text) error) }
+    ensures ok { OnOk result
+        (Carries K.cmp K.matching K.reading K.printed (last_line (rest_of feeder.old))
+        run.old.fabric run.old.report (string_bytes run.old.text) run.new.fabric run.new.report
+        (string_bytes run.new.text)) }
+    ensures err { IfErr result
+        (λ error. Stops K.cmp K.matching K.reading K.printed (last_line (rest_of feeder.old))
+        run.old.fabric (run.old.report.lines + 1) (string_bytes run.old.text)
+        (string_bytes run.new.text) error) }
 {
     let Some(line) = feeder.finish() else {
         return Ok(());
@@ -123,9 +135,11 @@ fn carry_rest<K: Key>(
 
 /// Writes the text, which is then empty. After an error a part of it was written.
 pub fn flush<T: Sink>(sink: &mut T, text: &mut String) -> Result<(), Failed>
-    ensures ok { OnOk result (Appends (T.written sink.old) (T.written sink.new) (string_bytes text.old)) }
+    ensures ok { OnOk result
+        (Appends (T.written sink.old) (T.written sink.new) (string_bytes text.old)) }
     ensures emptied { OnOk result (string_bytes text.new ≡ []) }
-    ensures part { OnErr result (AppendsPart (T.written sink.old) (T.written sink.new) (string_bytes text.old)) }
+    ensures part { OnErr result
+        (AppendsPart (T.written sink.old) (T.written sink.new) (string_bytes text.old)) }
     ensures fault { OnErr result (HasRisen (T.faults sink.old) (T.faults sink.new)) }
     ensures calm { OnOk result (T.faults sink.new ≡ T.faults sink.old) }
     ensures count { T.faults sink.old ≤ T.faults sink.new }
@@ -148,16 +162,24 @@ pub fn carry_piece<K: Key, T: Sink>(
     requires empty { string_bytes run.old.text ≡ [] }
     requires room { run.old.report.lines + (length feeder.old + length piece.now) ≤ SCRIPT_BYTES }
     requires range { IsInRange run.old.report }
-    ensures ok { OnOk result (Writes K.cmp K.matching K.reading K.printed (whole_lines (feeder.old ++ piece.now))
-        run.old.fabric run.old.report run.new.fabric run.new.report (T.written sink.old) (T.written sink.new)) }
+    ensures ok { OnOk result
+        (Writes K.cmp K.matching K.reading K.printed (whole_lines (feeder.old ++ piece.now))
+        run.old.fabric run.old.report run.new.fabric run.new.report (T.written sink.old)
+        (T.written sink.new)) }
     ensures rest { OnOk result (feeder.new ≡ rest_of (feeder.old ++ piece.now)) }
     ensures empty { OnOk result (string_bytes run.new.text ≡ []) }
-    ensures lines { OnOk result (run.new.report.lines + length feeder.new ≤ run.old.report.lines + (length feeder.old + length piece.now)) }
+    ensures lines { OnOk result
+        (run.new.report.lines + length feeder.new ≤ run.old.report.lines +
+        (length feeder.old + length piece.now)) }
     ensures range { OnOk result (IsInRange run.new.report) }
-    ensures err { IfErr result (λ error. StopsWriting K.cmp K.matching K.reading K.printed (whole_lines (feeder.old ++ piece.now))
-        run.old.fabric (run.old.report.lines + 1) (T.written sink.old) (T.written sink.new) (T.faults sink.old) (T.faults sink.new) error) }
+    ensures err { IfErr result
+        (λ error. StopsWriting K.cmp K.matching K.reading K.printed
+        (whole_lines (feeder.old ++ piece.now))
+        run.old.fabric (run.old.report.lines + 1) (T.written sink.old) (T.written sink.new)
+        (T.faults sink.old) (T.faults sink.new) error) }
     ensures calm { OnOk result (T.faults sink.new ≡ T.faults sink.old) }
-    ensures unfailed { IfErr result (λ error. (error ≡ RunError.WriteFault → ⊥) → T.faults sink.new ≡ T.faults sink.old) }
+    ensures unfailed { IfErr result
+        (λ error. (error ≡ RunError.WriteFault → ⊥) → T.faults sink.new ≡ T.faults sink.old) }
     ensures count { T.faults sink.old ≤ T.faults sink.new }
 {
     if feeder.feed(piece).is_err() {
@@ -181,13 +203,18 @@ pub fn carry_end<K: Key, T: Sink>(
     requires whole { whole_lines feeder.old ≡ [] }
     requires room { run.old.report.lines + length feeder.old ≤ SCRIPT_BYTES }
     requires range { IsInRange run.old.report }
-    ensures ok { OnOk result (Writes K.cmp K.matching K.reading K.printed (last_line (rest_of feeder.old))
-        run.old.fabric run.old.report run.new.fabric run.new.report (T.written sink.old) (T.written sink.new)) }
+    ensures ok { OnOk result
+        (Writes K.cmp K.matching K.reading K.printed (last_line (rest_of feeder.old))
+        run.old.fabric run.old.report run.new.fabric run.new.report (T.written sink.old)
+        (T.written sink.new)) }
     ensures empty { OnOk result (string_bytes run.new.text ≡ []) }
-    ensures err { IfErr result (λ error. StopsWriting K.cmp K.matching K.reading K.printed (last_line (rest_of feeder.old))
-        run.old.fabric (run.old.report.lines + 1) (T.written sink.old) (T.written sink.new) (T.faults sink.old) (T.faults sink.new) error) }
+    ensures err { IfErr result
+        (λ error. StopsWriting K.cmp K.matching K.reading K.printed (last_line (rest_of feeder.old))
+        run.old.fabric (run.old.report.lines + 1) (T.written sink.old) (T.written sink.new)
+        (T.faults sink.old) (T.faults sink.new) error) }
     ensures calm { OnOk result (T.faults sink.new ≡ T.faults sink.old) }
-    ensures unfailed { IfErr result (λ error. (error ≡ RunError.WriteFault → ⊥) → T.faults sink.new ≡ T.faults sink.old) }
+    ensures unfailed { IfErr result
+        (λ error. (error ≡ RunError.WriteFault → ⊥) → T.faults sink.new ≡ T.faults sink.old) }
     ensures count { T.faults sink.old ≤ T.faults sink.new }
 {
     let carried = carry_rest(alloc, feeder, run);

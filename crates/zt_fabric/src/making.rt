@@ -62,7 +62,8 @@ fn put_number(out: &mut String, number: u32) -> Result<(), Memory>
 
 fn put_declaring(out: &mut String, number: u32) -> Result<(), Memory>
     requires { number ≤ MOST }
-    ensures { OnOk result (string_bytes out.new ≡ string_bytes out.old ++ with_feed (declaring_line number)) }
+    ensures { OnOk result
+        (string_bytes out.new ≡ string_bytes out.old ++ with_feed (declaring_line number)) }
 {
     out.push_str("declare ")?;
     put_number(out, FACES_BEFORE + number)?;
@@ -73,7 +74,8 @@ fn put_declaring(out: &mut String, number: u32) -> Result<(), Memory>
 
 fn put_closing(out: &mut String, number: u32) -> Result<(), Memory>
     requires { number ≤ MOST }
-    ensures { OnOk result (string_bytes out.new ≡ string_bytes out.old ++ with_feed (closing_line number)) }
+    ensures { OnOk result
+        (string_bytes out.new ≡ string_bytes out.old ++ with_feed (closing_line number)) }
 {
     out.push_str("close ")?;
     put_number(out, FACES_BEFORE + number)?;
@@ -82,7 +84,10 @@ fn put_closing(out: &mut String, number: u32) -> Result<(), Memory>
 
 // Adds the lines in which a message goes on from the second client to the first.
 fn put_steps(out: &mut String) -> Result<(), Memory>
-    ensures { OnOk result (string_bytes out.new ≡ string_bytes out.old ++ (with_feed (codes "step 2 fwd") ++ with_feed (codes "step 1 back"))) }
+    ensures { OnOk result
+        (string_bytes out.new
+        ≡ string_bytes out.old ++
+        (with_feed (codes "step 2 fwd") ++ with_feed (codes "step 1 back"))) }
 {
     out.push_str("step 2 fwd\nstep 1 back\n")?;
     Ok(())
@@ -90,7 +95,8 @@ fn put_steps(out: &mut String) -> Result<(), Memory>
 
 fn put_coming(out: &mut String, number: u32) -> Result<(), Memory>
     requires { number ≤ MOST }
-    ensures { OnOk result (string_bytes out.new ≡ string_bytes out.old ++ text_of (coming_lines number)) }
+    ensures { OnOk result
+        (string_bytes out.new ≡ string_bytes out.old ++ text_of (coming_lines number)) }
 {
     put_line(out, "session 3")?;
     put_declaring(out, number)?;
@@ -99,7 +105,8 @@ fn put_coming(out: &mut String, number: u32) -> Result<(), Memory>
 
 fn put_going(out: &mut String, number: u32) -> Result<(), Memory>
     requires { number ≤ MOST }
-    ensures { OnOk result (string_bytes out.new ≡ string_bytes out.old ++ text_of (going_lines number)) }
+    ensures { OnOk result
+        (string_bytes out.new ≡ string_bytes out.old ++ text_of (going_lines number)) }
 {
     put_closing(out, number)?;
     put_steps(out)
@@ -116,7 +123,8 @@ fn put_first(out: &mut String) -> Result<(), Memory>
 
 fn put_all_coming(out: &mut String, number: u32) -> Result<(), Memory>
     requires { number ≤ MOST }
-    ensures { OnOk result (string_bytes out.new ≡ string_bytes out.old ++ text_of (lines_up_to coming_lines number)) }
+    ensures { OnOk result
+        (string_bytes out.new ≡ string_bytes out.old ++ text_of (lines_up_to coming_lines number)) }
 {
     for before in 0..number {
         put_coming(out, before + 1)?;
@@ -126,7 +134,8 @@ fn put_all_coming(out: &mut String, number: u32) -> Result<(), Memory>
 
 fn put_all_going(out: &mut String, number: u32) -> Result<(), Memory>
     requires { number ≤ MOST }
-    ensures { OnOk result (string_bytes out.new ≡ string_bytes out.old ++ text_of (lines_up_to going_lines number)) }
+    ensures { OnOk result
+        (string_bytes out.new ≡ string_bytes out.old ++ text_of (lines_up_to going_lines number)) }
 {
     for before in 0..number {
         put_going(out, before + 1)?;
@@ -190,7 +199,8 @@ impl Source for CalmSource {
 // The report of the script's transcript.
 fn made_report(alloc: Global, number: u32) -> Result<Report, RunError>
     requires { number ≤ MOST }
-    ensures ok { IfOk result (λ report. IsReportOf ⟦<KeyExpr as Ord>⟧.cmp ⟦<KeyExpr as Key>⟧.matching ⟦<KeyExpr as Key>⟧.reading (made_lines number) report) }
+    ensures ok { IfOk result
+        (λ report. IsReportOf ⟦<KeyExpr as Ord>⟧.cmp ⟦<KeyExpr as Key>⟧.matching ⟦<KeyExpr as Key>⟧.reading (made_lines number) report) }
     ensures err { IsOkUnless result RunError.Alloc }
 {
     let Ok(text) = made_script(alloc, number) else {
@@ -203,9 +213,12 @@ fn made_report(alloc: Global, number: u32) -> Result<Report, RunError>
 
 // Writes a report line.
 fn put_report<T: Sink>(alloc: Global, report: &Report, sink: &mut T) -> Result<(), RunError>
-    ensures ok { OnOk result (Appends (T.written sink.old) (T.written sink.new) (report_text report.now)) }
+    ensures ok { OnOk result
+        (Appends (T.written sink.old) (T.written sink.new) (report_text report.now)) }
     ensures calm { OnOk result (T.faults sink.new ≡ T.faults sink.old) }
-    ensures err { IfErr result (λ error. NotWritten (report_text report.now) (T.written sink.old) (T.written sink.new) (T.faults sink.old) (T.faults sink.new) error) }
+    ensures err { IfErr result
+        (λ error. NotWritten (report_text report.now) (T.written sink.old) (T.written sink.new)
+        (T.faults sink.old) (T.faults sink.new) error) }
 {
     let mut text = String::new(alloc);
     if write_report(&mut text, report).is_err() {

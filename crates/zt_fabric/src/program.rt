@@ -23,22 +23,31 @@ const UNKNOWN_WORDS: u8 = 64;
 /// writes the last line of the transcript alone. With other words the status is 64, and nothing is
 /// read or written.
 pub fn tool<S: Source, T: Sink>(alloc: Global, words: &[String], source: &mut S, sink: &mut T) -> u8
-    ensures runs { ask_to_run (map string_bytes words.now) ≡ true → (answer : Result Report RunError) × (result ≡ status_of answer)
+    ensures runs { ask_to_run (map string_bytes words.now) ≡ true
+        → (answer : Result Report RunError) × (result ≡ status_of answer)
         × Answers ⟦<KeyExpr as Ord>⟧.cmp ⟦<KeyExpr as Key>⟧.matching ⟦<KeyExpr as Key>⟧.reading ⟦<KeyExpr as Key>⟧.printed
         (streams (S.left source.old) (S.faults source.old) (T.written sink.old) (T.faults sink.old))
-        (streams (S.left source.new) (S.faults source.new) (T.written sink.new) (T.faults sink.new)) answer
-        × CountsFaults (streams (S.left source.old) (S.faults source.old) (T.written sink.old) (T.faults sink.old))
-        (streams (S.left source.new) (S.faults source.new) (T.written sink.new) (T.faults sink.new)) answer }
-    ensures complete { ask_to_run (map string_bytes words.now) ≡ true → GivesComplete ⟦<KeyExpr as Key>⟧.reading
+        (streams (S.left source.new) (S.faults source.new) (T.written sink.new)
+        (T.faults sink.new)) answer
+        × CountsFaults
         (streams (S.left source.old) (S.faults source.old) (T.written sink.old) (T.faults sink.old))
-        (streams (S.left source.new) (S.faults source.new) (T.written sink.new) (T.faults sink.new)) → (result ≡ 0) ⊎ (result ≡ 5) }
+        (streams (S.left source.new) (S.faults source.new) (T.written sink.new)
+        (T.faults sink.new)) answer }
+    ensures complete { ask_to_run (map string_bytes words.now) ≡ true
+        → GivesComplete ⟦<KeyExpr as Key>⟧.reading
+        (streams (S.left source.old) (S.faults source.old) (T.written sink.old) (T.faults sink.old))
+        (streams (S.left source.new) (S.faults source.new) (T.written sink.new)
+        (T.faults sink.new)) → (result ≡ 0) ⊎ (result ≡ 5) }
     ensures reads { S.reads source.new ≤ S.reads source.old + 1048577 }
-    ensures makes { (number : ℕ) → number_to_make (map string_bytes words.now) ≡ Some number → (answer : Result Report RunError) × (result ≡ status_of answer)
+    ensures makes { (number : ℕ) → number_to_make (map string_bytes words.now) ≡ Some number
+        → (answer : Result Report RunError) × (result ≡ status_of answer)
         × WritesReport ⟦<KeyExpr as Ord>⟧.cmp ⟦<KeyExpr as Key>⟧.matching ⟦<KeyExpr as Key>⟧.reading (made_lines number)
         (T.written sink.old) (T.written sink.new) (T.faults sink.old) (T.faults sink.new) answer }
-    ensures unknown { ask_to_run (map string_bytes words.now) ≡ false → number_to_make (map string_bytes words.now) ≡ None → result ≡ 64 }
+    ensures unknown { ask_to_run (map string_bytes words.now) ≡ false
+        → number_to_make (map string_bytes words.now) ≡ None → result ≡ 64 }
     ensures unread { ask_to_run (map string_bytes words.now) ≡ false → source.new ≡ source.old }
-    ensures unwritten { ask_to_run (map string_bytes words.now) ≡ false → number_to_make (map string_bytes words.now) ≡ None → sink.new ≡ sink.old }
+    ensures unwritten { ask_to_run (map string_bytes words.now) ≡ false
+        → number_to_make (map string_bytes words.now) ≡ None → sink.new ≡ sink.old }
 {
     if asks_to_run(words) {
         let answer = run::<KeyExpr, S, T>(alloc, source, sink);

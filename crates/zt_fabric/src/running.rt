@@ -28,12 +28,17 @@ fn finish<K: Key, T: Sink>(
     requires whole { whole_lines feeder.old ≡ [] }
     requires room { run.old.report.lines + length feeder.old ≤ SCRIPT_BYTES }
     requires range { IsInRange run.old.report }
-    ensures ok { IfOk result (λ report. Ends K.cmp K.matching K.reading K.printed (last_line (rest_of feeder.old))
+    ensures ok { IfOk result
+        (λ report. Ends K.cmp K.matching K.reading K.printed (last_line (rest_of feeder.old))
         run.old.fabric run.old.report report (T.written sink.old) (T.written sink.new)) }
-    ensures err { IfErr result (λ error. StopsWriting K.cmp K.matching K.reading K.printed (last_line (rest_of feeder.old))
-        run.old.fabric (run.old.report.lines + 1) (T.written sink.old) (T.written sink.new) (T.faults sink.old) (T.faults sink.new) error
-        ⊎ ((error ≡ RunError.WriteFault) × EndsInPart K.cmp K.matching K.reading K.printed (last_line (rest_of feeder.old))
-        run.old.fabric run.old.report (T.written sink.old) (T.written sink.new) (T.faults sink.old) (T.faults sink.new))) }
+    ensures err { IfErr result
+        (λ error. StopsWriting K.cmp K.matching K.reading K.printed (last_line (rest_of feeder.old))
+        run.old.fabric (run.old.report.lines + 1) (T.written sink.old) (T.written sink.new)
+        (T.faults sink.old) (T.faults sink.new) error
+        ⊎ ((error ≡ RunError.WriteFault)
+        × EndsInPart K.cmp K.matching K.reading K.printed (last_line (rest_of feeder.old))
+        run.old.fabric run.old.report (T.written sink.old) (T.written sink.new) (T.faults sink.old)
+        (T.faults sink.new))) }
     ensures calm { (result ≡ Err RunError.WriteFault → ⊥) → T.faults sink.new ≡ T.faults sink.old }
     ensures count { T.faults sink.old ≤ T.faults sink.new }
 {
@@ -66,13 +71,16 @@ pub fn run<K: Key, S: Source, T: Sink>(
 ) -> Result<Report, RunError>
     ensures answers { Answers K.cmp K.matching K.reading K.printed
         (streams (S.left source.old) (S.faults source.old) (T.written sink.old) (T.faults sink.old))
-        (streams (S.left source.new) (S.faults source.new) (T.written sink.new) (T.faults sink.new)) result }
+        (streams (S.left source.new) (S.faults source.new) (T.written sink.new)
+        (T.faults sink.new)) result }
     ensures complete { GivesComplete K.reading
         (streams (S.left source.old) (S.faults source.old) (T.written sink.old) (T.faults sink.old))
-        (streams (S.left source.new) (S.faults source.new) (T.written sink.new) (T.faults sink.new)) → IsOkUnless result RunError.Alloc }
+        (streams (S.left source.new) (S.faults source.new) (T.written sink.new)
+        (T.faults sink.new)) → IsOkUnless result RunError.Alloc }
     ensures faults { CountsFaults
         (streams (S.left source.old) (S.faults source.old) (T.written sink.old) (T.faults sink.old))
-        (streams (S.left source.new) (S.faults source.new) (T.written sink.new) (T.faults sink.new)) result }
+        (streams (S.left source.new) (S.faults source.new) (T.written sink.new)
+        (T.faults sink.new)) result }
     ensures reads { S.reads source.new ≤ S.reads source.old + MOST_READS }
 {
     let mut feeder = Feeder::new(alloc);

@@ -47,6 +47,14 @@ impl<X: Drop> RowsById<X> {
         self.rows.get(&id)
     }
 
+    /// The same, beside that rows stand in order of id.
+    pub fn find(&self, id: u32) -> Option<&X>
+        ensures row { option_copied result ≡ at_id id self.now }
+        ensures ordered { IsInOrder self.now }
+    {
+        self.rows.get(&id)
+    }
+
     /// Whether a row stands under the id.
     pub fn has(&self, id: u32) -> bool
         ensures { result ≡ has_id id self.now }

@@ -4,7 +4,7 @@ use Rattle.std.specs.declared.cmp.Ordering.{Ordering}
 use Rattle.zt_protocol.specs.Plain.{PlainCall, NewSession, NewTransport, DeclareToken, UndeclareToken, Interest, InterestFinal, DeclareFinal, CloseFace, Expire, SetTrees, SetEntities, PlainLine, Gateway, Session, Face as FaceLine, Link as LinkLine, Unlink, Step, Speak, Moment, SetTreesAt}
 use Rattle.zt_protocol.specs.declared.errors.Refusal.{Refusal}
 use Rattle.zt_protocol.specs.declared.errors.Refusal.TheVariants as refusal
-use Rattle.zt_model.specs.Fabric.{CallAt, Fabric, built_causes, call_of, causes_of_call, is_full}
+use Rattle.zt_model.specs.Fabric.{CallAt, Fabric, line_causes, call_of, causes_of_call, is_full}
 use Rattle.zt_model.specs.Refusals.{Causes, call_causes, can_draw, first_cause}
 use Rattle.zt_model.specs.Rows.{Rows}
 use Rattle.zt_model.specs.Transcript.{comes_to_ids}
@@ -88,8 +88,8 @@ module _ {K : Type 0} (cmp : K → K → Ordering) (matching : K → K → Bool)
       (subst (AreBeside (causes_of_call cmp matching false at ++ [])) (append-nil (causes_of_call cmp matching true at)) (of_call_beside at [] late_none))
 
   -- The causes of a line.
-  pub line_beside : (line : PlainLine K) (s : Fabric K) → AreBeside (built_causes cmp matching false line s) (built_causes cmp matching true line s)
-  unfolding built_causes
+  pub line_beside : (line : PlainLine K) (s : Fabric K) → AreBeside (line_causes cmp matching false line s) (line_causes cmp matching true line s)
+  unfolding line_causes
   line_beside (Gateway mode zid regions south name timeout refused) s = beside_more _ _ _ _ (λ h. cc) (beside_more _ _ _ _ (λ h. cc) (beside_late _ (late_numbers _ [] late_none)))
   line_beside (Session n first) s = beside_more _ _ _ _ (λ h. cc) (beside_late _ (late_numbers _ [] late_none))
   line_beside (FaceLine n mode zid region bound first) s =

@@ -8,7 +8,7 @@ use Rattle.zt_region.specs.Tables.{RegionAnswer}
 use Rattle.zt_region.specs.Region.{is_north, whatami_eq}
 use Rattle.zt_protocol.specs.Plain.{PlainCall, NewSession, NewTransport, DeclareToken, UndeclareToken, Interest, InterestFinal, DeclareFinal, CloseFace, Expire, SetTrees, SetEntities, PlainLine, Gateway, Session, Face as FaceLine, Link as LinkLine, Unlink, Step, Speak, Moment, SetTreesAt}
 use Rattle.zt_protocol.specs.declared.errors.Refusal.TheVariants as refusal
-use Rattle.zt_model.specs.Fabric.{CallAt, Fabric, Node, built_causes, call_at, call_face, call_of, call_of_face, call_of_step, causes_of_call, is_linked_face, is_full, is_open_link, is_south_router, is_unknown_gateway, number_of_place, table_at}
+use Rattle.zt_model.specs.Fabric.{CallAt, Fabric, Node, line_causes, call_at, call_face, call_of, call_of_face, call_of_step, causes_of_call, is_linked_face, is_full, is_open_link, is_south_router, is_unknown_gateway, number_of_place, table_at}
 use Rattle.zt_model.specs.Linking.{LinkEnd, climbs_to, closes_loop, end_region, gateway_above, gateway_beyond, is_answer, is_end, is_refused_end, link_ends, oldest}
 use Rattle.zt_model.specs.Lists.{first_where, is_some_and, nth}
 use Rattle.zt_model.specs.Refusals.{Causes, call_causes, is_north_taken, GREATEST_NUMBER}
@@ -118,8 +118,8 @@ module _ {K : Type 0} (cmp : K → K → Ordering) (matching : K → K → Bool)
   full_shown s = ap (λ n. nat_le GREATEST_NUMBER n) (length-map s.gateways node_shown)
 
   -- The causes of a line are the same, as a transcript shows the fabric.
-  pub causes_shown : (spent : Bool) (line : PlainLine K) (s : Fabric K) → built_causes cmp matching spent line (as_shown s) ≡ built_causes cmp matching spent line s
-  unfolding built_causes call_of end_region end_shown
+  pub causes_shown : (spent : Bool) (line : PlainLine K) (s : Fabric K) → line_causes cmp matching spent line (as_shown s) ≡ line_causes cmp matching spent line s
+  unfolding line_causes call_of end_region end_shown
   causes_shown spent (Gateway mode zid regions south name timeout refused) s =
       ap
       (λ (b : Bool).

@@ -15,7 +15,7 @@ use Rattle.zt_protocol.specs.Plain.{PlainCall, NewSession, NewTransport, Expire,
 use Rattle.zt_protocol.specs.declared.errors.Refusal.{Refusal}
 use Rattle.zt_protocol.specs.declared.errors.Refusal.TheVariants as refusal
 use Rattle.zt_protocol.specs.declared.messages.Message.{Message}
-use Rattle.zt_model.specs.Fabric.{CallAt, Fabric, Node, at_nth, built_causes, call_at, call_face, call_of, call_of_step, causes_of_call, entries_from, entry_by, entry_of, is_full, line_causes, line_spends_ids, opening_at, opening_calls, said_by_line, sorted_by_face, table_at, with_place, with_rows, with_session}
+use Rattle.zt_model.specs.Fabric.{CallAt, Fabric, Node, at_nth, line_causes, call_at, call_face, call_of, call_of_step, causes_of_call, entries_from, entry_by, entry_of, is_full, line_causes, line_spends_ids, opening_at, opening_calls, said_by_line, sorted_by_face, table_at, with_place, with_rows, with_session}
 use Rattle.zt_model.specs.Linking.{LinkEnd, link_ends, with_link}
 use Rattle.zt_model.specs.Lists.{is_some_and, nth}
 use Rattle.zt_model.specs.Places.{Link}
@@ -49,9 +49,9 @@ use Rattle.zt_faithful.proofs.Spends.{CouldAt, Goes, goes_made, goes_none}
 module _ {K : Type 0} (cmp : K → K → Ordering) (matching : K → K → Bool) where
   module _ (total : IsTotalOrder cmp) (equal_is_same : (a b : K) → cmp a b ≡ Equal → a ≡ b) where
     -- The line's own call could spend the ids.
-    line_could : (line : PlainLine K) (s : Fabric K) → HasFirstIds line → EachGatewayIs cmp matching (IsSound cmp matching) s → first_cause (built_causes cmp matching true line s) ≡ Some refusal.IdsSpent
+    line_could : (line : PlainLine K) (s : Fabric K) → HasFirstIds line → EachGatewayIs cmp matching (IsSound cmp matching) s → first_cause (line_causes cmp matching true line s) ≡ Some refusal.IdsSpent
         → line_spends_ids cmp matching line s ≡ true → line_could_spend_ids cmp matching line (as_shown s) ≡ true
-    unfolding built_causes call_of
+    unfolding line_causes call_of
     line_could (Gateway mode zid regions south name timeout refused) s real sound first spent = never spent refl
     line_could (Session n ids) s real sound first spent = absurd ((line_beside cmp matching (Session n ids) s).apart first)
     line_could (FaceLine n mode zid region bound ids) s real sound first spent =
@@ -225,44 +225,38 @@ module _ {K : Type 0} (cmp : K → K → Ordering) (matching : K → K → Bool)
     Sound s = EachGatewayIs cmp matching (IsSound cmp matching) s
 
     -- The machine's entry is a refusal exactly by the first cause of its line, as a transcript shows it.
-    refused_by_cause : (is_built : PlainLine K → Bool) (line : PlainLine K) (s : Fabric K) → HasFirstIds line → Sound s → IsRefusedByCause cmp matching is_built line (entry_of cmp matching is_built line s) (as_shown s)
+    refused_by_cause : (line : PlainLine K) (s : Fabric K) → HasFirstIds line → Sound s → IsRefusedByCause cmp matching line (entry_of cmp matching line s) (as_shown s)
     unfolding entry_of first_cause
-    refused_by_cause is_built line s real sound =
-        by_test (is_built line)
-        (λ built. rw built (by_test (line_spends_ids cmp matching line s) (spent built) (enough built)))
-        (λ unbuilt. rw unbuilt (inl (rw unbuilt refl)))
+    refused_by_cause line s real sound = by_test (line_spends_ids cmp matching line s) spent enough
       where
         causes : Bool → Option Refusal
-        causes b = first_cause (built_causes cmp matching b line s)
+        causes b = first_cause (line_causes cmp matching b line s)
 
         Right : Option Refusal → Type 0
-        Right o = IsRefusedByCause cmp matching is_built line (entry_by cmp matching o (sorted_by_face (said_by_line cmp matching line s))) (as_shown s)
+        Right o = IsRefusedByCause cmp matching line (entry_by cmp matching o (sorted_by_face (said_by_line cmp matching line s))) (as_shown s)
 
-        of_built : is_built line ≡ true → (b : Bool) → first_cause (line_causes cmp matching is_built b line (as_shown s)) ≡ causes b
-        of_built built b = rw built (ap first_cause (causes_shown cmp matching b line s))
+        shown : (b : Bool) → first_cause (line_causes cmp matching b line (as_shown s)) ≡ causes b
+        shown b = ap first_cause (causes_shown cmp matching b line s)
 
-        by_first : is_built line ≡ true → (o : Option Refusal) → causes false ≡ o → Right o
-        by_first built None is = of_built built false ∙ is
-        by_first built (Some r) is = inl (of_built built false ∙ is)
+        by_first : (o : Option Refusal) → causes false ≡ o → Right o
+        by_first None is = shown false ∙ is
+        by_first (Some r) is = inl (shown false ∙ is)
 
-        enough : is_built line ≡ true → line_spends_ids cmp matching line s ≡ false → Right (causes (line_spends_ids cmp matching line s))
-        enough built h = subst (λ b. Right (causes b)) (sym h) (by_first built (causes false) refl)
+        enough : line_spends_ids cmp matching line s ≡ false → Right (causes (line_spends_ids cmp matching line s))
+        enough h = subst (λ b. Right (causes b)) (sym h) (by_first (causes false) refl)
 
-        spent : is_built line ≡ true → line_spends_ids cmp matching line s ≡ true → Right (causes (line_spends_ids cmp matching line s))
-        spent built h =
+        spent : line_spends_ids cmp matching line s ≡ true → Right (causes (line_spends_ids cmp matching line s))
+        spent h =
             subst (λ b. Right (causes b)) (sym h)
             (⊎_elim
-            (λ same_. by_first built (causes true) (sym same_))
-            (λ ids. subst Right (sym ids.0) (inr (refl, ap comes_to_ids (of_built built false) ∙ ids.1, line_may_lack line (as_shown s) (line_could total equal_is_same line s real sound ids.0 h))))
+            (λ same_. by_first (causes true) (sym same_))
+            (λ ids. subst Right (sym ids.0) (inr (refl, ap comes_to_ids (shown false) ∙ ids.1, line_may_lack line (as_shown s) (line_could total equal_is_same line s real sound ids.0 h))))
             (line_beside cmp matching line s).only)
 
     -- Too few ids are left only for the line's own call.
-    lacks_by_call : (is_built : PlainLine K → Bool) (line : PlainLine K) (s : Fabric K) → HasFirstIds line → Sound s → LacksIdsByCall cmp matching is_built line (entry_of cmp matching is_built line s) (as_shown s)
+    lacks_by_call : (line : PlainLine K) (s : Fabric K) → HasFirstIds line → Sound s → LacksIdsByCall cmp matching line (entry_of cmp matching line s) (as_shown s)
     unfolding entry_of first_cause
-    lacks_by_call is_built line s real sound spent =
-        by_test (is_built line)
-        (λ built. by_spent built (line_spends_ids cmp matching line s) refl (rw built at spent))
-        (λ unbuilt. let bad : Err refusal.NotBuilt ≡ Err refusal.IdsSpent = rw unbuilt at spent in cc)
+    lacks_by_call line s real sound spent = by_spent (line_spends_ids cmp matching line s) refl spent
       where
         Entry : Option Refusal → PlainEntry K
         Entry o = entry_by cmp matching o (sorted_by_face (said_by_line cmp matching line s))
@@ -271,21 +265,21 @@ module _ {K : Type 0} (cmp : K → K → Ordering) (matching : K → K → Bool)
         by_entry None e = cc
         by_entry (Some r) e = cc
 
-        by_spent : is_built line ≡ true → (b : Bool) → line_spends_ids cmp matching line s ≡ b → Entry (first_cause (built_causes cmp matching b line s)) ≡ Err refusal.IdsSpent
-            → (first_cause (line_causes cmp matching is_built true line (as_shown s)) ≡ Some refusal.IdsSpent) × (line_could_spend_ids cmp matching line (as_shown s) ≡ true)
-        by_spent built true is e =
-            let first = by_entry (first_cause (built_causes cmp matching true line s)) e in
-            (rw built (ap first_cause (causes_shown cmp matching true line s) ∙ first), line_could total equal_is_same line s real sound first is)
-        by_spent built false is e = absurd ((line_beside cmp matching line s).apart (by_entry (first_cause (built_causes cmp matching false line s)) e))
+        by_spent : (b : Bool) → line_spends_ids cmp matching line s ≡ b → Entry (first_cause (line_causes cmp matching b line s)) ≡ Err refusal.IdsSpent
+            → (first_cause (line_causes cmp matching true line (as_shown s)) ≡ Some refusal.IdsSpent) × (line_could_spend_ids cmp matching line (as_shown s) ≡ true)
+        by_spent true is e =
+            let first = by_entry (first_cause (line_causes cmp matching true line s)) e in
+            (ap first_cause (causes_shown cmp matching true line s) ∙ first, line_could total equal_is_same line s real sound first is)
+        by_spent false is e = absurd ((line_beside cmp matching line s).apart (by_entry (first_cause (line_causes cmp matching false line s)) e))
 
-    pub turns_refused_by_cause : (is_built : PlainLine K → Bool) (lines : List (PlainLine K)) (s : Fabric K) → Each HasFirstIds lines → Sound s
-        → Each (λ t. IsRefusedByCause cmp matching is_built t.line t.entry t.before) (turns_from cmp matching lines (entries_from cmp matching is_built lines s) (as_shown s))
-    turns_refused_by_cause is_built lines s real sound =
-        turns_have cmp matching total is_built (λ t. IsRefusedByCause cmp matching is_built t.line t.entry t.before) Sound
-        (λ line x first fine holds. (refused_by_cause is_built line x first holds, sound_after_line cmp matching total equal_is_same is_built line x first holds)) lines s real sound.order sound
+    pub turns_refused_by_cause : (lines : List (PlainLine K)) (s : Fabric K) → Each HasFirstIds lines → Sound s
+        → Each (λ t. IsRefusedByCause cmp matching t.line t.entry t.before) (turns_from cmp matching lines (entries_from cmp matching lines s) (as_shown s))
+    turns_refused_by_cause lines s real sound =
+        turns_have cmp matching total (λ t. IsRefusedByCause cmp matching t.line t.entry t.before) Sound
+        (λ line x first fine holds. (refused_by_cause line x first holds, sound_after_line cmp matching total equal_is_same line x first holds)) lines s real sound.order sound
 
-    pub turns_lack_by_call : (is_built : PlainLine K → Bool) (lines : List (PlainLine K)) (s : Fabric K) → Each HasFirstIds lines → Sound s
-        → Each (λ t. LacksIdsByCall cmp matching is_built t.line t.entry t.before) (turns_from cmp matching lines (entries_from cmp matching is_built lines s) (as_shown s))
-    turns_lack_by_call is_built lines s real sound =
-        turns_have cmp matching total is_built (λ t. LacksIdsByCall cmp matching is_built t.line t.entry t.before) Sound
-        (λ line x first fine holds. (lacks_by_call is_built line x first holds, sound_after_line cmp matching total equal_is_same is_built line x first holds)) lines s real sound.order sound
+    pub turns_lack_by_call : (lines : List (PlainLine K)) (s : Fabric K) → Each HasFirstIds lines → Sound s
+        → Each (λ t. LacksIdsByCall cmp matching t.line t.entry t.before) (turns_from cmp matching lines (entries_from cmp matching lines s) (as_shown s))
+    turns_lack_by_call lines s real sound =
+        turns_have cmp matching total (λ t. LacksIdsByCall cmp matching t.line t.entry t.before) Sound
+        (λ line x first fine holds. (lacks_by_call line x first holds, sound_after_line cmp matching total equal_is_same line x first holds)) lines s real sound.order sound

@@ -308,26 +308,26 @@ module _ {K : Type 0} (cmp : K → K → Ordering) (matching : K → K → Bool)
   fine_as_shown : (s : Fabric K) → Fine (as_shown s) → Fine s
   fine_as_shown s all = record { gateways = each_of_map (λ (x : Node K). HoldNamedOptions x.rows) node_shown s.gateways all.gateways; waiting = all.waiting }
 
-  entry_named : (is_built : PlainLine K → Bool) (line : PlainLine K) (s : Fabric K) → HasNamedOptions line → Fine s → Prints (messages_of (entry_of cmp matching is_built line s))
+  entry_named : (line : PlainLine K) (s : Fabric K) → HasNamedOptions line → Fine s → Prints (messages_of (entry_of cmp matching line s))
   unfolding entry_of
-  entry_named is_built line s named all = cases (first_cause (line_causes cmp matching is_built (line_spends_ids cmp matching line s) line s))
+  entry_named line s named all = cases (first_cause (line_causes cmp matching (line_spends_ids cmp matching line s) line s))
     where
       cases : (o : Option Refusal) → (let ms = sorted_by_face (said_by_line cmp matching line s) in Prints (messages_of (entry_by cmp matching o ms)))
       cases None = sorted_each (λ m. has_named_options m.message ≡ true) (said_by_line cmp matching line s) (line_prints_named line s named all)
       cases (Some r) = tt
 
   module _ (total : IsTotalOrder cmp) where
-    pub fine_after_line : (is_built : PlainLine K → Bool) (line : PlainLine K) (s : Fabric K) → HasNamedOptions line → FabricIsInOrder cmp matching s → Fine s → Fine (fabric_after cmp matching line (entry_of cmp matching is_built line s) s)
-    fine_after_line is_built line s named fine all =
-        let entry = entry_of cmp matching is_built line s in
+    pub fine_after_line : (line : PlainLine K) (s : Fabric K) → HasNamedOptions line → FabricIsInOrder cmp matching s → Fine s → Fine (fabric_after cmp matching line (entry_of cmp matching line s) s)
+    fine_after_line line s named fine all =
+        let entry = entry_of cmp matching line s in
         fine_as_shown (fabric_after cmp matching line entry s)
-        (subst Fine (fabric_is_shown cmp matching total is_built line s fine) (fine_entry line entry (as_shown s) named (entry_named is_built line s named all) (as_shown_fine s all)))
+        (subst Fine (fabric_is_shown cmp matching total line s fine) (fine_entry line entry (as_shown s) named (entry_named line s named all) (as_shown_fine s all)))
 
     -- What is printed for a line is an entry.
-    pub is_entry : (is_built : PlainLine K → Bool) (line : PlainLine K) (s : Fabric K) → HasNamedOptions line → Fine s → IsEntry (entry_of cmp matching is_built line s)
-    is_entry is_built line s named all =
-        let entry = entry_of cmp matching is_built line s in
+    pub is_entry : (line : PlainLine K) (s : Fabric K) → HasNamedOptions line → Fine s → IsEntry (entry_of cmp matching line s)
+    is_entry line s named all =
+        let entry = entry_of cmp matching line s in
         record {
-          in_order = entry_in_order cmp matching is_built line s;
-          named_options = all_of_each (λ m. has_named_options m.message) (messages_of entry) (entry_named is_built line s named all);
+          in_order = entry_in_order cmp matching line s;
+          named_options = all_of_each (λ m. has_named_options m.message) (messages_of entry) (entry_named line s named all);
         }

@@ -74,7 +74,7 @@ module _ {K : Type 0} (cmp : K → K → Ordering) (matching : K → K → Bool)
       each_weaker (IsOpen X.faces hs) (NamesOpenFace t.after) (λ m open_. names_open X.faces hs t.after m is.after_places is.after_gateways open_) (messages_of t.entry) is.comes
 
   -- Each message of a turn names an open face and its gateway.
-  pub turns_name_open : (is_built : PlainLine K → Bool) (lines : List (PlainLine K)) (s : Fabric K) → Each HasFirstIds lines → FabricIsInOrder cmp matching s
-      → Each (λ t. NamesOpenFaces t.entry t.after) (turns_from cmp matching lines (entries_from cmp matching is_built lines s) (as_shown s))
-  turns_name_open is_built lines s real fine =
-      turns_show cmp matching total (λ s. Unit {0}) AllOpen named_of_calls (λ t. NamesOpenFaces t.entry t.after) names_shown is_built (λ line x first ordered _. tt) lines s real fine tt
+  pub turns_name_open : (lines : List (PlainLine K)) (s : Fabric K) → Each HasFirstIds lines → FabricIsInOrder cmp matching s
+      → Each (λ t. NamesOpenFaces t.entry t.after) (turns_from cmp matching lines (entries_from cmp matching lines s) (as_shown s))
+  turns_name_open lines s real fine =
+      turns_show cmp matching total (λ s. Unit {0}) AllOpen named_of_calls (λ t. NamesOpenFaces t.entry t.after) names_shown (λ line x first ordered _. tt) lines s real fine tt

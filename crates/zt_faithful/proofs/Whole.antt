@@ -22,46 +22,46 @@ use Rattle.zt_faithful.proofs.Naming.{turns_name_open}
 
 module _ {K : Type 0} (cmp : K → K → Ordering) (matching : K → K → Bool) where
   -- what is printed at each turn is an entry
-  pub turns_are_entries : IsTotalOrder cmp → (is_built : PlainLine K → Bool) (lines : List (PlainLine K)) (s : Fabric K) → Each HasFirstIds lines → Each HasNamedOptions lines → FabricIsInOrder cmp matching s → FabricHasNamedOptions s
-      → Each (λ t. IsEntry t.entry) (turns_from cmp matching lines (entries_from cmp matching is_built lines s) (as_shown s))
+  pub turns_are_entries : IsTotalOrder cmp → (lines : List (PlainLine K)) (s : Fabric K) → Each HasFirstIds lines → Each HasNamedOptions lines → FabricIsInOrder cmp matching s → FabricHasNamedOptions s
+      → Each (λ t. IsEntry t.entry) (turns_from cmp matching lines (entries_from cmp matching lines s) (as_shown s))
   unfolding turns_from entries_from
-  turns_are_entries total is_built [] s real named fine all = tt
-  turns_are_entries total is_built (line ∷ lines) s real named fine all =
-      let next = fabric_after cmp matching line (entry_of cmp matching is_built line s) s in (
-        is_entry cmp matching total is_built line s named.0 all,
-        subst (λ (after : Fabric K). Each (λ t. IsEntry t.entry) (turns_from cmp matching lines (entries_from cmp matching is_built lines next) after)) (sym (fabric_is_shown cmp matching total is_built line s fine))
-            (turns_are_entries total is_built lines next real.1 named.1 (in_order_after_line cmp matching total is_built line s real.0 fine) (fine_after_line cmp matching total is_built line s named.0 fine all)),
+  turns_are_entries total [] s real named fine all = tt
+  turns_are_entries total (line ∷ lines) s real named fine all =
+      let next = fabric_after cmp matching line (entry_of cmp matching line s) s in (
+        is_entry cmp matching total line s named.0 all,
+        subst (λ (after : Fabric K). Each (λ t. IsEntry t.entry) (turns_from cmp matching lines (entries_from cmp matching lines next) after)) (sym (fabric_is_shown cmp matching total line s fine))
+            (turns_are_entries total lines next real.1 named.1 (in_order_after_line cmp matching total line s real.0 fine) (fine_after_line cmp matching total line s named.0 fine all)),
       )
 
   -- A transcript is faithful whose turns are.
-  faithful_by_turns : (is_built : PlainLine K → Bool) (lines : List (PlainLine K)) (s A : Fabric K)
-      → (let ts = turns_from cmp matching lines (entries_from cmp matching is_built lines s) A in
-      Each (λ t. IsRefusedByCause cmp matching is_built t.line t.entry t.before) ts → Each (λ t. IsEntry t.entry) ts → Each (λ t. AllKeepWhatTheyShould cmp matching t.after) ts
-      → IsFaithfulFrom cmp matching is_built lines (entries_from cmp matching is_built lines s) A)
+  faithful_by_turns : (lines : List (PlainLine K)) (s A : Fabric K)
+      → (let ts = turns_from cmp matching lines (entries_from cmp matching lines s) A in
+      Each (λ t. IsRefusedByCause cmp matching t.line t.entry t.before) ts → Each (λ t. IsEntry t.entry) ts → Each (λ t. AllKeepWhatTheyShould cmp matching t.after) ts
+      → IsFaithfulFrom cmp matching lines (entries_from cmp matching lines s) A)
   unfolding turns_from entries_from
-  faithful_by_turns is_built [] s A causes entries keep = tt
-  faithful_by_turns is_built (line ∷ lines) s A causes entries keep =
-      let entry = entry_of cmp matching is_built line s in
-      (causes.0, entries.0, keep.0, faithful_by_turns is_built lines (fabric_after cmp matching line entry s) (fabric_shown cmp matching line entry A) causes.1 entries.1 keep.1)
+  faithful_by_turns [] s A causes entries keep = tt
+  faithful_by_turns (line ∷ lines) s A causes entries keep =
+      let entry = entry_of cmp matching line s in
+      (causes.0, entries.0, keep.0, faithful_by_turns lines (fabric_after cmp matching line entry s) (fabric_shown cmp matching line entry A) causes.1 entries.1 keep.1)
 
   -- And it is strict whose turns are.
-  strict_by_turns : (is_built : PlainLine K → Bool) (lines : List (PlainLine K)) (s A : Fabric K)
-      → (let ts = turns_from cmp matching lines (entries_from cmp matching is_built lines s) A in
-      Each (λ t. LacksIdsByCall cmp matching is_built t.line t.entry t.before) ts → Each (λ t. NamesOpenFaces t.entry t.after) ts
-      → IsStrictFrom cmp matching is_built lines (entries_from cmp matching is_built lines s) A)
+  strict_by_turns : (lines : List (PlainLine K)) (s A : Fabric K)
+      → (let ts = turns_from cmp matching lines (entries_from cmp matching lines s) A in
+      Each (λ t. LacksIdsByCall cmp matching t.line t.entry t.before) ts → Each (λ t. NamesOpenFaces t.entry t.after) ts
+      → IsStrictFrom cmp matching lines (entries_from cmp matching lines s) A)
   unfolding turns_from entries_from
-  strict_by_turns is_built [] s A ids faces = tt
-  strict_by_turns is_built (line ∷ lines) s A ids faces =
-      let entry = entry_of cmp matching is_built line s in
-      (ids.0, faces.0, strict_by_turns is_built lines (fabric_after cmp matching line entry s) (fabric_shown cmp matching line entry A) ids.1 faces.1)
+  strict_by_turns [] s A ids faces = tt
+  strict_by_turns (line ∷ lines) s A ids faces =
+      let entry = entry_of cmp matching line s in
+      (ids.0, faces.0, strict_by_turns lines (fabric_after cmp matching line entry s) (fabric_shown cmp matching line entry A) ids.1 faces.1)
 
   module _ (total : IsTotalOrder cmp) (equal_is_same : (a b : K) → cmp a b ≡ Equal → a ≡ b) where
-    pub faithful_from : (is_built : PlainLine K → Bool) (lines : List (PlainLine K)) (s : Fabric K) → Each HasFirstIds lines → Each HasNamedOptions lines → EachGatewayIs cmp matching (IsSound cmp matching) s → FabricHasNamedOptions s
-        → IsFaithfulFrom cmp matching is_built lines (entries_from cmp matching is_built lines s) (as_shown s)
-    faithful_from is_built lines s real named sound all =
-        faithful_by_turns is_built lines s (as_shown s) (turns_refused_by_cause cmp matching total equal_is_same is_built lines s real sound) (turns_are_entries total is_built lines s real named sound.order all) (turns_keep cmp matching total equal_is_same is_built lines s real sound)
+    pub faithful_from : (lines : List (PlainLine K)) (s : Fabric K) → Each HasFirstIds lines → Each HasNamedOptions lines → EachGatewayIs cmp matching (IsSound cmp matching) s → FabricHasNamedOptions s
+        → IsFaithfulFrom cmp matching lines (entries_from cmp matching lines s) (as_shown s)
+    faithful_from lines s real named sound all =
+        faithful_by_turns lines s (as_shown s) (turns_refused_by_cause cmp matching total equal_is_same lines s real sound) (turns_are_entries total lines s real named sound.order all) (turns_keep cmp matching total equal_is_same lines s real sound)
 
-    pub strict_from : (is_built : PlainLine K → Bool) (lines : List (PlainLine K)) (s : Fabric K) → Each HasFirstIds lines → EachGatewayIs cmp matching (IsSound cmp matching) s
-        → IsStrictFrom cmp matching is_built lines (entries_from cmp matching is_built lines s) (as_shown s)
-    strict_from is_built lines s real sound =
-        strict_by_turns is_built lines s (as_shown s) (turns_lack_by_call cmp matching total equal_is_same is_built lines s real sound) (turns_name_open cmp matching total is_built lines s real sound.order)
+    pub strict_from : (lines : List (PlainLine K)) (s : Fabric K) → Each HasFirstIds lines → EachGatewayIs cmp matching (IsSound cmp matching) s
+        → IsStrictFrom cmp matching lines (entries_from cmp matching lines s) (as_shown s)
+    strict_from lines s real sound =
+        strict_by_turns lines s (as_shown s) (turns_lack_by_call cmp matching total equal_is_same lines s real sound) (turns_name_open cmp matching total lines s real sound.order)

@@ -489,7 +489,7 @@ module _ {K : Type 0} (cmp : K → K → Ordering) (matching : K → K → Bool)
         by_message m (message.DeclareQueryable number e info id) is_ open_ has = tt
 
     -- Each final of a turn is that of an ask, or that of a new mutual peer.
-    pub turns_name_asks : (is_built : PlainLine K → Bool) (lines : List (PlainLine K)) (s : Fabric K) → Each HasFirstIds lines → FabricIsInOrder cmp matching s
-        → Each (λ t. Each (λ m. IsFinalOfSome cmp matching t m.face m.message) (printed t)) (turns_from cmp matching lines (entries_from cmp matching is_built lines s) (as_shown s))
-    turns_name_asks is_built lines s real fine =
-        turns_show cmp matching total (λ s. Unit {0}) Comes named_of_calls (λ t. Each (λ m. IsFinalOfSome cmp matching t m.face m.message) (printed t)) named_shown is_built (λ line x first ordered _. tt) lines s real fine tt
+    pub turns_name_asks : (lines : List (PlainLine K)) (s : Fabric K) → Each HasFirstIds lines → FabricIsInOrder cmp matching s
+        → Each (λ t. Each (λ m. IsFinalOfSome cmp matching t m.face m.message) (printed t)) (turns_from cmp matching lines (entries_from cmp matching lines s) (as_shown s))
+    turns_name_asks lines s real fine =
+        turns_show cmp matching total (λ s. Unit {0}) Comes named_of_calls (λ t. Each (λ m. IsFinalOfSome cmp matching t m.face m.message) (printed t)) named_shown (λ line x first ordered _. tt) lines s real fine tt

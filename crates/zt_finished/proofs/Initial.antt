@@ -413,7 +413,7 @@ module _ {K : Type 0} (cmp : K → K → Ordering) (matching : K → K → Bool)
             (λ shut. shut)
 
     -- Each turn of a transcript finishes initial interests.
-    pub turns_finish_initial : (is_built : PlainLine K → Bool) (lines : List (PlainLine K)) (s : Fabric K) → Each HasFirstIds lines → FabricIsInOrder cmp matching s
-        → Each (FinishesInitial cmp matching) (turns_from cmp matching lines (entries_from cmp matching is_built lines s) (as_shown s))
-    turns_finish_initial is_built lines s real fine =
-        turns_show cmp matching total (λ s. Unit {0}) Comes initial_of_calls (FinishesInitial cmp matching) finished_shown is_built (λ line x first ordered _. tt) lines s real fine tt
+    pub turns_finish_initial : (lines : List (PlainLine K)) (s : Fabric K) → Each HasFirstIds lines → FabricIsInOrder cmp matching s
+        → Each (FinishesInitial cmp matching) (turns_from cmp matching lines (entries_from cmp matching lines s) (as_shown s))
+    turns_finish_initial lines s real fine =
+        turns_show cmp matching total (λ s. Unit {0}) Comes initial_of_calls (FinishesInitial cmp matching) finished_shown (λ line x first ordered _. tt) lines s real fine tt

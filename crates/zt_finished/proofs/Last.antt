@@ -159,7 +159,7 @@ module _ {K : Type 0} (cmp : K → K → Ordering) (matching : K → K → Bool)
         of_all i (x ∷ gs) = (each_always (λ f. NothingFollowsFinals (printed_to t i f)) (λ f. is.comes (number_of_place t.after i f.number)) x.rows.faces, of_all (i + 1) gs)
 
     -- In each turn of a transcript finals come last.
-    pub turns_end_with_finals : (is_built : PlainLine K → Bool) (lines : List (PlainLine K)) (s : Fabric K) → Each HasFirstIds lines → FabricIsInOrder cmp matching s
-        → Each (λ t. EachFace (λ n g f. NothingFollowsFinals (printed_to t n f)) t.after) (turns_from cmp matching lines (entries_from cmp matching is_built lines s) (as_shown s))
-    turns_end_with_finals is_built lines s real fine =
-        turns_show cmp matching total (λ s. Unit {0}) Comes finals_of_calls (λ t. EachFace (λ n g f. NothingFollowsFinals (printed_to t n f)) t.after) finals_shown is_built (λ line x first ordered _. tt) lines s real fine tt
+    pub turns_end_with_finals : (lines : List (PlainLine K)) (s : Fabric K) → Each HasFirstIds lines → FabricIsInOrder cmp matching s
+        → Each (λ t. EachFace (λ n g f. NothingFollowsFinals (printed_to t n f)) t.after) (turns_from cmp matching lines (entries_from cmp matching lines s) (as_shown s))
+    turns_end_with_finals lines s real fine =
+        turns_show cmp matching total (λ s. Unit {0}) Comes finals_of_calls (λ t. EachFace (λ n g f. NothingFollowsFinals (printed_to t n f)) t.after) finals_shown (λ line x first ordered _. tt) lines s real fine tt

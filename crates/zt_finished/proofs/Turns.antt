@@ -546,23 +546,22 @@ module _ {K : Type 0} (cmp : K → K → Ordering) (matching : K → K → Bool)
     pub open_first : EachGatewayIs cmp matching (AsksAreOpen cmp matching) empty_fabric
     open_first = record { order = in_order_empty cmp matching; gateways = tt }
 
-    pub open_after_line : (is_built : PlainLine K → Bool) (line : PlainLine K) (s : Fabric K) → HasFirstIds line → EachGatewayIs cmp matching (AsksAreOpen cmp matching) s
-        → EachGatewayIs cmp matching (AsksAreOpen cmp matching) (fabric_after cmp matching line (entry_of cmp matching is_built line s) s)
-    open_after_line is_built line s real is = each_after_line cmp matching (AsksAreOpen cmp matching) (open_is_left cmp matching total equal_is_same) total is_built line s real is
+    pub open_after_line : (line : PlainLine K) (s : Fabric K) → HasFirstIds line → EachGatewayIs cmp matching (AsksAreOpen cmp matching) s
+        → EachGatewayIs cmp matching (AsksAreOpen cmp matching) (fabric_after cmp matching line (entry_of cmp matching line s) s)
+    open_after_line line s real is = each_after_line cmp matching (AsksAreOpen cmp matching) (open_is_left cmp matching total equal_is_same) total line s real is
 
-    module _ (is_built : PlainLine K → Bool) where
-      -- Each turn of a transcript finishes the asks that it ends, from any fabric on whose asks are open.
-      pub turns_finish : (lines : List (PlainLine K)) (s : Fabric K) → Each HasFirstIds lines → EachGatewayIs cmp matching (AsksAreOpen cmp matching) s
-          → Each (FinishesAsks cmp matching) (turns_from cmp matching lines (entries_from cmp matching is_built lines s) (as_shown s))
-      turns_finish lines s real is =
-          turns_have cmp matching total is_built (FinishesAsks cmp matching) (λ x. Open x.gateways)
-          (λ line x first ordered open_.
-          let next = (open_after_line is_built line x first (record { order = ordered; gateways = open_ })).gateways in
-          let after = fabric_after cmp matching line (entry_of cmp matching is_built line x) x in (
-            finishes_shown x _ (turn_is_shown cmp matching total (λ y. Open y.gateways) Comes finals_of_calls is_built line x first ordered open_) (each_map AsksHold node_shown after.gateways (standing_if_open after.gateways next)),
-            next,
-          ))
-          lines s real is.order is.gateways
+    -- Each turn of a transcript finishes the asks that it ends, from any fabric on whose asks are open.
+    pub turns_finish : (lines : List (PlainLine K)) (s : Fabric K) → Each HasFirstIds lines → EachGatewayIs cmp matching (AsksAreOpen cmp matching) s
+        → Each (FinishesAsks cmp matching) (turns_from cmp matching lines (entries_from cmp matching lines s) (as_shown s))
+    turns_finish lines s real is =
+        turns_have cmp matching total (FinishesAsks cmp matching) (λ x. Open x.gateways)
+        (λ line x first ordered open_.
+        let next = (open_after_line line x first (record { order = ordered; gateways = open_ })).gateways in
+        let after = fabric_after cmp matching line (entry_of cmp matching line x) x in (
+          finishes_shown x _ (turn_is_shown cmp matching total (λ y. Open y.gateways) Comes finals_of_calls line x first ordered open_) (each_map AsksHold node_shown after.gateways (standing_if_open after.gateways next)),
+          next,
+        ))
+        lines s real is.order is.gateways
 
-      pub turns_finish_first : (lines : List (PlainLine K)) → Each HasFirstIds lines → Each (FinishesAsks cmp matching) (turns_from cmp matching lines (entries_from cmp matching is_built lines empty_fabric) empty_fabric)
-      turns_finish_first lines real = turns_finish lines empty_fabric real open_first
+    pub turns_finish_first : (lines : List (PlainLine K)) → Each HasFirstIds lines → Each (FinishesAsks cmp matching) (turns_from cmp matching lines (entries_from cmp matching lines empty_fabric) empty_fabric)
+    turns_finish_first lines real = turns_finish lines empty_fabric real open_first

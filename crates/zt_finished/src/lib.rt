@@ -2,47 +2,53 @@
 //! nothing.
 #![tactic(auto)]
 
-ghost use Rattle.std.specs.Prelude.{Bool, List};
+ghost use Rattle.std.specs.Prelude.{List};
 ghost use Rattle.zt_protocol.specs.Plain.{PlainLine};
-ghost use Rattle.zt_model.specs.Fabric.{Fabric, empty_fabric, entries_from, entry_of, fabric_after};
-ghost use Rattle.zt_model.specs.Promises.{EachFace, FinishesAsks, FinishesInitial, NothingFollowsFinals, printed_to, turns_from};
+ghost use Rattle.zt_model.specs.Fabric.{Fabric, empty_fabric, entry_of, fabric_after};
+ghost use Rattle.zt_model.specs.Promises.{EachFace, FinishesAsks, FinishesInitial, NothingFollowsFinals, printed_to};
 ghost use Rattle.zt_model.specs.Transcript.{Each};
 ghost use Rattle.zt_laws.specs.Order.{FabricIsInOrder};
-ghost use Rattle.zt_laws.specs.Shown.{as_shown};
+ghost use Rattle.zt_laws.specs.Shown.{turns_of};
 ghost use Rattle.zt_laws.specs.Sound.{HasFirstIds};
 ghost use Rattle.zt_kept.specs.Lines.{EachGatewayIs};
 ghost use Rattle.zt_finished.specs.Open.{AsksAreOpen};
 
 use zt_keys::Key;
 
-/// In each turn of the machine's transcript, whichever lines are built, finals come last: after a final that is printed for
+/// In each turn of the machine's transcript finals come last: after a final that is printed for
 /// an open face, nothing that is printed for it answers the final's interest.
 pub fn turns_finals_come_last<K: Key>()
-    ensures { (is_built : PlainLine K → Bool) (lines : List (PlainLine K)) (s : Fabric K) → Each HasFirstIds lines → FabricIsInOrder K.cmp K.matching s
-        → Each (λ t. EachFace (λ n g f. NothingFollowsFinals (printed_to t n f)) t.after) (turns_from K.cmp K.matching lines (entries_from K.cmp K.matching is_built lines s) (as_shown s)) }
+    ensures { (lines : List (PlainLine K)) (s : Fabric K) → Each HasFirstIds lines
+        → FabricIsInOrder K.cmp K.matching s
+        → Each (λ t. EachFace (λ n g f. NothingFollowsFinals (printed_to t n f)) t.after)
+        (turns_of K.cmp K.matching lines s) }
 {}
 
 /// And it finishes initial interests: for a face that its line opens, it prints one final of the id 0 where the face has an
 /// initial interest, and else none.
 pub fn turns_finish_initial_interests<K: Key>()
-    ensures { (is_built : PlainLine K → Bool) (lines : List (PlainLine K)) (s : Fabric K) → Each HasFirstIds lines → FabricIsInOrder K.cmp K.matching s
-        → Each (FinishesInitial K.cmp K.matching) (turns_from K.cmp K.matching lines (entries_from K.cmp K.matching is_built lines s) (as_shown s)) }
+    ensures { (lines : List (PlainLine K)) (s : Fabric K) → Each HasFirstIds lines
+        → FabricIsInOrder K.cmp K.matching s
+        → Each (FinishesInitial K.cmp K.matching) (turns_of K.cmp K.matching lines s) }
 {}
 
 /// Every line, accepted or refused, leaves the asks of each gateway open: a pending of each ask stands,
 /// and faces of router regions have none. So are they in the empty fabric.
 pub fn lines_leave_asks_open<K: Key>()
     ensures start { EachGatewayIs K.cmp K.matching (AsksAreOpen K.cmp K.matching) empty_fabric }
-    ensures step { (is_built : PlainLine K → Bool) (line : PlainLine K) (s : Fabric K) → HasFirstIds line → EachGatewayIs K.cmp K.matching (AsksAreOpen K.cmp K.matching) s
-        → EachGatewayIs K.cmp K.matching (AsksAreOpen K.cmp K.matching) (fabric_after K.cmp K.matching line (entry_of K.cmp K.matching is_built line s) s) }
+    ensures step { (line : PlainLine K) (s : Fabric K) → HasFirstIds line
+        → EachGatewayIs K.cmp K.matching (AsksAreOpen K.cmp K.matching) s
+        → EachGatewayIs K.cmp K.matching (AsksAreOpen K.cmp K.matching)
+        (fabric_after K.cmp K.matching line (entry_of K.cmp K.matching line s) s) }
 {}
 
 /// So each turn finishes asks: each gets one final in the turn in which its last pending ends, or in which
 /// its interest is finalised, if it asked for both, or in its own turn, if it was sent to nobody; and
 /// none in another. It is so from each fabric on whose asks are open, so from the empty one too.
 pub fn turns_finish_asks<K: Key>()
-    ensures any { (is_built : PlainLine K → Bool) (lines : List (PlainLine K)) (s : Fabric K) → Each HasFirstIds lines → EachGatewayIs K.cmp K.matching (AsksAreOpen K.cmp K.matching) s
-        → Each (FinishesAsks K.cmp K.matching) (turns_from K.cmp K.matching lines (entries_from K.cmp K.matching is_built lines s) (as_shown s)) }
-    ensures start { (is_built : PlainLine K → Bool) (lines : List (PlainLine K)) → Each HasFirstIds lines
-        → Each (FinishesAsks K.cmp K.matching) (turns_from K.cmp K.matching lines (entries_from K.cmp K.matching is_built lines empty_fabric) empty_fabric) }
+    ensures any { (lines : List (PlainLine K)) (s : Fabric K) → Each HasFirstIds lines
+        → EachGatewayIs K.cmp K.matching (AsksAreOpen K.cmp K.matching) s
+        → Each (FinishesAsks K.cmp K.matching) (turns_of K.cmp K.matching lines s) }
+    ensures start { (lines : List (PlainLine K)) → Each HasFirstIds lines
+        → Each (FinishesAsks K.cmp K.matching) (turns_of K.cmp K.matching lines empty_fabric) }
 {}

@@ -5,14 +5,14 @@ use Rattle.zt_region.specs.declared.region.Region.{Region}
 use Rattle.zt_region.specs.declared.region.WhatAmI.{WhatAmI}
 use Rattle.zt_region.specs.declared.region.Zid.{Zid}
 use Rattle.zt_kept.specs.Sound.{IsSound}
-use Rattle.zt_model.specs.Fabric.{built_causes, empty_fabric, new_rows}
+use Rattle.zt_model.specs.Fabric.{line_causes, empty_fabric, new_rows}
 use Rattle.zt_model.specs.Refusals.{first_cause}
 use Rattle.zt_gateway.specs.Settings.{Settings, line_of, making_causes}
 
 module _ {K : Type 0} (cmp : K → K → Ordering) (matching : K → K → Bool) where
   -- a gateway of no fabric is refused by its settings alone
-  pub causes_alone : (s : Settings) → first_cause (making_causes s.mode s.regions s.refused) ≡ first_cause (built_causes cmp matching false (line_of s) empty_fabric)
-  unfolding built_causes first_cause
+  pub causes_alone : (s : Settings) → first_cause (making_causes s.mode s.regions s.refused) ≡ first_cause (line_causes cmp matching false (line_of s) empty_fabric)
+  unfolding line_causes first_cause
   causes_alone s = refl
 
   -- a gateway without faces is sound

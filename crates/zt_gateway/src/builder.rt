@@ -2,7 +2,7 @@
 ghost use Rattle.std.specs.Prelude.{◌≡◌, ◌||◌, ◌&&◌, not, [], None, Some, IfErr, IfOk, OnOk, false, option_map, string_bytes};
 ghost use Rattle.std.specs.List.{list_any};
 ghost use Rattle.zt_gateway.specs.Settings.{line_of, making_causes, names_other_region, new_gateway};
-ghost use Rattle.zt_model.specs.Fabric.{built_causes, empty_fabric, is_south_router};
+ghost use Rattle.zt_model.specs.Fabric.{line_causes, empty_fabric, is_south_router};
 ghost use Rattle.zt_model.specs.Refusals.{first_cause};
 ghost use Rattle.zt_model.specs.Strategy.{is_region_of};
 ghost use Rattle.zt_region.specs.South.{plain_south};
@@ -115,7 +115,8 @@ fn cause_of_making(
 impl GatewayBuilder {
     /// The settings of a gateway of this mode and number.
     pub fn new(alloc: Global, mode: WhatAmI, zid: Zid) -> Self
-        ensures { result ≡ record { mode = mode; zid = zid; regions = []; south = plain_south SouthConf.Auto; name = None; timeout = 10000; refused = [] } }
+        ensures { result
+            ≡ record { mode = mode; zid = zid; regions = []; south = plain_south SouthConf.Auto; name = None; timeout = 10000; refused = [] } }
     {
         GatewayBuilder {
             alloc,
@@ -177,8 +178,11 @@ impl GatewayBuilder {
     /// neither.
     pub fn build<K: Key>(self) -> Result<Gateway<K>, CallError>
         ensures refused { IfErr result (λ error.
-            option_map CallError.Refused (first_cause (built_causes K.cmp K.matching false (line_of self) empty_fabric)) ≡ Some error) }
-        ensures accepted { OnOk result (first_cause (built_causes K.cmp K.matching false (line_of self) empty_fabric) ≡ None) }
+            option_map CallError.Refused
+            (first_cause (line_causes K.cmp K.matching false (line_of self) empty_fabric))
+            ≡ Some error) }
+        ensures accepted { OnOk result
+            (first_cause (line_causes K.cmp K.matching false (line_of self) empty_fabric) ≡ None) }
         ensures made { IfOk result (λ gateway. gateway ≡ new_gateway self) }
     {
         match cause_of_making(

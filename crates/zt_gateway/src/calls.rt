@@ -17,9 +17,12 @@ impl<K: Key> Gateway<K> {
     // Carries out a call that makes no face.
     fn carry_out(&mut self, call: &Call<K>) -> Result<(), CallError>
         requires { CallHasFirstIds (plain_call call.now) }
-        ensures refused { IfErr result (IsRefusedBy K.cmp K.matching (plain_call call.now) self.old.rows) }
-        ensures accepted { OnOk result (cause_of K.cmp K.matching (plain_call call.now) self.old.rows ≡ None) }
-        ensures done { OnOk result (self.new ≡ called K.cmp K.matching (plain_call call.now) self.old) }
+        ensures refused { IfErr result
+            (IsRefusedBy K.cmp K.matching (plain_call call.now) self.old.rows) }
+        ensures accepted { OnOk result
+            (cause_of K.cmp K.matching (plain_call call.now) self.old.rows ≡ None) }
+        ensures done { OnOk result
+            (self.new ≡ called K.cmp K.matching (plain_call call.now) self.old) }
         ensures err { OnErr result (self.new ≡ self.old) }
     {
         match self.call(call) {
@@ -32,10 +35,14 @@ impl<K: Key> Gateway<K> {
     fn make_face(&mut self, call: &Call<K>) -> Result<u32, CallError>
         requires first { CallHasFirstIds (plain_call call.now) }
         requires opens { opens_face (plain_call call.now) ≡ true }
-        ensures refused { IfErr result (IsRefusedBy K.cmp K.matching (plain_call call.now) self.old.rows) }
-        ensures accepted { OnOk result (cause_of K.cmp K.matching (plain_call call.now) self.old.rows ≡ None) }
-        ensures done { OnOk result (self.new ≡ called K.cmp K.matching (plain_call call.now) self.old) }
-        ensures made { IfOk result (λ face. made_by K.cmp K.matching (plain_call call.now) self.old.rows ≡ Some face) }
+        ensures refused { IfErr result
+            (IsRefusedBy K.cmp K.matching (plain_call call.now) self.old.rows) }
+        ensures accepted { OnOk result
+            (cause_of K.cmp K.matching (plain_call call.now) self.old.rows ≡ None) }
+        ensures done { OnOk result
+            (self.new ≡ called K.cmp K.matching (plain_call call.now) self.old) }
+        ensures made { IfOk result
+            (λ face. made_by K.cmp K.matching (plain_call call.now) self.old.rows ≡ Some face) }
         ensures err { OnErr result (self.new ≡ self.old) }
     {
         match self.call(call) {
@@ -49,10 +56,14 @@ impl<K: Key> Gateway<K> {
     /// number. Refused where all numbers of faces are given out.
     pub fn new_session(&mut self, first: u32) -> Result<u32, CallError>
         requires { 1 ≤ first }
-        ensures refused { IfErr result (IsRefusedBy K.cmp K.matching (NewSession first) self.old.rows) }
-        ensures accepted { OnOk result (cause_of K.cmp K.matching (NewSession first) self.old.rows ≡ None) }
-        ensures done { OnOk result (self.new ≡ called K.cmp K.matching (NewSession first) self.old) }
-        ensures made { IfOk result (λ face. made_by K.cmp K.matching (NewSession first) self.old.rows ≡ Some face) }
+        ensures refused { IfErr result
+            (IsRefusedBy K.cmp K.matching (NewSession first) self.old.rows) }
+        ensures accepted { OnOk result
+            (cause_of K.cmp K.matching (NewSession first) self.old.rows ≡ None) }
+        ensures done { OnOk result
+            (self.new ≡ called K.cmp K.matching (NewSession first) self.old) }
+        ensures made { IfOk result
+            (λ face. made_by K.cmp K.matching (NewSession first) self.old.rows ≡ Some face) }
         ensures err { OnErr result (self.new ≡ self.old) }
     {
         self.make_face(&Call::NewSession { first })
@@ -71,10 +82,18 @@ impl<K: Key> Gateway<K> {
         first: u32,
     ) -> Result<u32, CallError>
         requires { 1 ≤ first }
-        ensures refused { IfErr result (IsRefusedBy K.cmp K.matching (NewTransport zid whatami region remote_bound first) self.old.rows) }
-        ensures accepted { OnOk result (cause_of K.cmp K.matching (NewTransport zid whatami region remote_bound first) self.old.rows ≡ None) }
-        ensures done { OnOk result (self.new ≡ called K.cmp K.matching (NewTransport zid whatami region remote_bound first) self.old) }
-        ensures made { IfOk result (λ face. made_by K.cmp K.matching (NewTransport zid whatami region remote_bound first) self.old.rows ≡ Some face) }
+        ensures refused { IfErr result
+            (IsRefusedBy K.cmp K.matching
+            (NewTransport zid whatami region remote_bound first) self.old.rows) }
+        ensures accepted { OnOk result
+            (cause_of K.cmp K.matching
+            (NewTransport zid whatami region remote_bound first) self.old.rows ≡ None) }
+        ensures done { OnOk result
+            (self.new ≡ called K.cmp K.matching
+            (NewTransport zid whatami region remote_bound first) self.old) }
+        ensures made { IfOk result
+            (λ face. made_by K.cmp K.matching
+            (NewTransport zid whatami region remote_bound first) self.old.rows ≡ Some face) }
         ensures err { OnErr result (self.new ≡ self.old) }
     {
         self.make_face(&Call::NewTransport {
@@ -98,9 +117,15 @@ impl<K: Key> Gateway<K> {
         node_id: NodeId,
         interest_id: Option<InterestId>,
     ) -> Result<(), CallError>
-        ensures refused { IfErr result (IsRefusedBy K.cmp K.matching (DeclareToken face id expr.now node_id interest_id) self.old.rows) }
-        ensures accepted { OnOk result (cause_of K.cmp K.matching (DeclareToken face id expr.now node_id interest_id) self.old.rows ≡ None) }
-        ensures done { OnOk result (self.new ≡ called K.cmp K.matching (DeclareToken face id expr.now node_id interest_id) self.old) }
+        ensures refused { IfErr result
+            (IsRefusedBy K.cmp K.matching
+            (DeclareToken face id expr.now node_id interest_id) self.old.rows) }
+        ensures accepted { OnOk result
+            (cause_of K.cmp K.matching
+            (DeclareToken face id expr.now node_id interest_id) self.old.rows ≡ None) }
+        ensures done { OnOk result
+            (self.new ≡ called K.cmp K.matching
+            (DeclareToken face id expr.now node_id interest_id) self.old) }
         ensures err { OnErr result (self.new ≡ self.old) }
     {
         let Ok(expr) = expr.copy(self.alloc) else {
@@ -118,9 +143,12 @@ impl<K: Key> Gateway<K> {
     /// The face ends an interest that it holds. Refused are an unknown face and an interest that the
     /// face doesn't hold.
     pub fn interest_final(&mut self, face: u32, id: InterestId) -> Result<(), CallError>
-        ensures refused { IfErr result (IsRefusedBy K.cmp K.matching (InterestFinal face id) self.old.rows) }
-        ensures accepted { OnOk result (cause_of K.cmp K.matching (InterestFinal face id) self.old.rows ≡ None) }
-        ensures done { OnOk result (self.new ≡ called K.cmp K.matching (InterestFinal face id) self.old) }
+        ensures refused { IfErr result
+            (IsRefusedBy K.cmp K.matching (InterestFinal face id) self.old.rows) }
+        ensures accepted { OnOk result
+            (cause_of K.cmp K.matching (InterestFinal face id) self.old.rows ≡ None) }
+        ensures done { OnOk result
+            (self.new ≡ called K.cmp K.matching (InterestFinal face id) self.old) }
         ensures err { OnErr result (self.new ≡ self.old) }
     {
         self.carry_out(&Call::InterestFinal { face, id })
@@ -135,9 +163,15 @@ impl<K: Key> Gateway<K> {
         expr: Option<&K>,
         node_id: NodeId,
     ) -> Result<(), CallError>
-        ensures refused { IfErr result (IsRefusedBy K.cmp K.matching (UndeclareToken face id (option_copied expr.entry) node_id) self.old.rows) }
-        ensures accepted { OnOk result (cause_of K.cmp K.matching (UndeclareToken face id (option_copied expr.entry) node_id) self.old.rows ≡ None) }
-        ensures done { OnOk result (self.new ≡ called K.cmp K.matching (UndeclareToken face id (option_copied expr.entry) node_id) self.old) }
+        ensures refused { IfErr result
+            (IsRefusedBy K.cmp K.matching
+            (UndeclareToken face id (option_copied expr.entry) node_id) self.old.rows) }
+        ensures accepted { OnOk result
+            (cause_of K.cmp K.matching
+            (UndeclareToken face id (option_copied expr.entry) node_id) self.old.rows ≡ None) }
+        ensures done { OnOk result
+            (self.new ≡ called K.cmp K.matching
+            (UndeclareToken face id (option_copied expr.entry) node_id) self.old) }
         ensures err { OnErr result (self.new ≡ self.old) }
     {
         let Ok(expr) = copy_option(self.alloc, expr) else {
@@ -163,9 +197,15 @@ impl<K: Key> Gateway<K> {
         options: InterestOptions,
         expr: Option<&K>,
     ) -> Result<(), CallError>
-        ensures refused { IfErr result (IsRefusedBy K.cmp K.matching (Interest face id mode options (option_copied expr.entry)) self.old.rows) }
-        ensures accepted { OnOk result (cause_of K.cmp K.matching (Interest face id mode options (option_copied expr.entry)) self.old.rows ≡ None) }
-        ensures done { OnOk result (self.new ≡ called K.cmp K.matching (Interest face id mode options (option_copied expr.entry)) self.old) }
+        ensures refused { IfErr result
+            (IsRefusedBy K.cmp K.matching
+            (Interest face id mode options (option_copied expr.entry)) self.old.rows) }
+        ensures accepted { OnOk result
+            (cause_of K.cmp K.matching
+            (Interest face id mode options (option_copied expr.entry)) self.old.rows ≡ None) }
+        ensures done { OnOk result
+            (self.new ≡ called K.cmp K.matching
+            (Interest face id mode options (option_copied expr.entry)) self.old) }
         ensures err { OnErr result (self.new ≡ self.old) }
     {
         let Ok(expr) = copy_option(self.alloc, expr) else {
@@ -183,9 +223,12 @@ impl<K: Key> Gateway<K> {
     /// The face has answered all that an interest asked for that is there now. Refused are an unknown
     /// face, one to the south, and an interest that wasn't sent to the face.
     pub fn declare_final(&mut self, face: u32, interest_id: InterestId) -> Result<(), CallError>
-        ensures refused { IfErr result (IsRefusedBy K.cmp K.matching (DeclareFinal face interest_id) self.old.rows) }
-        ensures accepted { OnOk result (cause_of K.cmp K.matching (DeclareFinal face interest_id) self.old.rows ≡ None) }
-        ensures done { OnOk result (self.new ≡ called K.cmp K.matching (DeclareFinal face interest_id) self.old) }
+        ensures refused { IfErr result
+            (IsRefusedBy K.cmp K.matching (DeclareFinal face interest_id) self.old.rows) }
+        ensures accepted { OnOk result
+            (cause_of K.cmp K.matching (DeclareFinal face interest_id) self.old.rows ≡ None) }
+        ensures done { OnOk result
+            (self.new ≡ called K.cmp K.matching (DeclareFinal face interest_id) self.old) }
         ensures err { OnErr result (self.new ≡ self.old) }
     {
         self.carry_out(&Call::DeclareFinal { face, interest_id })
@@ -194,8 +237,10 @@ impl<K: Key> Gateway<K> {
     /// The face closes: all that it declared and asked for is gone, and what waits for it. Refused is an
     /// unknown face.
     pub fn close_face(&mut self, face: u32) -> Result<(), CallError>
-        ensures refused { IfErr result (IsRefusedBy K.cmp K.matching (CloseFace face) self.old.rows) }
-        ensures accepted { OnOk result (cause_of K.cmp K.matching (CloseFace face) self.old.rows ≡ None) }
+        ensures refused { IfErr result
+            (IsRefusedBy K.cmp K.matching (CloseFace face) self.old.rows) }
+        ensures accepted { OnOk result
+            (cause_of K.cmp K.matching (CloseFace face) self.old.rows ≡ None) }
         ensures done { OnOk result (self.new ≡ called K.cmp K.matching (CloseFace face) self.old) }
         ensures err { OnErr result (self.new ≡ self.old) }
     {
@@ -206,7 +251,8 @@ impl<K: Key> Gateway<K> {
     /// the gateway's last one.
     pub fn expire(&mut self, now: u64) -> Result<(), CallError>
         ensures refused { IfErr result (IsRefusedBy K.cmp K.matching (Expire now) self.old.rows) }
-        ensures accepted { OnOk result (cause_of K.cmp K.matching (Expire now) self.old.rows ≡ None) }
+        ensures accepted { OnOk result
+            (cause_of K.cmp K.matching (Expire now) self.old.rows ≡ None) }
         ensures done { OnOk result (self.new ≡ called K.cmp K.matching (Expire now) self.old) }
         ensures err { OnErr result (self.new ≡ self.old) }
     {
@@ -216,9 +262,13 @@ impl<K: Key> Gateway<K> {
     /// Hands the trees of a router region. Refused are a link of an unknown face, a region that is no
     /// router region of the gateway, and a table that lacks a router that it names, or the gateway.
     pub fn set_trees(&mut self, region: Region, table: &TreeTable) -> Result<(), CallError>
-        ensures refused { IfErr result (IsRefusedBy K.cmp K.matching (SetTrees region (trees_of table.now)) self.old.rows) }
-        ensures accepted { OnOk result (cause_of K.cmp K.matching (SetTrees region (trees_of table.now)) self.old.rows ≡ None) }
-        ensures done { OnOk result (self.new ≡ called K.cmp K.matching (SetTrees region (trees_of table.now)) self.old) }
+        ensures refused { IfErr result
+            (IsRefusedBy K.cmp K.matching (SetTrees region (trees_of table.now)) self.old.rows) }
+        ensures accepted { OnOk result
+            (cause_of K.cmp K.matching (SetTrees region (trees_of table.now)) self.old.rows
+            ≡ None) }
+        ensures done { OnOk result
+            (self.new ≡ called K.cmp K.matching (SetTrees region (trees_of table.now)) self.old) }
         ensures err { OnErr result (self.new ≡ self.old) }
     {
         let Ok(table) = table.copy(self.alloc) else {
@@ -235,9 +285,15 @@ impl<K: Key> Gateway<K> {
         subscribers: &[K],
         queryables: &[(K, QueryableInfo)],
     ) -> Result<(), CallError>
-        ensures refused { IfErr result (IsRefusedBy K.cmp K.matching (SetEntities face subscribers.now queryables.now) self.old.rows) }
-        ensures accepted { OnOk result (cause_of K.cmp K.matching (SetEntities face subscribers.now queryables.now) self.old.rows ≡ None) }
-        ensures done { OnOk result (self.new ≡ called K.cmp K.matching (SetEntities face subscribers.now queryables.now) self.old) }
+        ensures refused { IfErr result
+            (IsRefusedBy K.cmp K.matching
+            (SetEntities face subscribers.now queryables.now) self.old.rows) }
+        ensures accepted { OnOk result
+            (cause_of K.cmp K.matching
+            (SetEntities face subscribers.now queryables.now) self.old.rows ≡ None) }
+        ensures done { OnOk result
+            (self.new ≡ called K.cmp K.matching
+            (SetEntities face subscribers.now queryables.now) self.old) }
         ensures err { OnErr result (self.new ≡ self.old) }
     {
         let Ok(subscribers) = copy_keys(self.alloc, subscribers) else {

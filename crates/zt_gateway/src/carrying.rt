@@ -36,10 +36,14 @@ pub(crate) fn carried<K: Key>(
     requires sound { IsSound K.cmp K.matching twin.old }
     ensures same { twin.new ≡ twin.old }
     ensures refused { IfErr result (IsRefusedBy K.cmp K.matching (plain_call call.now) twin.old) }
-    ensures accepted { OnOk result (cause_of K.cmp K.matching (plain_call call.now) twin.old ≡ None) }
-    ensures rows { IfOk result (λ r. r.0 ≡ rows_after K.cmp K.matching (plain_call call.now) twin.old) }
-    ensures said { IfOk result (λ r. r.1.items ≡ said K.cmp K.matching (plain_call call.now) twin.old) }
-    ensures made { IfOk result (λ r. r.2 ≡ made_by K.cmp K.matching (plain_call call.now) twin.old) }
+    ensures accepted { OnOk result
+        (cause_of K.cmp K.matching (plain_call call.now) twin.old ≡ None) }
+    ensures rows { IfOk result
+        (λ r. r.0 ≡ rows_after K.cmp K.matching (plain_call call.now) twin.old) }
+    ensures said { IfOk result
+        (λ r. r.1.items ≡ said K.cmp K.matching (plain_call call.now) twin.old) }
+    ensures made { IfOk result
+        (λ r. r.2 ≡ made_by K.cmp K.matching (plain_call call.now) twin.old) }
     ensures sound { IfOk result (λ r. IsSound K.cmp K.matching r.0) }
     ensures outcome { OnOk result (outcome_of K.cmp K.matching (plain_call call.now) twin.old
         ≡ Ok (map sent_alone (by_face (said K.cmp K.matching (plain_call call.now) twin.old)))) }
@@ -73,7 +77,8 @@ pub(crate) fn room_for<K>(
     said: &Vec<(u32, Message<K>)>,
 ) -> Result<Vec<(u32, Message<K>)>, Memory>
     ensures empty { IfOk result (λ room. room.items ≡ []) }
-    ensures fits { IfOk result (λ room. length waiting.now.items + length said.now.items ≤ vec_capacity room) }
+    ensures fits { IfOk result
+        (λ room. length waiting.now.items + length said.now.items ≤ vec_capacity room) }
 {
     match waiting.len().checked_add(said.len()) {
         None => Err(Memory),

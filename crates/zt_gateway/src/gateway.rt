@@ -47,11 +47,16 @@ impl<K: Key> Model for Gateway<K> {
 fn plan<K: Key>(gateway: &mut Gateway<K>, call: &Call<K>) -> Result<Prepared<K>, CallError>
     requires { CallHasFirstIds (plain_call call.now) }
     ensures same { gateway.new ≡ gateway.old }
-    ensures refused { IfErr result (IsRefusedBy K.cmp K.matching (plain_call call.now) gateway.old.rows) }
-    ensures accepted { OnOk result (cause_of K.cmp K.matching (plain_call call.now) gateway.old.rows ≡ None) }
-    ensures planned { IfOk result (λ p. p ≡ planned K.cmp K.matching (plain_call call.now) gateway.old) }
-    ensures outcome { OnOk result (outcome_of K.cmp K.matching (plain_call call.now) gateway.old.rows
-        ≡ Ok (map sent_alone (by_face (said K.cmp K.matching (plain_call call.now) gateway.old.rows)))) }
+    ensures refused { IfErr result
+        (IsRefusedBy K.cmp K.matching (plain_call call.now) gateway.old.rows) }
+    ensures accepted { OnOk result
+        (cause_of K.cmp K.matching (plain_call call.now) gateway.old.rows ≡ None) }
+    ensures planned { IfOk result
+        (λ p. p ≡ planned K.cmp K.matching (plain_call call.now) gateway.old) }
+    ensures outcome { OnOk result
+        (outcome_of K.cmp K.matching (plain_call call.now) gateway.old.rows
+        ≡ Ok (map sent_alone
+        (by_face (said K.cmp K.matching (plain_call call.now) gateway.old.rows)))) }
 {
     let before = Snapshot::of(gateway);
     let alloc = gateway.alloc;
@@ -80,11 +85,16 @@ impl<K: Key> Gateway<K> {
     pub fn prepare(&mut self, call: &Call<K>) -> Result<Prepared<K>, CallError>
         requires { CallHasFirstIds (plain_call call.now) }
         ensures same { self.new ≡ self.old }
-        ensures refused { IfErr result (IsRefusedBy K.cmp K.matching (plain_call call.now) self.old.rows) }
-        ensures accepted { OnOk result (cause_of K.cmp K.matching (plain_call call.now) self.old.rows ≡ None) }
-        ensures planned { IfOk result (λ p. p ≡ planned K.cmp K.matching (plain_call call.now) self.old) }
-        ensures outcome { OnOk result (outcome_of K.cmp K.matching (plain_call call.now) self.old.rows
-            ≡ Ok (map sent_alone (by_face (said K.cmp K.matching (plain_call call.now) self.old.rows)))) }
+        ensures refused { IfErr result
+            (IsRefusedBy K.cmp K.matching (plain_call call.now) self.old.rows) }
+        ensures accepted { OnOk result
+            (cause_of K.cmp K.matching (plain_call call.now) self.old.rows ≡ None) }
+        ensures planned { IfOk result
+            (λ p. p ≡ planned K.cmp K.matching (plain_call call.now) self.old) }
+        ensures outcome { OnOk result
+            (outcome_of K.cmp K.matching (plain_call call.now) self.old.rows
+            ≡ Ok (map sent_alone
+            (by_face (said K.cmp K.matching (plain_call call.now) self.old.rows)))) }
     {
         plan(self, call)
     }
@@ -131,25 +141,39 @@ impl<K: Key> Gateway<K> {
         self.twin.catch_up(self.alloc, former, call);
     }
 
+    /// Carries out a call as `commit` does, one that `prepare` accepted, and brings the gateway's second
+    /// state up to date by it, where memory is there for that: so the next call copies nothing.
+    pub fn commit_call(&mut self, prepared: Prepared<K>, call: &Call<K>) -> Option<u32>
+        requires accepted { cause_of K.cmp K.matching (plain_call call.now) self.old.rows ≡ None }
+        requires planned { prepared ≡ planned K.cmp K.matching (plain_call call.now) self.old }
+        ensures done { self.new ≡ prepared.after }
+        ensures made { result ≡ prepared.made }
+        ensures sound { FacesKeepWhatTheyShould K.cmp K.matching self.new.rows }
+    {
+        let (made, former) = self.exchange(prepared);
+        self.catch_up(former, call);
+        made
+    }
+
     /// Carries out a call; a first id is at least 1. The answer is the number of the face that it makes,
     /// if it makes one. It is refused by the first cause that holds of it; after a refusal or want of
     /// memory nothing is changed. An accepted call leaves each face outside router regions with visible
     /// tokens alone that it seeks, and with all admitted ones that it is to be told.
     pub fn call(&mut self, call: &Call<K>) -> Result<Option<u32>, CallError>
         requires { CallHasFirstIds (plain_call call.now) }
-        ensures refused { IfErr result (IsRefusedBy K.cmp K.matching (plain_call call.now) self.old.rows) }
-        ensures accepted { OnOk result (cause_of K.cmp K.matching (plain_call call.now) self.old.rows ≡ None) }
-        ensures done { OnOk result (self.new ≡ called K.cmp K.matching (plain_call call.now) self.old) }
-        ensures made { IfOk result (λ made. made ≡ made_by K.cmp K.matching (plain_call call.now) self.old.rows) }
+        ensures refused { IfErr result
+            (IsRefusedBy K.cmp K.matching (plain_call call.now) self.old.rows) }
+        ensures accepted { OnOk result
+            (cause_of K.cmp K.matching (plain_call call.now) self.old.rows ≡ None) }
+        ensures done { OnOk result
+            (self.new ≡ called K.cmp K.matching (plain_call call.now) self.old) }
+        ensures made { IfOk result
+            (λ made. made ≡ made_by K.cmp K.matching (plain_call call.now) self.old.rows) }
         ensures err { OnErr result (self.new ≡ self.old) }
         ensures sound { OnOk result (FacesKeepWhatTheyShould K.cmp K.matching self.new.rows) }
     {
         match self.prepare(call) {
-            Ok(prepared) => {
-                let (made, former) = self.exchange(prepared);
-                self.catch_up(former, call);
-                Ok(made)
-            }
+            Ok(prepared) => Ok(self.commit_call(prepared, call)),
             Err(error) => Err(error),
         }
     }
@@ -170,7 +194,8 @@ impl<K: Key> Gateway<K> {
     /// Takes the oldest message that waits for the face. None exactly where there is none.
     pub fn take_outbox(&mut self, face: u32) -> Option<Message<K>>
         ensures message { result ≡ oldest_for face self.old.waiting }
-        ensures left { self.new ≡ record self.old { waiting = without_oldest face self.old.waiting } }
+        ensures left { self.new
+            ≡ record self.old { waiting = without_oldest face self.old.waiting } }
     {
         take_oldest(&mut self.outbox, face)
     }

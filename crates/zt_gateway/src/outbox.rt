@@ -50,7 +50,8 @@ fn place_for<K>(waiting: &[(u32, Message<K>)], face: u32) -> Option<usize>
     ensures within { IfSome result (λ place. place < length waiting.now) }
     ensures there { IfSome result (λ place. (other : ℕ × Message K)
         → oldest_for face waiting.now ≡ Some (slice_index_or waiting.now place other).1) }
-    ensures left { IfSome result (λ place. without_oldest face waiting.now ≡ remove waiting.now place) }
+    ensures left { IfSome result
+        (λ place. without_oldest face waiting.now ≡ remove waiting.now place) }
     ensures absent { IfNone result (oldest_for face waiting.now ≡ None) }
     ensures unchanged { IfNone result (without_oldest face waiting.now ≡ waiting.now) }
 {

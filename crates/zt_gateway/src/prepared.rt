@@ -75,7 +75,8 @@ impl<K: Key> Prepared<K> {
     /// The i-th message, from 0, in order of face and for one face in the order sent, with the number of
     /// its face. None exactly from `sends` on.
     pub fn sent(&self, i: usize) -> Option<(u32, &Message<K>)>
-        ensures { option_map (λ sent. (sent.0, sent.1.now)) result ≡ slice_get (by_face self.now.said) i }
+        ensures { option_map (λ sent. (sent.0, sent.1.now)) result
+            ≡ slice_get (by_face self.now.said) i }
     {
         match message_at(self.said.as_slice(), self.order.as_slice(), i) {
             None => None,

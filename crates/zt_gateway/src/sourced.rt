@@ -139,7 +139,8 @@ impl<K: Key> Gateway<K> {
     ) -> Result<Vec<(K, Sources)>, CallError>
         ensures refused { IfErr result (IsUnknownRegion self.now.rows.regions region) }
         ensures known { OnOk result (is_region_of self.now.rows.regions region ≡ true) }
-        ensures sourced { IfOk result (λ found. plain_found found.items ≡ sourced K.cmp self.now.rows region) }
+        ensures sourced { IfOk result
+            (λ found. plain_found found.items ≡ sourced K.cmp self.now.rows region) }
     {
         if !is_region_of(self.twin.state().regions(), region) {
             return Err(CallError::Refused(Refusal::NoSuchRegion));

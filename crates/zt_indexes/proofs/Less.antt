@@ -7,22 +7,18 @@ use Rattle.std.specs.Cmp.{IsTotalOrder}
 use Rattle.std.specs.Map.{lookup}
 use Rattle.std.specs.Ordering.{is_eq}
 use Rattle.std.specs.declared.cmp.Ordering.{Ordering}
-use Rattle.std.specs.declared.cmp.Ordering.TheVariants.{Less, Equal, Greater}
+use Rattle.std.specs.declared.cmp.Ordering.TheVariants.{Equal}
 use Rattle.zt_keys.specs.Test.{by_test}
 use Rattle.zt_region.specs.Region.{region_eq}
 use Rattle.zt_region.specs.declared.region.Region.{Region}
 use Rattle.zt_indexes.specs.Counted.{count_in, is_shown_in}
+use Rattle.zt_indexes.specs.Grouped.{equal-from}
 use Rattle.zt_indexes.specs.Live.{HasOneLess, IsWithout, count_at, counts_at}
 
 -- what holds whatever the result
 pub at-err : {T E P : Type 0} (r : Result T E) → P → OnErr r P
 at-err (Ok x) p = tt
 at-err (Err y) p = p
-
-equal-from : (r : Ordering) → is_eq r ≡ true → r ≡ Equal
-equal-from Less h = cc
-equal-from Equal h = refl
-equal-from Greater h = cc
 
 or-first : (a b : Bool) → (a || b) ≡ false → a ≡ false
 or-first true b h = h
@@ -48,7 +44,7 @@ none-counted region (x ∷ xs) h =
     sum_by-cons (λ (row : Region × ℕ). if region_eq region row.0 then row.1 else 0) x xs ∙ omega (arith, here, rest)
 
 module _ {K : Type 0} (cmp : K → K → Ordering) (o : IsTotalOrder cmp) where
-  lookup-tied : {X : Type 0} (a b : K) → cmp a b ≡ Equal → (es : List (K × X)) → lookup (is_at (cmp b)) es ≡ lookup (is_at (cmp a)) es
+  pub lookup-tied : {X : Type 0} (a b : K) → cmp a b ≡ Equal → (es : List (K × X)) → lookup (is_at (cmp b)) es ≡ lookup (is_at (cmp a)) es
   lookup-tied a b t [] = refl
   lookup-tied a b t (e ∷ es) = λ i. cond (is_eq (sym (o.congr a b e.0 t) i)) (Some e.1) (lookup-tied a b t es i)
 

@@ -1,2 +1,6 @@
+mod Changed
 mod Copied
+mod Kept
 mod Less
+mod Seeking
+mod Sets

@@ -1,9 +1,11 @@
-//! Look-ups in place of going over all rows: how many live rows of an expression stand in each region. The
-//! containers know keys and regions, and no gateway.
+//! Look-ups in place of going over all rows: how many live rows of an expression stand in each
+//! region. The containers know keys and regions, and no gateway.
 #![tactic(auto)]
 
+mod groups;
 mod live;
 mod regions;
+mod search;
 
 pub use live::{LiveCounts, RegionTest};
 pub use regions::RegionCounts;

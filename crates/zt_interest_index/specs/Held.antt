@@ -1,11 +1,12 @@
 -- An index that is that of a list of interests stays so as its interests come and go.
 --     HasOneMore row held more            the list with a row more, wherever it stands
 --     HasNoneOf face id held less         the list without what the face holds under the id
---     indexed-none, indexed-put, indexed-removed
+--     belongs-own, indexed-none, indexed-put, indexed-removed
 use Rattle.std.specs.Prelude.{◌≡◌, ℕ, Bool, true, false, ◌&&◌, ◌||◌, not, List, [], ◌∷◌, ◌++◌, Option, filter, refl}
 use Rattle.std.specs.BTreeMap.{is_at}
 use Rattle.std.specs.List.{list_any}
-use Rattle.std.specs.Cmp.{eq_by_cmp_equiv}
+use Rattle.std.specs.Cmp.{eq_by_cmp_equiv, tied_itself}
+use Rattle.std.specs.Ordering.{is_eq}
 use Rattle.std.proofs.Common.{ap, sym, ◌∙◌}
 use Rattle.std.proofs.lemmas.List.Folds.{list_any-append}
 use Rattle.zt_keys.specs.declared.anchor.Anchor.{Anchor}
@@ -21,7 +22,7 @@ module _ {A : Type 0} where
     pub at : (test : A → Bool) → list_any test more ≡ (test row || list_any test held)
 
   -- a test of those that are kept
-  any_kept : (test kept : A → Bool) (xs : List A) → list_any test (filter kept xs) ≡ list_any (λ x. test x && kept x) xs
+  pub any_kept : (test kept : A → Bool) (xs : List A) → list_any test (filter kept xs) ≡ list_any (λ x. test x && kept x) xs
   any_kept test kept [] = refl
   any_kept test kept (x ∷ xs) =
       by_test (kept x)
@@ -62,6 +63,10 @@ module _ {K : Type 0} where
     pub at : (test : (ℕ × ℕ) × Option K → Bool) → list_any test less ≡ list_any (λ row. test row && not (is_of face id row)) held
 
   module _ (anchored : Anchor → K → Option ℕ) where
+    -- an interest belongs into its own bucket
+    pub belongs-own : (row : (ℕ × ℕ) × Option K) → belongs anchored (bucket_of anchored row.1) row ≡ true
+    belongs-own row = ap is_eq (tied_itself total-law (bucket_of anchored row.1))
+
     pub indexed-none : IsIndexOf anchored [] []
     indexed-none = record { at = λ bucket test. refl }
 

@@ -1,9 +1,11 @@
 -- An index that is that of a list of interests, and the faces that it finds.
 --     IsIndexOf anchored index held         the interests of each bucket are those of the list that belong there
---     found_in matching e numbers n index   the face has an interest in the key in a bucket that the key looks into
---     AreHolders matching e held faces      the faces that hold an interest in the key, in order, each once
---     holders-found                         a key with a number at each anchor finds them
-use Rattle.std.specs.Prelude.{◌≡◌, ℕ, Bool, true, false, ◌&&◌, ◌||◌, List, [], ◌∷◌, Option, Some, refl}
+--     found_in matching e there numbers n index    the face was found before, or has an interest in the key in a bucket
+--                                                  that the key looks into
+--     AreHoldersAnd matching e held others faces   the faces that hold an interest in the key, and the others, in
+--                                                  order, each once
+--     holders-found                                a key with a number at each anchor finds them
+use Rattle.std.specs.Prelude.{◌≡◌, ℕ, ◌==◌, Bool, true, false, ◌&&◌, ◌||◌, List, [], ◌∷◌, Option, Some, refl}
 use Rattle.std.specs.BTreeMap.{is_at}
 use Rattle.std.specs.Cmp.{tied_itself}
 use Rattle.std.specs.List.{list_any}
@@ -30,14 +32,14 @@ module _ {K : Type 0} where
       pub at : (bucket : Bucket) (test : (ℕ × ℕ) × Option K → Bool) → list_any test (rows_at bucket index) ≡ list_any (λ row. belongs bucket row && test row) held
 
   module _ (matching : K → K → Bool) (e : K) where
-    abbrev pub found_in : Anchors → ℕ → List (Bucket × List ((ℕ × ℕ) × Option K)) → Bool
-    found_in numbers n index =
-        ((list_any (asks_from matching e n) (rows_at Any index) || list_any (asks_from matching e n) (rows_at (At Whole numbers.whole) index))
+    abbrev pub found_in : Bool → Anchors → ℕ → List (Bucket × List ((ℕ × ℕ) × Option K)) → Bool
+    found_in there numbers n index =
+        (((there || list_any (asks_from matching e n) (rows_at Any index)) || list_any (asks_from matching e n) (rows_at (At Whole numbers.whole) index))
         || list_any (asks_from matching e n) (rows_at (At Last numbers.last) index)) || list_any (asks_from matching e n) (rows_at (At First numbers.first) index)
 
-    pub record AreHolders (held : List ((ℕ × ℕ) × Option K)) (faces : List ℕ) : Type 0 where
+    pub record AreHoldersAnd (held : List ((ℕ × ℕ) × Option K)) (others faces : List ℕ) : Type 0 where
       pub in_order : IsStrictlySortedBy nat_cmp faces
-      pub among : (n : ℕ) → list_any (λ m. is_eq (nat_cmp n m)) faces ≡ list_any (asks_from matching e n) held
+      pub among : (n : ℕ) → list_any (λ m. is_eq (nat_cmp n m)) faces ≡ (list_any (λ m. n == m) others || list_any (asks_from matching e n) held)
 
 -- ---- tests of a list, together
 or_four : (a b c d w x y z : Bool) → (((a || b) || c) || d) || (((w || x) || y) || z) ≡ (((a || w) || (b || x)) || (c || y)) || (d || z)
@@ -89,6 +91,10 @@ both_true : (a b : Bool) → a ≡ true → b ≡ true → (a && b) ≡ true
 both_true true b h k = k
 both_true false b h k = cc
 
+or_later : (there a b c d : Bool) → ((((there || a) || b) || c) || d) ≡ (there || (((a || b) || c) || d))
+or_later true a b c d = refl
+or_later false a b c d = refl
+
 no_test : (a b c d t : Bool) → t ≡ false → ((((a && t) || (b && t)) || (c && t)) || (d && t)) ≡ false
 no_test a b c d t h = rw h (none a b c d)
   where
@@ -123,9 +129,10 @@ module _ {K : Type 0} (matching : K → K → Bool) (anchored : Anchor → K →
       found t (inr (inr (inr first))) = or_second _ _ (both_true _ _ (here (At First numbers.first) row first) t)
 
   pub holders-found : (index : List (Bucket × List ((ℕ × ℕ) × Option K))) (held : List ((ℕ × ℕ) × Option K)) → IsIndexOf anchored index held
-      → (n : ℕ) → found_in matching e numbers n index ≡ list_any (asks_from matching e n) held
-  holders-found index held indexed n =
+      → (there : Bool) (n : ℕ) → found_in matching e there numbers n index ≡ (there || list_any (asks_from matching e n) held)
+  holders-found index held indexed there n =
       let test = asks_from matching e n in
+      or_later there _ _ _ _ ∙ ap (λ b. there || b) (
       (λ i. ((indexed.at Any test i || indexed.at (At Whole numbers.whole) test i) || indexed.at (At Last numbers.last) test i) || indexed.at (At First numbers.first) test i)
       ∙ sym (any_four (λ row. belongs anchored Any row && test row) (λ row. belongs anchored (At Whole numbers.whole) row && test row) (λ row. belongs anchored (At Last numbers.last) row && test row) (λ row. belongs anchored (At First numbers.first) row && test row) held)
-      ∙ any_alike _ test (seen n) held
+      ∙ any_alike _ test (seen n) held)

@@ -1,12 +1,12 @@
 // Interests by bucket.
-ghost use Rattle.std.specs.Prelude.{◌≡◌, ℕ, ◌++◌, ◌∷◌, ◌||◌, [], filter, not, true, IfNone, IfOk, IfSome, List, Option, OnErr, OnOk};
+ghost use Rattle.std.specs.Prelude.{◌≡◌, ℕ, ◌++◌, ◌∷◌, ◌||◌, ◌==◌, [], filter, not, true, IfNone, IfOk, IfSome, List, Option, OnErr, OnOk};
 ghost use Rattle.std.specs.BTreeSet.{contains};
 ghost use Rattle.std.specs.List.{list_any};
 ghost use Rattle.std.specs.List.Sorted.{IsStrictlySortedBy};
 ghost use Rattle.std.specs.Map.{keys_of};
 ghost use Rattle.std.specs.Ordering.{nat_cmp};
 ghost use Rattle.zt_interest_index.specs.Buckets.{anchors_of, bucket_of};
-ghost use Rattle.zt_interest_index.specs.Holders.{AreHolders, IsIndexOf, found_in};
+ghost use Rattle.zt_interest_index.specs.Holders.{AreHoldersAnd, IsIndexOf, found_in};
 ghost use Rattle.zt_interest_index.specs.Holdings.{asks_from, is_of};
 ghost use Rattle.zt_interest_index.specs.Index.{ChangesAt, IsWith, IsWithout, bucket_cmp, rows_at};
 
@@ -114,38 +114,52 @@ fn gather_from<K: Key>(
     }
 }
 
-// The faces whose interests are about the key, for a key with these numbers. The only error is want of
-// memory.
+// Puts the faces among those found whose interests are about the key, for a key with these numbers. The
+// only error is want of memory.
 fn gather_all<K: Key>(
-    alloc: Global,
+    found: &mut BTreeSet<u32>,
     buckets: &BTreeMap<Bucket, Holdings<K>>,
     numbers: Anchors,
     expr: &K,
-) -> Result<BTreeSet<u32>, Memory>
-    ensures { IfOk result (λ found. (n : ℕ) → contains nat_cmp found n
-        ≡ found_in K.matching expr.now numbers n buckets.now.entries) }
+) -> Result<(), Memory>
+    ensures { OnOk result ((n : ℕ) → contains nat_cmp found.new n
+        ≡ found_in K.matching expr.now (contains nat_cmp found.old n) numbers n buckets.now.entries) }
 {
-    let mut found = BTreeSet::new(alloc);
-    gather_from(&mut found, buckets, Bucket::Any, expr)?;
+    gather_from(found, buckets, Bucket::Any, expr)?;
     gather_from(
-        &mut found,
+        found,
         buckets,
         Bucket::At(Anchor::Whole, numbers.whole),
         expr,
     )?;
+    gather_from(found, buckets, Bucket::At(Anchor::Last, numbers.last), expr)?;
     gather_from(
-        &mut found,
-        buckets,
-        Bucket::At(Anchor::Last, numbers.last),
-        expr,
-    )?;
-    gather_from(
-        &mut found,
+        found,
         buckets,
         Bucket::At(Anchor::First, numbers.first),
         expr,
-    )?;
-    Ok(found)
+    )
+}
+
+// Puts a number into a set. The only error is want of memory.
+fn add_number(set: &mut BTreeSet<u32>, number: u32) -> Result<(), Memory>
+    ensures { OnOk result ((n : ℕ) → contains nat_cmp set.new n
+        ≡ (contains nat_cmp set.old n || (n == number))) }
+{
+    set.insert(number)?;
+    Ok(())
+}
+
+// The numbers as a set. The only error is want of memory.
+fn set_of(alloc: Global, numbers: &[u32]) -> Result<BTreeSet<u32>, Memory>
+    ensures { IfOk result (λ set. (n : ℕ) → contains nat_cmp set n
+        ≡ list_any (λ m. n == m) numbers.now) }
+{
+    let mut set = BTreeSet::new(alloc);
+    for number in numbers {
+        add_number(&mut set, *number)?;
+    }
+    Ok(set)
 }
 
 // The numbers of a set, in order. The only error is want of memory.
@@ -195,16 +209,23 @@ impl<K: Key> InterestIndex<K> {
         }
     }
 
-    /// The faces that hold an interest in the key, in order of number, each once; `None` for a key that
-    /// has no number at some anchor: any face may hold one. The only error is want of memory.
-    pub fn holders(&self, alloc: Global, expr: &K) -> Result<Option<Vec<u32>>, Memory>
+    /// The faces that hold an interest in the key, and these others, in order of number, each once; `None`
+    /// for a key that has no number at some anchor: any face may hold one. The only error is want of memory.
+    pub fn holders_and(
+        &self,
+        alloc: Global,
+        expr: &K,
+        others: &[u32],
+    ) -> Result<Option<Vec<u32>>, Memory>
         ensures { IfOk result (λ found. IfSome found (λ faces. (held : List ((ℕ × ℕ) × Option K)) →
-            IsIndexOf K.anchored self.now held → AreHolders K.matching expr.now held faces.items)) }
+            IsIndexOf K.anchored self.now held →
+            AreHoldersAnd K.matching expr.now held others.now faces.items)) }
     {
         let Some(numbers) = anchors_of(expr) else {
             return Ok(None);
         };
-        let found = gather_all(alloc, &self.buckets, numbers, expr)?;
+        let mut found = set_of(alloc, others)?;
+        gather_all(&mut found, &self.buckets, numbers, expr)?;
         Ok(Some(listed(alloc, &found)?))
     }
 

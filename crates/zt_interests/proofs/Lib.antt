@@ -2,3 +2,4 @@ mod ChosenRows
 mod Finals
 mod Gone
 mod Numbered
+mod North

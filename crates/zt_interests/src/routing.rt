@@ -1,15 +1,19 @@
 // Where an interest goes.
-ghost use Rattle.std.specs.Prelude.{◌≡◌, ◌++◌, IfOk, OnOk, map};
+ghost use Rattle.std.specs.Prelude.{◌≡◌, ◌++◌, IfOk, OnOk};
 ghost use Rattle.zt_region.specs.Region.{is_north};
 ghost use Rattle.zt_interests.specs.Chosen.{chosen};
+ghost use Rattle.zt_model.specs.Lists.{is_some_and};
+ghost use Rattle.zt_model.specs.Parts.{find_face};
 ghost use Rattle.zt_model.specs.Routing.{awaits_initial, is_lowest_up, is_target, is_target_of};
-ghost use Rattle.zt_model.specs.Routing.{leads_up, route, route_to, sent_as};
+ghost use Rattle.zt_model.specs.Routing.{leads_up, route, sent_as};
+ghost use Rattle.zt_tokens.specs.Walks.{given_at};
 
 use std::alloc::Global;
 use zt_keys::{Key, Memory};
 use zt_protocol::{InterestMode, Message, copy_expression};
 use zt_region::{Bound, Region, WhatAmI};
 use zt_state::{FaceState, GatewayState, RemoteInterest};
+use zt_tokens::{FaceRule, find_face, say_at};
 
 // Whether the face is north-bound.
 pub(crate) fn is_north<K: Key>(f: &FaceState<K>) -> bool
@@ -25,13 +29,23 @@ fn leads_up<K: Key>(f: &FaceState<K>) -> bool
     is_north(f) && f.bound() == Bound::South
 }
 
+// Whether the face of a number leads to a gateway above.
+fn leads_up_at<K: Key>(g: &GatewayState<K>, number: u32) -> bool
+    ensures { result ≡ is_some_and (find_face number g.now) leads_up }
+{
+    match find_face(g, number) {
+        Some(f) => leads_up(f),
+        None => false,
+    }
+}
+
 // Whether the face is the lowest that leads to a gateway above.
 fn is_lowest_up<K: Key>(g: &GatewayState<K>, f: &FaceState<K>) -> bool
     ensures { result ≡ is_lowest_up g.now f.now }
 {
-    for other in g.faces() {
-        if leads_up(other) {
-            return other.number() == f.number();
+    for number in g.north() {
+        if leads_up_at(g, *number) {
+            return *number == f.number();
         }
     }
     false
@@ -72,30 +86,38 @@ pub fn is_target<K: Key>(
     asker != Region::North && is_north(f) && is_target_of(g, mode, f)
 }
 
-// Adds the interest, where it goes to the face.
-#[tactic(auto, unfolding(zt_model::specs::Routing::route_to))]
-fn route_to<K: Key>(
-    alloc: Global,
-    g: &GatewayState<K>,
+// An interest that is sent on.
+#[derive(Drop)]
+struct Routes<'a, K: Key> {
     asker: Region,
-    interest: &RemoteInterest<K>,
-    f: &FaceState<K>,
-    sends: &mut Vec<(u32, Message<K>)>,
-) -> Result<(), Memory>
-    ensures { OnOk result (sends.new.items
-        ≡ sends.old.items
-        ++ map (λ m. (f.now.number, m)) (route_to g.now asker interest.now f.now)) }
-{
-    if is_target(g, asker, interest.mode(), f) {
-        let message = Message::Interest {
-            id: f.next(),
-            mode: interest.mode(),
-            options: interest.options(),
-            expr: copy_expression(interest.expr(), alloc)?,
-        };
-        sends.push((f.number(), message))?;
+    interest: &'a RemoteInterest<K>,
+}
+
+impl<'a, K: Key> FaceRule<K> for Routes<'a, K> {
+    ghost use Rattle.zt_model.specs.Routing.{route_to};
+
+    ghost given = { λ t g. route_to g t.asker t.interest.now };
+
+    #[tactic(auto, unfolding(zt_model::specs::Routing::route_to))]
+    fn say(
+        &self,
+        alloc: Global,
+        g: &GatewayState<K>,
+        f: &FaceState<K>,
+        sends: &mut Vec<(u32, Message<K>)>,
+    ) -> Result<(), Memory> {
+        let interest = self.interest;
+        if is_target(g, self.asker, interest.mode(), f) {
+            let message = Message::Interest {
+                id: f.next(),
+                mode: interest.mode(),
+                options: interest.options(),
+                expr: copy_expression(interest.expr(), alloc)?,
+            };
+            sends.push((f.number(), message))?;
+        }
+        Ok(())
     }
-    Ok(())
 }
 
 /// An interest of a face of the region `asker` is sent on to the north: Zenoh's `route_interest`.
@@ -108,11 +130,7 @@ pub fn route<K: Key>(
 ) -> Result<Vec<(u32, Message<K>)>, Memory>
     ensures { IfOk result (λ sends. sends.items ≡ route asker interest.now g.now) }
 {
-    let mut sends = Vec::new(alloc);
-    for f in g.faces() {
-        route_to(alloc, g, asker, interest, f, &mut sends)?;
-    }
-    Ok(sends)
+    say_at(alloc, g, g.north(), &Routes { asker, interest })
 }
 
 // Adds the face with the id that it draws next, where such an interest goes to it.
@@ -133,6 +151,24 @@ fn add_target<K: Key>(
     Ok(())
 }
 
+// The same of the face of a number, if it is open.
+fn add_target_at<K: Key>(
+    g: &GatewayState<K>,
+    asker: Region,
+    mode: InterestMode,
+    number: u32,
+    targets: &mut Vec<(u32, u32)>,
+) -> Result<(), Memory>
+    ensures { OnOk result (targets.new.items
+        ≡ targets.old.items
+        ++ given_at (chosen (is_target g.now asker mode) (λ x. (x.number, x.next))) g.now.faces number) }
+{
+    match find_face(g, number) {
+        Some(f) => add_target(g, asker, mode, f, targets),
+        None => Ok(()),
+    }
+}
+
 /// The faces that an interest of such a mode goes to, with the ids that it gets there. The only
 /// error is want of memory.
 pub fn sent_as<K: Key>(
@@ -144,8 +180,8 @@ pub fn sent_as<K: Key>(
     ensures { IfOk result (λ targets. targets.items ≡ sent_as g.now asker mode) }
 {
     let mut targets = Vec::new(alloc);
-    for f in g.faces() {
-        add_target(g, asker, mode, f, &mut targets)?;
+    for number in g.north() {
+        add_target_at(g, asker, mode, *number, &mut targets)?;
     }
     Ok(targets)
 }

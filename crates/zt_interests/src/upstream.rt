@@ -2,7 +2,7 @@
 ghost use Rattle.std.specs.Prelude.{◌≡◌, ℕ, ◌&&◌, ◌++◌, IfOk, OnOk, map, not};
 ghost use Rattle.std.specs.List.{list_any};
 ghost use Rattle.zt_interests.specs.Chosen.{all_chosen, chosen};
-ghost use Rattle.zt_model.specs.Routing.{asks_same, end_upstream, end_upstream_to, finish, finish_to};
+ghost use Rattle.zt_model.specs.Routing.{asks_same, end_upstream, finish, finish_to};
 ghost use Rattle.zt_model.specs.Routing.{is_finished_by, is_held_south, stands};
 ghost use Rattle.zt_model.specs.Rows.{Ask, InterestRow};
 ghost use Rattle.zt_model.specs.Telling.{was_sent_as};
@@ -14,7 +14,7 @@ use std::alloc::Global;
 use zt_keys::{Key, Memory};
 use zt_protocol::{InterestId, Message};
 use zt_state::{AskState, FaceState, GatewayState, RemoteInterest};
-use zt_tokens::find_face;
+use zt_tokens::{FaceRule, find_face, say_at};
 
 // Whether the face holds such an interest.
 fn holds<K: Key>(f: &FaceState<K>, interest: &RemoteInterest<K>) -> bool
@@ -81,22 +81,38 @@ fn ends_at<K: Key>(g: &GatewayState<K>, interest: &RemoteInterest<K>, f: &FaceSt
     is_north(f) && !is_held_south(g, interest)
 }
 
-// Adds what the face is told where no south-bound face holds the interest any more.
-#[tactic(auto, unfolding(zt_model::specs::Routing::end_upstream_to))]
-fn end_upstream_to<K: Key>(
-    g: &GatewayState<K>,
-    interest: &RemoteInterest<K>,
-    f: &FaceState<K>,
-    sends: &mut Vec<(u32, Message<K>)>,
-) -> Result<(), Memory>
-    ensures { OnOk result (sends.new.items ≡ sends.old.items
-        ++ map (λ m. (f.now.number, m))
-        (end_upstream_to K.cmp K.matching g.now interest.now f.now)) }
+// Whether the face was sent such an interest.
+fn was_sent<K: Key>(f: &FaceState<K>, interest: &RemoteInterest<K>) -> bool
+    ensures { result ≡ list_any (λ row. asks_same K.cmp K.matching interest.now row.1) f.now.locals }
 {
-    if ends_at(g, interest, f) {
-        end_rows(interest, f, sends)?;
+    f.locals().iter().any(|(_, sent)| interest.asks_same(sent))
+}
+
+// An interest that may end upstream.
+#[derive(Drop)]
+struct Ends<'a, K: Key>(&'a RemoteInterest<K>);
+
+impl<'a, K: Key> FaceRule<K> for Ends<'a, K> {
+    ghost use Rattle.zt_model.specs.Routing.{end_upstream_to};
+
+    ghost given = { λ t g. end_upstream_to K.cmp K.matching g t.0.now };
+
+    #[tactic(auto, unfolding(zt_model::specs::Routing::end_upstream_to))]
+    fn say(
+        &self,
+        _alloc: Global,
+        g: &GatewayState<K>,
+        f: &FaceState<K>,
+        sends: &mut Vec<(u32, Message<K>)>,
+    ) -> Result<(), Memory> {
+        if !was_sent(f, self.0) {
+            return Ok(());
+        }
+        if ends_at(g, self.0, f) {
+            end_rows(self.0, f, sends)?;
+        }
+        Ok(())
     }
-    Ok(())
 }
 
 /// An interest ends upstream when no south-bound face holds it any more: Zenoh's
@@ -109,11 +125,7 @@ pub fn end_upstream<K: Key>(
     ensures { IfOk result (λ sends. sends.items
         ≡ end_upstream K.cmp K.matching interest.now g.now) }
 {
-    let mut sends = Vec::new(alloc);
-    for f in g.faces() {
-        end_upstream_to(g, interest, f, &mut sends)?;
-    }
-    Ok(sends)
+    say_at(alloc, g, g.north(), &Ends(interest))
 }
 
 // Whether the pending stands: its face is open, and it is neither finalised nor expired.

@@ -11,7 +11,7 @@ use Rattle.zt_protocol.specs.Refusal.{number_of}
 use Rattle.zt_protocol.specs.declared.entries.Sent.{Sent}
 use Rattle.zt_protocol.specs.declared.errors.Refusal.{Refusal}
 use Rattle.zt_protocol.specs.declared.messages.Message.{Message}
-use Rattle.zt_model.specs.Fabric.{CallAt, Fabric, Node, Place, after_closing, after_hearing, after_opening, after_refusal, altered_at, altered_by_line, at_nth, both_ends, built_causes, call_at, call_of, call_of_step, causes_of_call, closed_ends, closing_call, entry_by, entry_of, fabric_after, gateways_after_hearing, line_causes, line_spends_ids, new_rows, next_face, opened_at, opened_ends, opening_at, said_at, said_by_line, said_closing, said_opening, sorted_by_face, table_at, with_place, with_rows, with_session, without_message}
+use Rattle.zt_model.specs.Fabric.{CallAt, Fabric, Node, Place, after_closing, after_hearing, after_opening, after_refusal, altered_at, altered_by_line, at_nth, both_ends, line_causes, call_at, call_of, call_of_step, causes_of_call, closed_ends, closing_call, entry_by, entry_of, fabric_after, gateways_after_hearing, line_causes, line_spends_ids, new_rows, next_face, opened_at, opened_ends, opening_at, said_at, said_by_line, said_closing, said_opening, sorted_by_face, table_at, with_place, with_rows, with_session, without_message}
 use Rattle.zt_model.specs.Linking.{LinkEnd, link_ends, with_link, without_link}
 use Rattle.zt_model.specs.Lists.{nth, without_id}
 use Rattle.zt_model.specs.Places.{Link}
@@ -165,9 +165,9 @@ module _ {K : Type 0} (cmp : K → K → Ordering) (matching : K → K → Bool)
         (called n node c s (sorted_by_face (said_at cmp matching s (Some (record { gateway = n; rows = node.rows; call = c })))) (prints_sorted s.faces n (said cmp matching c node.rows)) at_ still_ fine
         (left.calls spent c node.rows still_ accepted (gateway_in_order cmp matching s n node at_ fine).rows (own_rows n node s at_ all)) all)
 
-    line_heard : (spent : Bool) (line : PlainLine K) (s : Fabric K) → HasFirstIds line → first_cause (built_causes cmp matching spent line s) ≡ None → FabricIsInOrder cmp matching s → Gateways s
+    line_heard : (spent : Bool) (line : PlainLine K) (s : Fabric K) → HasFirstIds line → first_cause (line_causes cmp matching spent line s) ≡ None → FabricIsInOrder cmp matching s → Gateways s
         → Gateways (after_hearing cmp (sorted_by_face (said_by_line cmp matching line s)) (altered_by_line cmp matching line s))
-    unfolding altered_by_line said_by_line built_causes call_of sorted_by_face parts_of said_by altered_by
+    unfolding altered_by_line said_by_line line_causes call_of sorted_by_face parts_of said_by altered_by
     line_heard spent (Gateway mode zid regions south name timeout refused) s real accepted fine all =
         let node : Node K = record { rows = new_rows mode zid regions timeout refused; south = south; name = name } in
         still [] (record s { gateways = s.gateways ++ node ∷ [] }) refl (each_append (λ (x : Node K). Q x.rows) s.gateways (node ∷ []) all (left.fresh mode zid regions timeout refused, tt))
@@ -223,20 +223,20 @@ module _ {K : Type 0} (cmp : K → K → Ordering) (matching : K → K → Bool)
     refused_still (Moment gateway now) r s all = all
     refused_still (SetTreesAt gateway region table) r s all = all
 
-    gateways_after_line : (is_built : PlainLine K → Bool) (line : PlainLine K) (s : Fabric K) → HasFirstIds line → FabricIsInOrder cmp matching s → Gateways s → Gateways (fabric_after cmp matching line (entry_of cmp matching is_built line s) s)
+    gateways_after_line : (line : PlainLine K) (s : Fabric K) → HasFirstIds line → FabricIsInOrder cmp matching s → Gateways s → Gateways (fabric_after cmp matching line (entry_of cmp matching line s) s)
     unfolding fabric_after entry_of
-    gateways_after_line is_built line s real fine all = cases (first_cause (line_causes cmp matching is_built (line_spends_ids cmp matching line s) line s)) refl
+    gateways_after_line line s real fine all = cases (first_cause (line_causes cmp matching (line_spends_ids cmp matching line s) line s)) refl
       where
         spent : Bool
         spent = line_spends_ids cmp matching line s
 
-        cases : (o : Option Refusal) → first_cause (line_causes cmp matching is_built spent line s) ≡ o → Gateways (fabric_after cmp matching line (entry_by cmp matching o (sorted_by_face (said_by_line cmp matching line s))) s)
-        cases None accepted = line_heard spent line s real (no_cause _ _ _ accepted).1 fine all
+        cases : (o : Option Refusal) → first_cause (line_causes cmp matching spent line s) ≡ o → Gateways (fabric_after cmp matching line (entry_by cmp matching o (sorted_by_face (said_by_line cmp matching line s))) s)
+        cases None accepted = line_heard spent line s real accepted fine all
         cases (Some r) refused = refused_still line r s all
 
-    -- Each line leaves the fact true of each gateway, whichever lines are built.
-    pub each_after_line : (is_built : PlainLine K → Bool) (line : PlainLine K) (s : Fabric K) → HasFirstIds line → EachGatewayIs cmp matching Q s → EachGatewayIs cmp matching Q (fabric_after cmp matching line (entry_of cmp matching is_built line s) s)
-    each_after_line is_built line s real is = record {
-      order = in_order_after_line cmp matching total is_built line s real is.order;
-      gateways = gateways_after_line is_built line s real is.order is.gateways;
+    -- Each line leaves the fact true of each gateway.
+    pub each_after_line : (line : PlainLine K) (s : Fabric K) → HasFirstIds line → EachGatewayIs cmp matching Q s → EachGatewayIs cmp matching Q (fabric_after cmp matching line (entry_of cmp matching line s) s)
+    each_after_line line s real is = record {
+      order = in_order_after_line cmp matching total line s real is.order;
+      gateways = gateways_after_line line s real is.order is.gateways;
     }

@@ -42,5 +42,5 @@ module _ {K : Type 0} (cmp : K → K → Ordering) (matching : K → K → Bool)
       calls = λ spent c g still accepted ordered sound. sound_after_call cmp matching total equal_is_same spent c g (calls_nothing cmp matching total c still) accepted sound;
     }
 
-    pub sound_after_line : (is_built : PlainLine K → Bool) (line : PlainLine K) (s : Fabric K) → HasFirstIds line → EachGatewayIs cmp matching (IsSound cmp matching) s → EachGatewayIs cmp matching (IsSound cmp matching) (fabric_after cmp matching line (entry_of cmp matching is_built line s) s)
-    sound_after_line is_built line s real is = each_after_line cmp matching (IsSound cmp matching) sound_is_left total is_built line s real is
+    pub sound_after_line : (line : PlainLine K) (s : Fabric K) → HasFirstIds line → EachGatewayIs cmp matching (IsSound cmp matching) s → EachGatewayIs cmp matching (IsSound cmp matching) (fabric_after cmp matching line (entry_of cmp matching line s) s)
+    sound_after_line line s real is = each_after_line cmp matching (IsSound cmp matching) sound_is_left total line s real is

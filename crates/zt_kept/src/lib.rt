@@ -34,12 +34,12 @@ pub fn calls_leave_gateways_sound<K: Key>()
     ensures any { (c : PlainCall K) (g : Rows K) → CallHasFirstIds c → IsSound K.cmp K.matching g → IsSound K.cmp K.matching (rows_after K.cmp K.matching c g) }
 {}
 
-/// So does every line of a script, accepted or refused, whichever lines are built: all gateways of the empty fabric are sound, and
+/// So does every line of a script, accepted or refused: all gateways of the empty fabric are sound, and
 /// each line leaves them so. In sound gateways faces keep what they should.
 pub fn lines_leave_gateways_sound<K: Key>()
     ensures start { EachGatewayIs K.cmp K.matching (IsSound K.cmp K.matching) empty_fabric }
-    ensures step { (is_built : PlainLine K → Bool) (line : PlainLine K) (s : Fabric K) → HasFirstIds line → EachGatewayIs K.cmp K.matching (IsSound K.cmp K.matching) s
-        → EachGatewayIs K.cmp K.matching (IsSound K.cmp K.matching) (fabric_after K.cmp K.matching line (entry_of K.cmp K.matching is_built line s) s) }
+    ensures step { (line : PlainLine K) (s : Fabric K) → HasFirstIds line → EachGatewayIs K.cmp K.matching (IsSound K.cmp K.matching) s
+        → EachGatewayIs K.cmp K.matching (IsSound K.cmp K.matching) (fabric_after K.cmp K.matching line (entry_of K.cmp K.matching line s) s) }
     ensures keeps { (s : Fabric K) → EachGatewayIs K.cmp K.matching (IsSound K.cmp K.matching) s → AllKeepWhatTheyShould K.cmp K.matching s }
 {}
 

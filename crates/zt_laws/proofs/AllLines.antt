@@ -8,7 +8,7 @@ use Rattle.zt_protocol.specs.Refusal.{number_of}
 use Rattle.zt_protocol.specs.declared.entries.Sent.{Sent}
 use Rattle.zt_protocol.specs.declared.errors.Refusal.{Refusal}
 use Rattle.zt_protocol.specs.declared.messages.Message.{Message}
-use Rattle.zt_model.specs.Fabric.{CallAt, Fabric, Node, after_hearing, after_refusal, altered_at, altered_by_line, at_nth, both_ends, call_of_step, new_rows, built_causes, call_of, closed_ends, entry_by, entry_of, fabric_after, gateways_after_hearing, line_causes, line_spends_ids, opened_at, opened_ends, said_at, said_by_line, said_closing, said_opening, sorted_by_face, table_at, with_place, with_rows, with_session, with_waiting, without_message}
+use Rattle.zt_model.specs.Fabric.{CallAt, Fabric, Node, after_hearing, after_refusal, altered_at, altered_by_line, at_nth, both_ends, call_of_step, new_rows, line_causes, call_of, closed_ends, entry_by, entry_of, fabric_after, gateways_after_hearing, line_causes, line_spends_ids, opened_at, opened_ends, said_at, said_by_line, said_closing, said_opening, sorted_by_face, table_at, with_place, with_rows, with_session, with_waiting, without_message}
 use Rattle.zt_model.specs.Linking.{LinkEnd, link_ends, sending_end, with_link, with_taken, without_link}
 use Rattle.zt_model.specs.Lists.{nth, without_id}
 use Rattle.zt_model.specs.Places.{Link}
@@ -85,9 +85,9 @@ module _ {K : Type 0} (cmp : K → K → Ordering) (matching : K → K → Bool)
     abbrev Called : Fabric K → Option (CallAt K) → Type 0
     Called s at = FabricIsInOrder cmp matching (after_hearing cmp (sorted_by_face (said_at cmp matching s at)) (altered_at cmp matching s at))
 
-    line_heard : (spent : Bool) (line : PlainLine K) (s : Fabric K) → HasFirstIds line → first_cause (built_causes cmp matching spent line s) ≡ None → FabricIsInOrder cmp matching s
+    line_heard : (spent : Bool) (line : PlainLine K) (s : Fabric K) → HasFirstIds line → first_cause (line_causes cmp matching spent line s) ≡ None → FabricIsInOrder cmp matching s
         → FabricIsInOrder cmp matching (after_hearing cmp (sorted_by_face (said_by_line cmp matching line s)) (altered_by_line cmp matching line s))
-    unfolding altered_by_line said_by_line built_causes call_of sorted_by_face parts_of said_by altered_by
+    unfolding altered_by_line said_by_line line_causes call_of sorted_by_face parts_of said_by altered_by
     line_heard spent (Gateway mode zid regions south name timeout refused) s real accepted fine =
         still_in_order [] _ refl (in_order_gateway cmp matching (record { rows = new_rows mode zid regions timeout refused; south = south; name = name }) mode zid regions timeout refused s refl fine)
     line_heard spent (Session n first) s real accepted fine = cases (nth n s.gateways) refl (no_cause _ _ _ accepted).0
@@ -137,17 +137,17 @@ module _ {K : Type 0} (cmp : K → K → Ordering) (matching : K → K → Bool)
     refused_in_order (Moment gateway now) r s fine = fine
     refused_in_order (SetTreesAt gateway region table) r s fine = fine
 
-    -- Each line leaves the fabric in order, whichever lines are built.
-    pub in_order_after_line : (is_built : PlainLine K → Bool) (line : PlainLine K) (s : Fabric K) → HasFirstIds line → FabricIsInOrder cmp matching s → FabricIsInOrder cmp matching (fabric_after cmp matching line (entry_of cmp matching is_built line s) s)
+    -- Each line leaves the fabric in order.
+    pub in_order_after_line : (line : PlainLine K) (s : Fabric K) → HasFirstIds line → FabricIsInOrder cmp matching s → FabricIsInOrder cmp matching (fabric_after cmp matching line (entry_of cmp matching line s) s)
     unfolding fabric_after entry_of
-    in_order_after_line is_built line s real fine = cases (first_cause (line_causes cmp matching is_built (line_spends_ids cmp matching line s) line s)) refl
+    in_order_after_line line s real fine = cases (first_cause (line_causes cmp matching (line_spends_ids cmp matching line s) line s)) refl
       where
         spent : Bool
         spent = line_spends_ids cmp matching line s
 
-        cases : (o : Option Refusal) → first_cause (line_causes cmp matching is_built spent line s) ≡ o → FabricIsInOrder cmp matching (fabric_after cmp matching line (entry_by cmp matching o (sorted_by_face (said_by_line cmp matching line s))) s)
+        cases : (o : Option Refusal) → first_cause (line_causes cmp matching spent line s) ≡ o → FabricIsInOrder cmp matching (fabric_after cmp matching line (entry_by cmp matching o (sorted_by_face (said_by_line cmp matching line s))) s)
         cases None accepted =
             let ms = sorted_by_face (said_by_line cmp matching line s) in
             let heard = after_hearing cmp ms (altered_by_line cmp matching line s) in
-            in_order_elsewhere heard.links (with_waiting ms heard).waiting heard (line_heard spent line s real (no_cause _ _ _ accepted).1 fine)
+            in_order_elsewhere heard.links (with_waiting ms heard).waiting heard (line_heard spent line s real accepted fine)
         cases (Some r) refused = refused_in_order line r s fine

@@ -60,9 +60,6 @@ module _ {K : Type 0} (cmp : K → K → Ordering) (matching : K → K → Bool)
 
     -- ---- one face changes
 
-    changed : (change : Face K → Face K) → List (Face K) → List (Face K)
-    changed change fs = map (λ f. if n == f.number then change f else f) fs
-
     -- the change leaves number and region, and changes live rows by `live`
     record ChangesLive (live : ById K → ById K) (change : Face K → Face K) : Type 0 where
       number : (f : Face K) → (change f).number ≡ f.number

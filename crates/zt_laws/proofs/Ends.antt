@@ -91,9 +91,6 @@ module _ {K : Type 0} (cmp : K → K → Ordering) where
 
   module _ (P : ℕ → Rows K → Type 0) (s t : Fabric K) (ms : List (Sent K)) (n : ℕ) (change : Rows K → Rows K)
       (other : (j : ℕ) (g : Rows K) → P j g → rows_after_hearing cmp t ms j g ≡ rows_after_hearing cmp s ms j g) where
-    changes : Node K → Node K
-    changes node = record node { rows = change node.rows }
-
     heard_alike : (k : ℕ) (gs : List (Node K)) → EachFrom (λ j (node : Node K). P j node.rows) k gs → gateways_after_hearing cmp t ms k gs ≡ gateways_after_hearing cmp s ms k gs
     unfolding gateways_after_hearing
     heard_alike k [] placed = refl
@@ -239,9 +236,6 @@ module _ {K : Type 0} (cmp : K → K → Ordering) (matching : K → K → Bool)
             subst (λ o. Commutes o (nth n (after_hearing cmp ms X).gateways)) (sym at_) (subst (λ o. Commutes (Some node) o) (sym there.1) (some node there.0 at_ there.1 there.2))
 
     -- ---- all ends
-
-    open_end : LinkEnd K → Fabric K → Fabric K
-    open_end end X = opened_at cmp matching (opening_at cmp matching X end) X
 
     pub end_alone : (end : LinkEnd K) (X : Fabric K) → StartsReal end → FabricIsInOrder cmp matching X → FabricIsInOrder cmp matching (opened_at cmp matching (opening_at cmp matching X end) X) × (length X.faces ≤ length (opened_at cmp matching (opening_at cmp matching X end) X).faces)
     end_alone end X real fine =

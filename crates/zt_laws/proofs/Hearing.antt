@@ -29,9 +29,6 @@ find_none p [] found = tt
 find_none p (y ∷ xs) found =
     by_test (p y) (λ here. let e : Some y ≡ None = rw here at found in cc) (λ here. (here, find_none p xs (rw here at found)))
 
-pub number_is : (n m : ℕ) → (n == m) ≡ true → n ≡ m
-number_is n m h = eqb-true n m h
-
 -- where numbers rise, the face of a number is the only one
 pub find_only : {K : Type 0} (n low : ℕ) (fs : List (Face K)) (f : Face K) → RiseFrom (λ f. f.number) low fs → first_where (λ f. n == f.number) fs ≡ Some f → Each (λ h. (n == h.number) ≡ true → h ≡ f) fs
 find_only n low [] f rises found = tt

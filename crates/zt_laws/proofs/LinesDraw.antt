@@ -290,10 +290,10 @@ module _ {K : Type 0} (cmp : K → K → Ordering) (matching : K → K → Bool)
   faces_shown P i (node ∷ gs) all = (all.0, faces_shown P (i + 1) gs all.1)
 
   -- Each line of a script draws the next ids of its faces.
-  pub turn_draws : (is_built : PlainLine K → Bool) (line : PlainLine K) (s : Fabric K) → HasFirstIds line → FabricIsInOrder cmp matching s
-      → (let entry = entry_of cmp matching is_built line s in DrawsNextIds cmp matching (record { line = line; entry = entry; before = as_shown s; after = fabric_shown cmp matching line entry (as_shown s) }))
+  pub turn_draws : (line : PlainLine K) (s : Fabric K) → HasFirstIds line → FabricIsInOrder cmp matching s
+      → (let entry = entry_of cmp matching line s in DrawsNextIds cmp matching (record { line = line; entry = entry; before = as_shown s; after = fabric_shown cmp matching line entry (as_shown s) }))
   unfolding entry_of fabric_shown printed_for
-  turn_draws is_built line s real fine = cases (first_cause (line_causes cmp matching is_built (line_spends_ids cmp matching line s) line s))
+  turn_draws line s real fine = cases (first_cause (line_causes cmp matching (line_spends_ids cmp matching line s) line s))
     where
       ms : List (Sent K)
       ms = sorted_by_face (said_by_line cmp matching line s)

@@ -54,10 +54,6 @@ pub each_front : {A : Type 0} (P : A → Type 0) (xs ys : List A) → Each P (xs
 each_front P [] ys all = tt
 each_front P (x ∷ xs) ys all = (all.0, each_front P xs ys all.1)
 
-pub each_back : {A : Type 0} (P : A → Type 0) (xs ys : List A) → Each P (xs ++ ys) → Each P ys
-each_back P [] ys all = all
-each_back P (x ∷ xs) ys all = each_back P xs ys all.1
-
 pub each_filter : {A : Type 0} (P : A → Type 0) (p : A → Bool) (xs : List A) → Each P xs → Each P (filter p xs)
 each_filter P p [] all = tt
 each_filter P p (x ∷ xs) all = of_cond (Each P) (p x) (x ∷ filter p xs) (filter p xs) (λ _. (all.0, each_filter P p xs all.1)) (λ _. each_filter P p xs all.1)
@@ -172,7 +168,3 @@ rise_push key low (x ∷ xs) y h below rises =
 pub each_from_weaker : {A : Type 0} (P Q : ℕ → A → Type 0) → ((n : ℕ) (x : A) → P n x → Q n x) → (i : ℕ) (xs : List A) → EachFrom P i xs → EachFrom Q i xs
 each_from_weaker P Q h i [] all = tt
 each_from_weaker P Q h i (x ∷ xs) all = (h i x all.0, each_from_weaker P Q h (i + 1) xs all.1)
-
-pub each_from_each : {A : Type 0} (P : ℕ → A → Type 0) (Q : A → Type 0) → ((n : ℕ) (x : A) → P n x → Q x) → (i : ℕ) (xs : List A) → EachFrom P i xs → Each Q xs
-each_from_each P Q h i [] all = tt
-each_from_each P Q h i (x ∷ xs) all = (h i x all.0, each_from_each P Q h (i + 1) xs all.1)

@@ -71,31 +71,6 @@ placed_above low n f (p ∷ ps) rises there =
     let miss : is_place n f p ≡ false = and_left (n == p.gateway) (f == p.face) other in
     placed_above low n f ps (rw other at rises) (rw miss at there))
 
--- numbers rise as the faces of a gateway do
-pub number_rises : (i low n f k : ℕ) (ps : List Place) → RiseFrom (λ p. p.face) low (places_of n ps) → is_placed n f ps ≡ true → is_placed n k ps ≡ true → f < k → number_from i n f ps < number_from i n k ps
-unfolding number_from
-number_rises i low n f k [] rises f_there k_there less = never f_there refl
-number_rises i low n f k (p ∷ ps) rises f_there k_there less =
-    by_test (n == p.gateway)
-    (λ own.
-    let rises_ : RiseFrom (λ p. p.face) low (p ∷ places_of n ps) = rw own at rises in
-    by_test (is_place n f p)
-    (λ f_here.
-    let is : f ≡ p.face = (place_is n f p f_here).1 in
-    let k_miss : is_place n k p ≡ false = and_right (n == p.gateway) (k == p.face) (ne_eqb k p.face (λ e. omega arith)) in
-    let k_later : is_placed n k ps ≡ true = rw k_miss at k_there in
-    let up : i + 1 ≤ number_from (i + 1) n k ps = number_there (i + 1) n k ps k_later in
-    rw (f_here, k_miss) (omega arith))
-    (λ f_here.
-    let f_later : is_placed n f ps ≡ true = rw f_here at f_there in
-    let up : p.face + 1 ≤ f = placed_above (p.face + 1) n f ps rises_.1 f_later in
-    let k_miss : is_place n k p ≡ false = and_right (n == p.gateway) (k == p.face) (ne_eqb k p.face (λ e. omega arith)) in
-    rw (f_here, k_miss) (number_rises (i + 1) (p.face + 1) n f k ps rises_.1 f_later (rw k_miss at k_there) less)))
-    (λ other.
-    let f_miss : is_place n f p ≡ false = and_left (n == p.gateway) (f == p.face) other in
-    let k_miss : is_place n k p ≡ false = and_left (n == p.gateway) (k == p.face) other in
-    rw (f_miss, k_miss) (number_rises (i + 1) low n f k ps (rw other at rises) (rw f_miss at f_there) (rw k_miss at k_there) less))
-
 -- ---- one place more
 
 pub placed_still : (n f : ℕ) (ps : List Place) (p : Place) → is_placed n f ps ≡ true → is_placed n f (ps ++ p ∷ []) ≡ true

@@ -462,10 +462,10 @@ module _ {K : Type 0} (cmp : K → K → Ordering) (matching : K → K → Bool)
     refused_shown (SetTreesAt gateway region table) r s = refl
 
     -- The fabric that a transcript shows after the machine's entry is what the machine keeps then, but for own rows.
-    pub fabric_is_shown : (is_built : PlainLine K → Bool) (line : PlainLine K) (s : Fabric K) → FabricIsInOrder cmp matching s
-        → (let entry = entry_of cmp matching is_built line s in fabric_shown cmp matching line entry (as_shown s) ≡ as_shown (fabric_after cmp matching line entry s))
+    pub fabric_is_shown : (line : PlainLine K) (s : Fabric K) → FabricIsInOrder cmp matching s
+        → (let entry = entry_of cmp matching line s in fabric_shown cmp matching line entry (as_shown s) ≡ as_shown (fabric_after cmp matching line entry s))
     unfolding fabric_shown fabric_after entry_of
-    fabric_is_shown is_built line s fine = cases (first_cause (line_causes cmp matching is_built (line_spends_ids cmp matching line s) line s))
+    fabric_is_shown line s fine = cases (first_cause (line_causes cmp matching (line_spends_ids cmp matching line s) line s))
       where
         ms : List (Sent K)
         ms = sorted_by_face (said_by_line cmp matching line s)
@@ -475,21 +475,21 @@ module _ {K : Type 0} (cmp : K → K → Ordering) (matching : K → K → Bool)
         cases (Some r) = refused_shown line r s
 
     -- What each line brings about in the machine, from fabrics where something holds on, each turn of the transcript has.
-    pub turns_have : (is_built : PlainLine K → Bool) (P : Turn K → Type 0) (Holds : Fabric K → Type 0)
+    pub turns_have : (P : Turn K → Type 0) (Holds : Fabric K → Type 0)
         → ((line : PlainLine K) (s : Fabric K) → HasFirstIds line → FabricIsInOrder cmp matching s → Holds s
-        → (let entry = entry_of cmp matching is_built line s in
+        → (let entry = entry_of cmp matching line s in
         let after = fabric_after cmp matching line entry s in
         P (record { line = line; entry = entry; before = as_shown s; after = as_shown after }) × Holds after))
         → (lines : List (PlainLine K)) (s : Fabric K) → Each HasFirstIds lines → FabricIsInOrder cmp matching s → Holds s
-        → Each P (turns_from cmp matching lines (entries_from cmp matching is_built lines s) (as_shown s))
+        → Each P (turns_from cmp matching lines (entries_from cmp matching lines s) (as_shown s))
     unfolding turns_from entries_from
-    turns_have is_built P Holds each [] s real fine holds = tt
-    turns_have is_built P Holds each (line ∷ lines) s real fine holds =
-        let entry = entry_of cmp matching is_built line s in
+    turns_have P Holds each [] s real fine holds = tt
+    turns_have P Holds each (line ∷ lines) s real fine holds =
+        let entry = entry_of cmp matching line s in
         let next = fabric_after cmp matching line entry s in
         let both = each line s real.0 fine holds in
-        let is = sym (fabric_is_shown is_built line s fine) in (
+        let is = sym (fabric_is_shown line s fine) in (
           subst (λ (after : Fabric K). P (record { line = line; entry = entry; before = as_shown s; after = after })) is both.0,
-          subst (λ (after : Fabric K). Each P (turns_from cmp matching lines (entries_from cmp matching is_built lines next) after)) is
-              (turns_have is_built P Holds each lines next real.1 (in_order_after_line cmp matching total is_built line s real.0 fine) both.1),
+          subst (λ (after : Fabric K). Each P (turns_from cmp matching lines (entries_from cmp matching lines next) after)) is
+              (turns_have P Holds each lines next real.1 (in_order_after_line cmp matching total line s real.0 fine) both.1),
         )

@@ -357,11 +357,6 @@ module _ {K : Type 0} (cmp : K → K → Ordering) (matching : K → K → Bool)
   ended_all [] f = f
   ended_all (row ∷ rows) f = ended_all rows (ended row.0 f)
 
-  ended_number : (rows : ById Pending) (f : Face K) → (ended_all rows f).number ≡ f.number
-  unfolding ended_all
-  ended_number [] f = refl
-  ended_number (row ∷ rows) f = ended_number rows (ended row.0 f)
-
   without_all : ById Pending → ById Pending → ById Pending
   without_all [] ps = ps
   without_all (row ∷ rows) ps = without_all rows (without_id row.0 ps)

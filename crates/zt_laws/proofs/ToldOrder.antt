@@ -24,7 +24,6 @@ use Rattle.zt_laws.proofs.Interests.{heard_answers, told_in_order_after_answers}
 use Rattle.zt_laws.specs.Kept.{Told, has_pair, told_by, told_by_all, told_of}
 use Rattle.zt_laws.specs.Order.{InKeyOrder, KeysOnce}
 use Rattle.zt_laws.specs.Sound.{IsToldInOrder}
-use Rattle.zt_laws.proofs.Keeping.{told_alone}
 use Rattle.zt_laws.proofs.Keys.{same_itself}
 use Rattle.zt_laws.proofs.Lists.{any-append, by_test, each_append, each_both, each_fails, each_weaker, of_cond}
 use Rattle.zt_laws.proofs.Told.{in_order_filter, in_order_push, names, names-append, told_id_each, told_id_none, told_id_row, told_pair_new, told_pair_old}
@@ -103,10 +102,6 @@ module _ {K : Type 0} (cmp : K → K → Ordering) where
   pub in_order_nothings : (ms : List (Message K)) (t : Told K) → Each TellsNothing ms → IsInOrder t → IsInOrder (told_by_all cmp ms t)
   in_order_nothings [] t nothing ordered = ordered
   in_order_nothings (m ∷ ms) t nothing ordered = in_order_nothings ms (told_by cmp m t) nothing.1 (in_order_nothing m t nothing.0 ordered)
-
-  -- and so does each face that they are for
-  pub in_order_heard : (now : ℕ) (ms : List (Message K)) (f : Face K) → IsInOrder (told_by_all cmp ms (told_of f)) → IsInOrder (told_of (heard_all cmp now ms f))
-  in_order_heard now ms f ordered = subst IsInOrder (sym (told_alone cmp now ms f)) ordered
 
   -- interests tell no token
   pub interests_tell_nothing : (next : ℕ) (is : List (InterestRow K)) → Each TellsNothing (interests_from next is)

@@ -1,5 +1,5 @@
 -- What is visible, after the rows of a face change.
-use Rattle.std.proofs.Common.{◌≡◌, ℕ, ◌+◌, ◌≤◌, ◌<◌, Bool, true, false, not, if◌then◌else◌, ◌&&◌, ◌||◌, ◌==◌, List, [], ◌∷◌, ◌++◌, map, filter, flat_map, Some, None, refl, sym, ap, ◌∙◌, subst, arith, eqb-true, ne_eqb, eq-eqb, inl, inr, ⊎_elim, ◌⊎◌}
+use Rattle.std.proofs.Common.{◌≡◌, ℕ, ◌+◌, ◌≤◌, ◌<◌, Bool, true, false, not, if◌then◌else◌, ◌&&◌, ◌||◌, ◌==◌, List, [], ◌∷◌, ◌++◌, map, filter, flat_map, Some, None, refl, sym, ap, ◌∙◌, subst, arith, eqb-true, ne_eqb, eq-eqb, ⊎_elim, ◌⊎◌}
 use Rattle.std.proofs.lemmas.Bool.{and_parts, and_from, or_left, or_right, or_cases, not-false}
 use Rattle.std.proofs.lemmas.Cmp.{ranked}
 use Rattle.std.specs.Cmp.{IsTotalOrder}
@@ -168,17 +168,6 @@ module _ {K : Type 0} (cmp : K → K → Ordering) (total : IsTotalOrder cmp) (e
       ∙ or_last (list_any (λ f. list_any test (rows_of_face f)) g.faces) (list_any test (routed_rows g)) (test (f.region, e))
       ∙ ap (λ b. b || test (f.region, e)) (sym (any_live_rows test g g.faces))
 
-  pub visible_registered : (own : Region) (x : K) (n id : ℕ) (e : K) (f : Face K) (g : Rows K) → RiseFrom (λ f. f.number) 1 g.faces → find_face n g ≡ Some f → is_token_id_in_use cmp id e f ≡ false
-      → is_visible cmp (with_face n (registered id e) g) own x ≡ (is_visible cmp g own x || (same cmp x e && shows own f.region))
-  unfolding is_visible
-  visible_registered own x n id e f g rises found free = any_registered (λ row. same cmp x row.1 && shows own row.0) n id e f g rises found free
-
-  pub admitted_registered : (own : Region) (x : K) (n id : ℕ) (e : K) (f : Face K) (g : Rows K) → RiseFrom (λ f. f.number) 1 g.faces → find_face n g ≡ Some f → is_token_id_in_use cmp id e f ≡ false
-      → is_admitted cmp (with_face n (registered id e) g) own x ≡ (is_admitted cmp g own x || (same cmp x e && (shows own f.region && admits g.refused f.region own)))
-  unfolding is_admitted with_face
-  admitted_registered own x n id e f g rises found free = unfold with_face in any_registered (λ row. same cmp x row.1 && (shows own row.0 && admits g.refused row.0 own)) n id e f g rises found free
-  -- ---- a token is taken away
-
 module _ {K : Type 0} where
   any_row_gone : (test : Region × K → Bool) (r : Region) (id : ℕ) (e : K) (live : ById K) → Each (λ row. (id == row.0) ≡ true → row.1 ≡ e) live → list_any (λ row. test (r, row.1)) live ≡ true → (list_any (λ row. test (r, row.1)) (without_id id live) || test (r, e)) ≡ true
   any_row_gone test r id e live only some =
@@ -245,19 +234,6 @@ module _ {K : Type 0} (cmp : K → K → Ordering) where
   unfolding is_visible
   visible_still own x n id g some = any_still (λ row. same cmp x row.1 && shows own row.0) n id g some
 
-  pub admitted_still : (own : Region) (x : K) (n id : ℕ) (g : Rows K) → is_admitted cmp (with_face n (unregistered id) g) own x ≡ true → is_admitted cmp g own x ≡ true
-  unfolding is_admitted with_face
-  admitted_still own x n id g some = unfold with_face in any_still (λ row. same cmp x row.1 && (shows own row.0 && admits g.refused row.0 own)) n id g some
-
-  -- what was visible still is, but for the expression of the token that is gone
-  pub visible_unregistered : (own : Region) (x : K) (n id : ℕ) (e : K) (f : Face K) (g : Rows K) → RiseFrom (λ f. f.number) 1 g.faces → find_face n g ≡ Some f → Each (λ row. (id == row.0) ≡ true → row.1 ≡ e) f.live
-      → is_visible cmp g own x ≡ true → (is_visible cmp (with_face n (unregistered id) g) own x ≡ true) ⊎ (same cmp x e ≡ true)
-  unfolding is_visible
-  visible_unregistered own x n id e f g rises found only some =
-      let test = λ (row : Region × K). same cmp x row.1 && shows own row.0 in
-      ⊎_elim (λ here. inl here) (λ gone. inr (and_parts (same cmp x e) (shows own f.region) gone).0)
-      (or_cases (list_any test (live_rows (with_face n (unregistered id) g))) (same cmp x e && shows own f.region) (any_unregistered test n id e f g rises found only some))
-
   -- what is admitted is visible
   pub admitted_visible : (g : Rows K) (own : Region) (x : K) → is_admitted cmp g own x ≡ true → is_visible cmp g own x ≡ true
   unfolding is_visible is_admitted
@@ -273,10 +249,6 @@ module _ {K : Type 0} (cmp : K → K → Ordering) where
   pub visible_alike : (g : Rows K) (fs : List (Face K)) (own : Region) (x : K) → flat_map rows_of_face fs ≡ flat_map rows_of_face g.faces → is_visible cmp (record g { faces = fs }) own x ≡ is_visible cmp g own x
   unfolding is_visible
   visible_alike g fs own x h = ap (list_any (λ row. same cmp x row.1 && shows own row.0)) (live_rows_alike g fs h)
-
-  pub admitted_alike : (g : Rows K) (fs : List (Face K)) (own : Region) (x : K) → flat_map rows_of_face fs ≡ flat_map rows_of_face g.faces → is_admitted cmp (record g { faces = fs }) own x ≡ is_admitted cmp g own x
-  unfolding is_admitted
-  admitted_alike g fs own x h = ap (list_any (λ row. same cmp x row.1 && (shows own row.0 && admits g.refused row.0 own))) (live_rows_alike g fs h)
 
   pub visible_expressions_alike : (g : Rows K) (fs : List (Face K)) (own : Region) → flat_map rows_of_face fs ≡ flat_map rows_of_face g.faces → visible_expressions cmp (record g { faces = fs }) own ≡ visible_expressions cmp g own
   unfolding visible_expressions

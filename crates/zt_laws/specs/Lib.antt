@@ -1,6 +1,5 @@
 pub mod Effects
 pub mod Kept
 pub mod Order
-pub mod Sessions
 pub mod Shown
 pub mod Sound

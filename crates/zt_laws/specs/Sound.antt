@@ -1,15 +1,14 @@
--- What stays true of a fabric while the lines of a script of sessions are carried out.
-use Rattle.std.specs.Prelude.{◌≡◌, ℕ, ◌+◌, ◌≤◌, ◌<◌, Bool, true, false, ◌==◌, ◌&&◌, List, [], ◌∷◌, length, filter}
+-- The words for what stays true of a gateway while calls are carried out: first ids, numbers that rise, told ids in order.
+use Rattle.std.specs.Prelude.{◌≡◌, ℕ, ◌+◌, ◌≤◌, ◌<◌, Bool, true, false, ◌==◌, ◌&&◌, List, [], ◌∷◌, filter}
 use Rattle.std.specs.List.{list_any}
 use Rattle.std.specs.declared.cmp.Ordering.{Ordering}
 use Rattle.zt_protocol.specs.Plain.{PlainCall, NewSession, NewTransport, PlainLine, Session, Face as FaceLine, Link as LinkLine}
-use Rattle.zt_model.specs.Fabric.{Fabric, Node, Place}
+use Rattle.zt_model.specs.Fabric.{Place}
 use Rattle.zt_model.specs.Hearing.{rows_heard}
 use Rattle.zt_model.specs.Lists.{same}
 use Rattle.zt_model.specs.Rows.{ById, Face, Rows}
 use Rattle.zt_model.specs.Says.{altered, said}
-use Rattle.zt_model.specs.Transcript.{Each, FacesKeepWhatTheyShould}
-use Rattle.zt_laws.specs.Sessions.{IsOfSessions}
+use Rattle.zt_model.specs.Transcript.{Each}
 
 -- the first ids that a line names are at least 1: with the id 0 nothing is told
 abbrev pub HasFirstIds : {K : Type 0} → PlainLine K → Type 0
@@ -70,25 +69,3 @@ module _ {K : Type 0} (cmp : K → K → Ordering) (matching : K → K → Bool)
   -- the rows that an accepted call leaves: what it changes itself, and what its messages change at the faces
   abbrev pub rows_after_call : PlainCall K → Rows K → Rows K
   rows_after_call c g = rows_heard cmp (said cmp matching c g) (altered cmp matching c g)
-
-  -- the faces are sessions and stand in order of number, and each is orderly and keeps what it should
-  pub record RowsAreSound (g : Rows K) : Type 0 where
-    pub of_sessions : IsOfSessions g
-    pub faces_rise : RiseFrom (λ f. f.number) 1 g.faces
-    pub faces_made : Each (λ f. f.number ≤ g.made) g.faces
-    pub orderly : Each (IsOrderly cmp) g.faces
-    pub keeps : FacesKeepWhatTheyShould cmp matching g
-
-  -- the n-th gateway: its rows are sound, each face has a number in scripts, and these rise as those at the gateway do
-  pub record GatewayIsSound (places : List Place) (n : ℕ) (g : Rows K) : Type 0 where
-    pub rows : RowsAreSound g
-    pub placed : Each (λ f. is_placed n f.number places ≡ true) g.faces
-    pub places_rise : RiseFrom (λ p. p.face) 1 (places_of n places)
-    pub places_made : Each (λ p. p.face ≤ g.made) (places_of n places)
-
-  -- each gateway is sound, no place is at a gateway that isn't there, and there are no links
-  pub record FabricIsSound (s : Fabric K) : Type 0 where
-    pub gateways : EachFrom (λ n (node : Node K). GatewayIsSound s.faces n node.rows) 1 s.gateways
-    pub places_exist : Each (λ p. p.gateway ≤ length s.gateways) s.faces
-    pub no_links : s.links ≡ []
-    pub none_waits : s.waiting ≡ []

@@ -53,11 +53,11 @@ pub fn calls_draw_next_ids<K: Key>()
         → Each (λ f. HaveNextIds K.cmp K.matching (messages_for f.number (said K.cmp K.matching c g)) f) (altered K.cmp K.matching c g).faces }
 {}
 
-/// The promise of ids, for every line of a script and whichever lines are built: what a line's entry prints for a face
+/// The promise of ids, for every line of a script: what a line's entry prints for a face
 /// draws its next ids, as `DrawsNextIds` has it of a turn, from the fabric that a transcript shows of the machine's.
 pub fn lines_draw_next_ids<K: Key>()
-    ensures { (is_built : PlainLine K → Bool) (line : PlainLine K) (s : Fabric K) → HasFirstIds line → FabricIsInOrder K.cmp K.matching s
-        → (let entry = entry_of K.cmp K.matching is_built line s in
+    ensures { (line : PlainLine K) (s : Fabric K) → HasFirstIds line → FabricIsInOrder K.cmp K.matching s
+        → (let entry = entry_of K.cmp K.matching line s in
         let before = as_shown s in
         DrawsNextIds K.cmp K.matching (record { line = line; entry = entry; before = before; after = fabric_shown K.cmp K.matching line entry before })) }
 {}

@@ -56,15 +56,15 @@ pub fn calls_tell_by_messages_alone<K: Key>()
         → has_pair K.cmp id e after.told ≡ is_kept K.cmp id e (messages_for n (said K.cmp K.matching c g)) false }
 {}
 
-/// The same of the lines of a script, whichever are built: what a face was told after a line is what the line's entry
+/// The same of the lines of a script: what a face was told after a line is what the line's entry
 /// prints for it, by its number in scripts, and a face that the line makes was told nothing before.
 pub fn lines_tell_by_messages_alone<K: Key>()
-    ensures standing { (is_built : PlainLine K → Bool) (line : PlainLine K) (s : Fabric K) (n : ℕ) (before after : FaceAt K) → HasFirstIds line → FabricIsInOrder K.cmp K.matching s
-        → (let entry = entry_of K.cmp K.matching is_built line s in
+    ensures standing { (line : PlainLine K) (s : Fabric K) (n : ℕ) (before after : FaceAt K) → HasFirstIds line → FabricIsInOrder K.cmp K.matching s
+        → (let entry = entry_of K.cmp K.matching line s in
         face_numbered s n ≡ Some before → face_numbered (fabric_after K.cmp K.matching line entry s) n ≡ Some after
         → told_of after.face ≡ told_by_all K.cmp (printed_for n (messages_of entry)) (told_of before.face)) }
-    ensures opened { (is_built : PlainLine K → Bool) (line : PlainLine K) (s : Fabric K) (n id : ℕ) (e : K) (after : FaceAt K) → HasFirstIds line → FabricIsInOrder K.cmp K.matching s
-        → (let entry = entry_of K.cmp K.matching is_built line s in
+    ensures opened { (line : PlainLine K) (s : Fabric K) (n id : ℕ) (e : K) (after : FaceAt K) → HasFirstIds line → FabricIsInOrder K.cmp K.matching s
+        → (let entry = entry_of K.cmp K.matching line s in
         face_numbered s n ≡ None → face_numbered (fabric_after K.cmp K.matching line entry s) n ≡ Some after
         → has_pair K.cmp id e after.face.told ≡ is_kept K.cmp id e (printed_for n (messages_of entry)) false) }
 {}

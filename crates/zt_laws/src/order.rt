@@ -18,10 +18,10 @@ pub fn calls_keep_order<K: Key>()
     ensures any { (c : PlainCall K) (g : Rows K) → CallHasFirstIds c → RowsAreInOrder K.cmp K.matching g → RowsAreInOrder K.cmp K.matching (rows_after K.cmp K.matching c g) }
 {}
 
-/// The same of fabrics: the empty fabric is in order, and so is a fabric after each line, accepted or refused, whichever
-/// lines are built. Each face has a number in scripts, and these rise as those at each gateway do.
+/// The same of fabrics: the empty fabric is in order, and so is a fabric after each line, accepted or refused.
+/// Each face has a number in scripts, and these rise as those at each gateway do.
 pub fn lines_keep_order<K: Key>()
     ensures start { FabricIsInOrder K.cmp K.matching empty_fabric }
-    ensures step { (is_built : PlainLine K → Bool) (line : PlainLine K) (s : Fabric K) → HasFirstIds line → FabricIsInOrder K.cmp K.matching s
-        → FabricIsInOrder K.cmp K.matching (fabric_after K.cmp K.matching line (entry_of K.cmp K.matching is_built line s) s) }
+    ensures step { (line : PlainLine K) (s : Fabric K) → HasFirstIds line → FabricIsInOrder K.cmp K.matching s
+        → FabricIsInOrder K.cmp K.matching (fabric_after K.cmp K.matching line (entry_of K.cmp K.matching line s) s) }
 {}

@@ -17,7 +17,7 @@ use zt_keys::Key;
 /// What a transcript shows is what the machine keeps, but for the own rows of router regions, which no transcript
 /// shows. It is so of the rows that a call changes itself, where an ask has the pendings that the call sends; of the
 /// fabric that a line changes itself, by what the machine prints for it; and of the fabric after each line, accepted
-/// or refused, whichever lines are built.
+/// or refused.
 pub fn transcripts_show_what_is_kept<K: Key>()
     ensures call { (c : PlainCall K) (g : Rows K) → RowsAreInOrder K.cmp K.matching g
         → rows_shown K.cmp (would_send K.cmp K.matching c g) c (without_own g) ≡ without_own (altered K.cmp K.matching c g) }
@@ -25,7 +25,7 @@ pub fn transcripts_show_what_is_kept<K: Key>()
     ensures line { (line : PlainLine K) (s : Fabric K) → FabricIsInOrder K.cmp K.matching s
         → fabric_with K.cmp K.matching line (sorted_by_face (said_by_line K.cmp K.matching line s)) (as_shown s)
         ≡ as_shown (altered_by_line K.cmp K.matching line s) }
-    ensures entry { (is_built : PlainLine K → Bool) (line : PlainLine K) (s : Fabric K) → FabricIsInOrder K.cmp K.matching s
-        → (let entry = entry_of K.cmp K.matching is_built line s in
+    ensures entry { (line : PlainLine K) (s : Fabric K) → FabricIsInOrder K.cmp K.matching s
+        → (let entry = entry_of K.cmp K.matching line s in
         fabric_shown K.cmp K.matching line entry (as_shown s) ≡ as_shown (fabric_after K.cmp K.matching line entry s)) }
 {}

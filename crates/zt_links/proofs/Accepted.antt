@@ -22,7 +22,7 @@ use Rattle.zt_model.specs.Refusals.{first_cause}
 use Rattle.zt_model.specs.Says.{altered_by, parts_of, said_by}
 use Rattle.zt_laws.proofs.Gateways.{after_hearing_nothing}
 use Rattle.zt_laws.proofs.LinesOrder.{called_at}
-use Rattle.zt_links.specs.Lines.{cause_if, cause_of_line, every_line, or_cause}
+use Rattle.zt_links.specs.Lines.{cause_if, cause_of_line, or_cause}
 use Rattle.zt_links.proofs.Carried.{nothing_waits}
 use Rattle.zt_links.proofs.Refusing.{session_cause}
 
@@ -130,7 +130,7 @@ module _ {K : Type 0} (cmp : K → K → Ordering) (matching : K → K → Bool)
 
   -- ---- entries
 
-  pub refused_entry : (line : PlainLine K) (s : Fabric K) (r : Refusal) → cause_of_line cmp matching line s ≡ Some r → (let entry : PlainEntry K = Err r in entry ≡ entry_of cmp matching every_line line s)
+  pub refused_entry : (line : PlainLine K) (s : Fabric K) (r : Refusal) → cause_of_line cmp matching line s ≡ Some r → (let entry : PlainEntry K = Err r in entry ≡ entry_of cmp matching line s)
   unfolding entry_of cause_of_line first_cause
   refused_entry line s r is = sym (ap (λ o. entry_by cmp matching o (sorted_by_face (said_by_line cmp matching line s))) is)
 
@@ -138,13 +138,13 @@ module _ {K : Type 0} (cmp : K → K → Ordering) (matching : K → K → Bool)
   unfolding fabric_after
   refused_fabric line s r = refl
 
-  pub accepted_entry : (line : PlainLine K) (s : Fabric K) (ms : List (Sent K)) → cause_of_line cmp matching line s ≡ None → ms ≡ sorted_by_face (said_by_line cmp matching line s) → (let entry : PlainEntry K = Ok ms in entry ≡ entry_of cmp matching every_line line s)
+  pub accepted_entry : (line : PlainLine K) (s : Fabric K) (ms : List (Sent K)) → cause_of_line cmp matching line s ≡ None → ms ≡ sorted_by_face (said_by_line cmp matching line s) → (let entry : PlainEntry K = Ok ms in entry ≡ entry_of cmp matching line s)
   unfolding entry_of cause_of_line first_cause
   accepted_entry line s ms is says = ap (λ (xs : List (Sent K)). let entry : PlainEntry K = Ok xs in entry) says ∙ sym (ap (λ o. entry_by cmp matching o (sorted_by_face (said_by_line cmp matching line s))) is)
 
   -- whatever comes of a line, the fabric stays in order
   pub stepped : (total : IsTotalOrder cmp) (line : PlainLine K) (s t : Fabric K) (result : Result (Entry K) Memory) → HasFirstIds line → FabricIsInOrder cmp matching s
-      → IfOk result (λ entry. plain_entry entry ≡ entry_of cmp matching every_line line s) → IfOk result (λ entry. t ≡ fabric_after cmp matching line (plain_entry entry) s) → OnErr result (t ≡ s) → FabricIsInOrder cmp matching t
+      → IfOk result (λ entry. plain_entry entry ≡ entry_of cmp matching line s) → IfOk result (λ entry. t ≡ fabric_after cmp matching line (plain_entry entry) s) → OnErr result (t ≡ s) → FabricIsInOrder cmp matching t
   stepped total line s t (Ok entry) real fine is does still =
-      subst (FabricIsInOrder cmp matching) (sym (does ∙ ap (λ e. fabric_after cmp matching line e s) is)) (in_order_after_line cmp matching total every_line line s real fine)
+      subst (FabricIsInOrder cmp matching) (sym (does ∙ ap (λ e. fabric_after cmp matching line e s) is)) (in_order_after_line cmp matching total line s real fine)
   stepped total line s t (Err error) real fine is does still = subst (FabricIsInOrder cmp matching) (sym still) fine

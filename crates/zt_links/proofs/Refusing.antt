@@ -12,7 +12,7 @@ use Rattle.zt_region.specs.South.{PlainSouth}
 use Rattle.zt_protocol.specs.Plain.{PlainCall, PlainLine, Trees, Gateway, Session, Face as FaceLine, Link as LinkLine, Unlink, Step, Speak, Moment, SetTreesAt}
 use Rattle.zt_protocol.specs.declared.errors.Refusal.{Refusal}
 use Rattle.zt_protocol.specs.declared.errors.Refusal.TheVariants as refusal
-use Rattle.zt_model.specs.Fabric.{CallAt, Fabric, built_causes, call_face, call_of, causes_of_call, is_full, is_linked_face, is_open_link, is_region_of, is_south_router, is_unknown_gateway, line_spends_ids}
+use Rattle.zt_model.specs.Fabric.{CallAt, Fabric, line_causes, call_face, call_of, causes_of_call, is_full, is_linked_face, is_open_link, is_region_of, is_south_router, is_unknown_gateway, line_spends_ids}
 use Rattle.zt_model.specs.Journal.{cause_of}
 use Rattle.zt_model.specs.Linking.{closes_loop, is_end, is_refused_end, link_ends, oldest}
 use Rattle.zt_model.specs.Strategy.{fits}
@@ -46,52 +46,52 @@ module _ {K : Type 0} (cmp : K → K → Ordering) (matching : K → K → Bool)
       → cause_of_line cmp matching (Gateway mode zid regions south name timeout refused) s
       ≡ or_cause (cause_if (list_any (λ pair. not (is_region_of regions pair.0) || not (is_region_of regions pair.1)) refused) refusal.NoSuchRegion)
       (or_cause (cause_if (list_any is_south_router regions && not (whatami_eq mode Router)) refusal.RegionConflict) (cause_if (is_full s.gateways) refusal.NumbersSpent))
-  unfolding cause_of_line built_causes
+  unfolding cause_of_line line_causes
   gateway_cause mode zid regions south name timeout refused s =
       one_cause _ _ _ ∙ ap (or_cause _) (one_cause _ _ _ ∙ ap (or_cause _) (last_cause _ _))
 
   pub session_cause : (gateway first : ℕ) (s : Fabric K)
       → cause_of_line cmp matching (Session gateway first) s ≡ or_cause (cause_if (is_unknown_gateway s gateway) refusal.UnknownGateway) (cause_if (is_full s.faces) refusal.NumbersSpent)
-  unfolding cause_of_line built_causes
+  unfolding cause_of_line line_causes
   session_cause gateway first s = one_cause _ _ _ ∙ ap (or_cause _) (last_cause _ _)
 
   pub face_cause : (gateway : ℕ) (mode : WhatAmI) (zid : Zid) (region : Region) (bound : Bound) (first : ℕ) (s : Fabric K)
       → (let line = FaceLine gateway mode zid region bound first in
       cause_of_line cmp matching line s
       ≡ or_cause (cause_if (is_unknown_gateway s gateway) refusal.UnknownGateway) (or_cause (cause_at cmp matching (call_of line s)) (cause_if (is_full s.faces) refusal.NumbersSpent)))
-  unfolding cause_of_line built_causes
+  unfolding cause_of_line line_causes
   face_cause gateway mode zid region bound first s =
       let at = call_of (FaceLine gateway mode zid region bound first) s in
       one_cause _ _ _ ∙ ap (or_cause _) (causes-append (causes_of_call cmp matching (is_some_and at (λ at. spends_ids cmp matching at.call at.rows)) at) _ ∙ ap (λ o. or_cause o (first_cause ((is_full s.faces, refusal.NumbersSpent) ∷ []))) (called_cause at) ∙ ap (or_cause (cause_at cmp matching at)) (last_cause _ _))
 
   pub unlink_cause : (link : ℕ) (s : Fabric K) → cause_of_line cmp matching (Unlink link) s ≡ cause_if (not (is_open_link s link)) refusal.UnknownLink
-  unfolding cause_of_line built_causes
+  unfolding cause_of_line line_causes
   unlink_cause link s = last_cause _ _
 
   pub step_cause : (link : ℕ) (back : Bool) (s : Fabric K)
       → cause_of_line cmp matching (Step link back) s
       ≡ or_cause (cause_if (not (is_open_link s link)) refusal.UnknownLink)
       (or_cause (cause_if (not (is_some_and (nth link s.links) (λ l. is_some (oldest s l back)))) refusal.EmptyLink) (cause_at cmp matching (call_of (Step link back) s)))
-  unfolding cause_of_line built_causes
+  unfolding cause_of_line line_causes
   step_cause link back s = one_cause _ _ _ ∙ ap (or_cause _) (one_cause _ _ _ ∙ ap (or_cause _) (called_cause (call_of (Step link back) s)))
 
   pub speak_cause : (call : PlainCall K) (s : Fabric K)
       → cause_of_line cmp matching (Speak call) s
       ≡ or_cause (cause_if (is_none (call_of (Speak call) s)) refusal.UnknownFace)
       (or_cause (cause_if (is_linked_face s (call_face call)) refusal.LinkedFace) (cause_at cmp matching (call_of (Speak call) s)))
-  unfolding cause_of_line built_causes
+  unfolding cause_of_line line_causes
   speak_cause call s = one_cause _ _ _ ∙ ap (or_cause _) (one_cause _ _ _ ∙ ap (or_cause _) (called_cause (call_of (Speak call) s)))
 
   pub moment_cause : (gateway now : ℕ) (s : Fabric K)
       → cause_of_line cmp matching (Moment gateway now) s
       ≡ or_cause (cause_if (is_unknown_gateway s gateway) refusal.UnknownGateway) (cause_at cmp matching (call_of (Moment gateway now) s))
-  unfolding cause_of_line built_causes
+  unfolding cause_of_line line_causes
   moment_cause gateway now s = one_cause _ _ _ ∙ ap (or_cause _) (called_cause (call_of (Moment gateway now) s))
 
   pub trees_cause : (gateway : ℕ) (region : Region) (table : Trees) (s : Fabric K)
       → cause_of_line cmp matching (SetTreesAt gateway region table) s
       ≡ or_cause (cause_if (is_unknown_gateway s gateway) refusal.UnknownGateway) (cause_at cmp matching (call_of (SetTreesAt gateway region table) s))
-  unfolding cause_of_line built_causes
+  unfolding cause_of_line line_causes
   trees_cause gateway region table s = one_cause _ _ _ ∙ ap (or_cause _) (called_cause (call_of (SetTreesAt gateway region table) s))
 
   -- a cause by the call that a line makes
@@ -110,6 +110,6 @@ module _ {K : Type 0} (cmp : K → K → Ordering) (matching : K → K → Bool)
       (or_cause (cause_if (list_any (is_end (closes_loop s)) ends) refusal.WouldLoop)
       (or_cause (cause_if (line_spends_ids cmp matching line s) refusal.IdsSpent)
       (cause_if (nat_le GREATEST_NUMBER (length s.faces + 1) || is_full s.links) refusal.NumbersSpent)))))))
-  unfolding cause_of_line built_causes
+  unfolding cause_of_line line_causes
   link_cause one two first back s =
       one_cause _ _ _ ∙ ap (or_cause _) (one_cause _ _ _ ∙ ap (or_cause _) (one_cause _ _ _ ∙ ap (or_cause _) (one_cause _ _ _ ∙ ap (or_cause _) (one_cause _ _ _ ∙ ap (or_cause _) (one_cause _ _ _ ∙ ap (or_cause _) (last_cause _ _))))))

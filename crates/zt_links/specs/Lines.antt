@@ -12,7 +12,7 @@ use Rattle.zt_protocol.specs.declared.entries.Sent.{Sent}
 use Rattle.zt_protocol.specs.declared.errors.Refusal.{Refusal}
 use Rattle.zt_protocol.specs.declared.errors.Refusal.TheVariants as refusal
 use Rattle.zt_protocol.specs.declared.messages.Message.{Message}
-use Rattle.zt_model.specs.Fabric.{CallAt, Fabric, Node, after_opening, at_nth, built_causes, call_at, is_full, is_region_of, line_spends_ids, opened_at, printed_for, said_at, sorted_by_face, with_rows}
+use Rattle.zt_model.specs.Fabric.{CallAt, Fabric, Node, after_opening, at_nth, line_causes, call_at, is_full, is_region_of, line_spends_ids, opened_at, printed_for, said_at, sorted_by_face, with_rows}
 use Rattle.zt_model.specs.Journal.{cause_of}
 use Rattle.zt_model.specs.Linking.{climbs_to, end_region, is_answer, with_taken}
 use Rattle.zt_model.specs.Lists.{rest_of, without_id}
@@ -21,10 +21,6 @@ use Rattle.zt_model.specs.Refusals.{GREATEST_NUMBER, first_cause, is_north_taken
 use Rattle.zt_model.specs.Strategy.{fits}
 use Rattle.zt_laws.specs.Sound.{rows_after_call}
 use Rattle.zt_queues.specs.Waiting.{with_printed}
-
--- all lines of the grammar are built
-abbrev pub every_line : {K : Type 0} → PlainLine K → Bool
-every_line line = true
 
 -- a call by the number of its gateway, where there is one
 abbrev pub made_at : {K : Type 0} → Fabric K → Option (ℕ × PlainCall K) → Option (CallAt K)
@@ -85,7 +81,7 @@ module _ {K : Type 0} (cmp : K → K → Ordering) (matching : K → K → Bool)
 
   -- why a line is refused
   unfoldable pub cause_of_line : PlainLine K → Fabric K → Option Refusal
-  cause_of_line line s = first_cause (built_causes cmp matching (line_spends_ids cmp matching line s) line s)
+  cause_of_line line s = first_cause (line_causes cmp matching (line_spends_ids cmp matching line s) line s)
 
 -- a cause, and where there is none another
 abbrev pub or_cause : Option Refusal → Option Refusal → Option Refusal

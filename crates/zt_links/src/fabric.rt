@@ -4,7 +4,7 @@ ghost use Rattle.zt_model.specs.Fabric.{after_refusal, call_of, empty_fabric, en
 ghost use Rattle.zt_protocol.specs.Plain.{plain_entry, plain_line};
 ghost use Rattle.zt_laws.specs.Order.{FabricIsInOrder};
 ghost use Rattle.zt_laws.specs.Sound.{HasFirstIds, opens_face};
-ghost use Rattle.zt_links.specs.Lines.{every_line, is_opening, made_at};
+ghost use Rattle.zt_links.specs.Lines.{is_opening, made_at};
 
 use crate::accepting::{accept, taken_of};
 use crate::calls::{CallMade, call_of_line};
@@ -53,7 +53,7 @@ impl<K: Key> Fabric<K> {
     pub fn step_line(&mut self, line: &Line<K>) -> Result<Entry<K>, Memory>
         requires { HasFirstIds (plain_line line.now) }
         ensures entry { IfOk result (λ entry. plain_entry entry
-            ≡ entry_of K.cmp K.matching every_line (plain_line line.now) self.old) }
+            ≡ entry_of K.cmp K.matching (plain_line line.now) self.old) }
         ensures ok { IfOk result (λ entry. self.new
             ≡ fabric_after K.cmp K.matching (plain_line line.now) (plain_entry entry) self.old) }
         ensures err { OnErr result (self.new ≡ self.old) }
@@ -84,7 +84,7 @@ fn carry_out<K: Key>(
     requires ids { HasFirstIds (plain_line line.now) }
     requires order { FabricIsInOrder K.cmp K.matching s.old }
     ensures entry { IfOk result (λ entry. plain_entry entry
-        ≡ entry_of K.cmp K.matching every_line (plain_line line.now) s.old) }
+        ≡ entry_of K.cmp K.matching (plain_line line.now) s.old) }
     ensures ok { IfOk result (λ entry. s.new
         ≡ fabric_after K.cmp K.matching (plain_line line.now) (plain_entry entry) s.old) }
     ensures err { OnErr result (s.new ≡ s.old) }
@@ -105,7 +105,7 @@ fn carry_made<K: Key>(
     requires opens { IfSome made.now (λ m. opens_face m.1 ≡ is_opening (plain_line line.now)) }
     requires order { FabricIsInOrder K.cmp K.matching s.old }
     ensures entry { IfOk result (λ entry. plain_entry entry
-        ≡ entry_of K.cmp K.matching every_line (plain_line line.now) s.old) }
+        ≡ entry_of K.cmp K.matching (plain_line line.now) s.old) }
     ensures ok { IfOk result (λ entry. s.new
         ≡ fabric_after K.cmp K.matching (plain_line line.now) (plain_entry entry) s.old) }
     ensures err { OnErr result (s.new ≡ s.old) }

@@ -249,7 +249,7 @@ fn join<K: Key>(
     ensures err { OnErr result (s.new ≡ s.old) }
 {
     first.append(&mut second)?;
-    let sent = sort_by_face(alloc, first)?;
+    let sent = sort_by_face(first)?;
     s.push_link(face, other)?;
     match s.turn_waiting(alloc, None, sent.as_slice()) {
         Ok(()) => Ok(sent),

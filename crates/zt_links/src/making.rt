@@ -76,7 +76,7 @@ pub(crate) fn carry_at<K: Key>(
     ensures err { OnErr result (s.new ≡ s.old) }
 {
     let prepared = prepare(alloc, s, at, gateway, call)?;
-    let sent = sort_by_face(alloc, prepared.printed)?;
+    let sent = sort_by_face(prepared.printed)?;
     s.turn_waiting(alloc, taken, sent.as_slice())?;
     s.commit_at(alloc, at, prepared.rows, call);
     Ok(sent)

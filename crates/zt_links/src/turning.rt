@@ -69,7 +69,8 @@ fn put_back<K: Key>(s: &mut FabricState<K>, gateway: u32, rows: GatewayState<K>)
     match place_of_number(s.gateways(), gateway) {
         None => {}
         Some(at) => {
-            let _ = s.put_rows(at, rows);
+            let former = s.put_rows(at, rows);
+            drop(former);
         }
     }
 }

@@ -95,7 +95,7 @@ fn part<K: Key>(
     let mut printed = Vec::new(alloc);
     add_others(one, two, &mut printed, first)?;
     add_others(one, two, &mut printed, second)?;
-    let sent = sort_by_face(alloc, printed)?;
+    let sent = sort_by_face(printed)?;
     s.turn_waiting(alloc, None, sent.as_slice())?;
     s.shut_link(at);
     s.close_end(two);

@@ -125,21 +125,21 @@ module _ {K : Type 0} (cmp : K → K → Ordering) (matching : K → K → Bool)
   causes_of_call spent None = []
   causes_of_call spent (Some at) = call_causes cmp matching spent at.call at.rows
 
-  -- The causes of a line of a built kind. `spent` says whether a face has too few ids left.
-  unfoldable pub built_causes : Bool → PlainLine K → Fabric K → Causes
-  built_causes spent (Gateway mode zid regions south name timeout refused) s =
+  -- The causes of a line. `spent` says whether a face has too few ids left.
+  unfoldable pub line_causes : Bool → PlainLine K → Fabric K → Causes
+  line_causes spent (Gateway mode zid regions south name timeout refused) s =
       (list_any (λ pair. not (is_region_of regions pair.0) || not (is_region_of regions pair.1)) refused, refusal.NoSuchRegion)
       ∷ (list_any is_south_router regions && not (whatami_eq mode Router), refusal.RegionConflict)
       ∷ (is_full s.gateways, refusal.NumbersSpent)
       ∷ []
-  built_causes spent (Session gateway first) s =
+  line_causes spent (Session gateway first) s =
       (is_unknown_gateway s gateway, refusal.UnknownGateway) ∷ (is_full s.faces, refusal.NumbersSpent) ∷ []
-  built_causes spent (FaceLine gateway mode zid region bound first) s =
+  line_causes spent (FaceLine gateway mode zid region bound first) s =
       (is_unknown_gateway s gateway, refusal.UnknownGateway)
       ∷ causes_of_call spent (call_of (FaceLine gateway mode zid region bound first) s)
       ++ (is_full s.faces, refusal.NumbersSpent)
       ∷ []
-  built_causes spent (LinkLine one two first back) s =
+  line_causes spent (LinkLine one two first back) s =
       let ends = link_ends s one two first back in
       (is_unknown_gateway s one || is_unknown_gateway s two, refusal.UnknownGateway)
       ∷ (list_any (is_end (λ end region bound. not (is_region_of end.node.rows.regions region))) ends, refusal.NoSuchRegion)
@@ -149,23 +149,19 @@ module _ {K : Type 0} (cmp : K → K → Ordering) (matching : K → K → Bool)
       ∷ (spent, refusal.IdsSpent)
       ∷ (nat_le GREATEST_NUMBER (length s.faces + 1) || is_full s.links, refusal.NumbersSpent)
       ∷ []
-  built_causes spent (Unlink link) s = (not (is_open_link s link), refusal.UnknownLink) ∷ []
-  built_causes spent (Step link back) s =
+  line_causes spent (Unlink link) s = (not (is_open_link s link), refusal.UnknownLink) ∷ []
+  line_causes spent (Step link back) s =
       (not (is_open_link s link), refusal.UnknownLink)
       ∷ (not (is_some_and (nth link s.links) (λ l. is_some (oldest s l back))), refusal.EmptyLink)
       ∷ causes_of_call spent (call_of (Step link back) s)
-  built_causes spent (Speak call) s =
+  line_causes spent (Speak call) s =
       (is_none (call_of (Speak call) s), refusal.UnknownFace)
       ∷ (is_linked_face s (call_face call), refusal.LinkedFace)
       ∷ causes_of_call spent (call_of (Speak call) s)
-  built_causes spent (Moment gateway now) s =
+  line_causes spent (Moment gateway now) s =
       (is_unknown_gateway s gateway, refusal.UnknownGateway) ∷ causes_of_call spent (call_of (Moment gateway now) s)
-  built_causes spent (SetTreesAt gateway region table) s =
+  line_causes spent (SetTreesAt gateway region table) s =
       (is_unknown_gateway s gateway, refusal.UnknownGateway) ∷ causes_of_call spent (call_of (SetTreesAt gateway region table) s)
-
-  -- the causes of a line: `is_built` says which lines are built
-  abbrev pub line_causes : (PlainLine K → Bool) → Bool → PlainLine K → Fabric K → Causes
-  line_causes is_built spent line s = (not (is_built line), refusal.NotBuilt) ∷ built_causes spent line s
 
 -- ---- what a line does and says
 
@@ -327,13 +323,13 @@ module _ {K : Type 0} (cmp : K → K → Ordering) (matching : K → K → Bool)
   entry_by (Some refusal) ms = Err refusal
 
   -- what a line comes to: its first cause, or the messages of its call in order of face
-  unfoldable pub entry_of : (PlainLine K → Bool) → PlainLine K → Fabric K → PlainEntry K
-  entry_of is_built line s =
-      entry_by (first_cause (line_causes cmp matching is_built (line_spends_ids line s) line s)) (sorted_by_face (said_by_line line s))
+  unfoldable pub entry_of : PlainLine K → Fabric K → PlainEntry K
+  entry_of line s =
+      entry_by (first_cause (line_causes cmp matching (line_spends_ids line s) line s)) (sorted_by_face (said_by_line line s))
 
   -- what the lines of a script come to, one after another
-  unfoldable pub entries_from : (PlainLine K → Bool) → List (PlainLine K) → Fabric K → List (PlainEntry K)
-  entries_from is_built [] s = []
-  entries_from is_built (line ∷ lines) s =
-      let entry = entry_of is_built line s in
-      entry ∷ entries_from is_built lines (fabric_after line entry s)
+  unfoldable pub entries_from : List (PlainLine K) → Fabric K → List (PlainEntry K)
+  entries_from [] s = []
+  entries_from (line ∷ lines) s =
+      let entry = entry_of line s in
+      entry ∷ entries_from lines (fabric_after line entry s)

@@ -5,7 +5,7 @@ use Rattle.std.specs.List.{list_all}
 use Rattle.std.specs.declared.cmp.Ordering.{Ordering}
 use Rattle.zt_protocol.specs.Plain.{PlainCall, NewSession, NewTransport, PlainEntry, PlainLine, Gateway, Session, Face as FaceLine, Speak}
 use Rattle.zt_protocol.specs.declared.errors.Refusal.{Refusal}
-use Rattle.zt_model.specs.Fabric.{built_causes, call_face, empty_fabric, entry_by, sorted_by_face}
+use Rattle.zt_model.specs.Fabric.{line_causes, call_face, empty_fabric, entry_by, sorted_by_face}
 use Rattle.zt_model.specs.Hearing.{rows_heard}
 use Rattle.zt_model.specs.Lists.{is_some_and}
 use Rattle.zt_model.specs.Refusals.{call_causes, first_cause, spends_ids}
@@ -85,7 +85,7 @@ module _ {K : Type 0} (cmp : K → K → Ordering) (matching : K → K → Bool)
   -- the gateway's line, with which a script begins, is refused: then no worker is started
   abbrev pub starts_none : List (ℕ × PlainLine K) → Bool
   starts_none [] = false
-  starts_none (line ∷ lines) = is_some (first_cause (built_causes cmp matching false line.1 empty_fabric))
+  starts_none (line ∷ lines) = is_some (first_cause (line_causes cmp matching false line.1 empty_fabric))
 
   -- The same lines, each with its number in the script, in another order: the gateway and the makings stand as they
   -- stood, and so do, among each other, the lines that name one face. Where the gateway's line is refused all stand as

@@ -21,4 +21,3 @@ pub mod Promises
 pub mod TreePromises
 pub mod Journal
 pub mod Sourced
-pub mod Sessions

@@ -48,7 +48,7 @@ on_face n g test = is_some_and (find_face n g) test
 abbrev pub is_unknown_face : {K : Type 0} → ℕ → Rows K → Bool
 is_unknown_face n g = is_none (find_face n g)
 
--- a face to the north speaks only as a peer to a peer
+-- a face to the north asks only as a peer of a peer gateway
 abbrev pub asks_from_north : {K : Type 0} → Rows K → Face K → Bool
 asks_from_north g f = is_north f.region && not (whatami_eq f.mode Peer && whatami_eq g.mode Peer)
 

@@ -50,7 +50,7 @@ module _ {K : Type 0} (cmp : K → K → Ordering) (matching : K → K → Bool)
   tell source e g = to_each (tell_to g source e) g.faces
 
   -- A face that was told the expression is told that it is gone; one that wants it and was not, hears the same by
-  -- expression, unless it leads to a gateway above or stands itself in the region and that is no broker's.
+  -- expression, unless it is that of a client gateway to the gateway above, or stands itself in the region and that is no broker's.
   abbrev pub forget_untold : Rows K → Region → K → Face K → List (Message K)
   forget_untold g source e f =
       if wants matching f e && not (is_client_hat (strategy_of g.mode f.region)) && shows f.region source then message.UndeclareToken 0 (Some e) 0 ∷ [] else []

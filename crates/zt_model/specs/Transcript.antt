@@ -185,35 +185,35 @@ module _ {K : Type 0} (cmp : K → K → Ordering) (matching : K → K → Bool)
 
   -- A line is refused exactly by its first cause. That too few ids are left is read by what the line could draw at
   -- the most: it is the answer only where no earlier cause holds.
-  abbrev pub IsRefusedByCause : (PlainLine K → Bool) → PlainLine K → PlainEntry K → Fabric K → Type 0
-  IsRefusedByCause is_built line (Ok ms) s = first_cause (line_causes cmp matching is_built false line s) ≡ None
-  IsRefusedByCause is_built line (Err refusal) s =
-      (first_cause (line_causes cmp matching is_built false line s) ≡ Some refusal)
-      ⊎ ((refusal ≡ IdsSpent) × (comes_to_ids (first_cause (line_causes cmp matching is_built false line s)) ≡ true) × (line_may_lack_ids cmp matching line s ≡ true))
+  abbrev pub IsRefusedByCause : PlainLine K → PlainEntry K → Fabric K → Type 0
+  IsRefusedByCause line (Ok ms) s = first_cause (line_causes cmp matching false line s) ≡ None
+  IsRefusedByCause line (Err refusal) s =
+      (first_cause (line_causes cmp matching false line s) ≡ Some refusal)
+      ⊎ ((refusal ≡ IdsSpent) × (comes_to_ids (first_cause (line_causes cmp matching false line s)) ≡ true) × (line_may_lack_ids cmp matching line s ≡ true))
 
   -- Entry for entry, from a fabric on: each line is refused exactly by its cause, what is printed for it is an entry,
   -- and after it each face keeps what it should.
-  abbrev pub IsFaithfulFrom : (PlainLine K → Bool) → List (PlainLine K) → List (PlainEntry K) → Fabric K → Type 0
-  IsFaithfulFrom is_built [] [] s = Unit {0}
-  IsFaithfulFrom is_built (line ∷ lines) (entry ∷ entries) s =
+  abbrev pub IsFaithfulFrom : List (PlainLine K) → List (PlainEntry K) → Fabric K → Type 0
+  IsFaithfulFrom [] [] s = Unit {0}
+  IsFaithfulFrom (line ∷ lines) (entry ∷ entries) s =
       let after = fabric_shown cmp matching line entry s in
-      IsRefusedByCause is_built line entry s × IsEntry entry × AllKeepWhatTheyShould after × IsFaithfulFrom is_built lines entries after
-  IsFaithfulFrom is_built [] (entry ∷ entries) s = ⊥
-  IsFaithfulFrom is_built (line ∷ lines) [] s = ⊥
+      IsRefusedByCause line entry s × IsEntry entry × AllKeepWhatTheyShould after × IsFaithfulFrom lines entries after
+  IsFaithfulFrom [] (entry ∷ entries) s = ⊥
+  IsFaithfulFrom (line ∷ lines) [] s = ⊥
 
   -- Too few ids are left only for a line that can draw ids, and only by what its own call could draw, for an open face
   -- of the call's gateway outside router regions: an interest's own ask counts only where it is sent upstream.
-  abbrev pub LacksIdsByCall : (PlainLine K → Bool) → PlainLine K → PlainEntry K → Fabric K → Type 0
-  LacksIdsByCall is_built line entry s =
-      entry ≡ Err IdsSpent → (first_cause (line_causes cmp matching is_built true line s) ≡ Some IdsSpent) × (line_could_spend_ids cmp matching line s ≡ true)
+  abbrev pub LacksIdsByCall : PlainLine K → PlainEntry K → Fabric K → Type 0
+  LacksIdsByCall line entry s =
+      entry ≡ Err IdsSpent → (first_cause (line_causes cmp matching true line s) ≡ Some IdsSpent) × (line_could_spend_ids cmp matching line s ≡ true)
 
   -- Entry for entry beside this: too few ids are left by the line's own call, and each message names an open face and
   -- its gateway.
-  abbrev pub IsStrictFrom : (PlainLine K → Bool) → List (PlainLine K) → List (PlainEntry K) → Fabric K → Type 0
-  IsStrictFrom is_built (line ∷ lines) (entry ∷ entries) s =
+  abbrev pub IsStrictFrom : List (PlainLine K) → List (PlainEntry K) → Fabric K → Type 0
+  IsStrictFrom (line ∷ lines) (entry ∷ entries) s =
       let after = fabric_shown cmp matching line entry s in
-      LacksIdsByCall is_built line entry s × NamesOpenFaces entry after × IsStrictFrom is_built lines entries after
-  IsStrictFrom is_built lines entries s = Unit {0}
+      LacksIdsByCall line entry s × NamesOpenFaces entry after × IsStrictFrom lines entries after
+  IsStrictFrom lines entries s = Unit {0}
 
 -- ---- the totals
 

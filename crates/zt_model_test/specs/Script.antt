@@ -9,7 +9,6 @@ use Rattle.zt_protocol.specs.declared.entries.Sent.{Sent}
 use Rattle.zt_protocol.specs.declared.interests.InterestOptions.{InterestOptions}
 use Rattle.zt_protocol.specs.declared.messages.Message.{Message}
 use Rattle.zt_model.specs.Fabric.{empty_fabric, entries_from}
-use Rattle.zt_model.specs.Sessions.{is_any_line}
 use Rattle.zt_model.specs.Transcript.{report_of}
 
 -- A script with its transcript. Keys stand as numbers in the order of their bytes, and `matches` lists which two of
@@ -27,9 +26,9 @@ matching_in s a b = a == b || list_any (λ pair. (a == pair.0) && (b == pair.1))
 abbrev pub HasTotals : Script → Type 0
 HasTotals s = option_map (λ _. report_of s.entries) s.totals ≡ s.totals
 
--- With every kind of line built, the lines come to the entries, and they to the totals.
+-- The lines come to the entries, and they to the totals.
 abbrev pub ComesOut : Script → Type 0
-ComesOut s = (entries_from nat_cmp (matching_in s) is_any_line s.lines empty_fabric ≡ s.entries) × HasTotals s
+ComesOut s = (entries_from nat_cmp (matching_in s) s.lines empty_fabric ≡ s.entries) × HasTotals s
 
 -- ---- short words for terms
 

@@ -223,17 +223,17 @@ module _ {K : Type 0} (cmp : K → K → Ordering) (matching : K → K → Bool)
         (faces_shown Named Named (λ j g f xs named. named) is.changed.faces t.after.faces (printed t) is.changed.gateways (with_line cmp matching t).gateways is.after_places (ap (λ (X : Fabric K). X.gateways) is.with_is) is.comes)
 
     -- Each turn of a transcript ends what stands.
-    pub turns_end : (is_built : PlainLine K → Bool) (lines : List (PlainLine K)) (s : Fabric K) → Each HasFirstIds lines → FabricIsInOrder cmp matching s
-        → Each (EndsWhatStands cmp matching) (turns_from cmp matching lines (entries_from cmp matching is_built lines s) (as_shown s))
-    turns_end is_built lines s real fine =
-        turns_show cmp matching total (λ s. Unit {0}) Comes named_of_calls (EndsWhatStands cmp matching) ends_shown is_built (λ line x first ordered _. tt) lines s real fine tt
+    pub turns_end : (lines : List (PlainLine K)) (s : Fabric K) → Each HasFirstIds lines → FabricIsInOrder cmp matching s
+        → Each (EndsWhatStands cmp matching) (turns_from cmp matching lines (entries_from cmp matching lines s) (as_shown s))
+    turns_end lines s real fine =
+        turns_show cmp matching total (λ s. Unit {0}) Comes named_of_calls (EndsWhatStands cmp matching) ends_shown (λ line x first ordered _. tt) lines s real fine tt
 
     -- Each turn of a transcript draws next ids.
-    pub turns_draw : (is_built : PlainLine K → Bool) (lines : List (PlainLine K)) (s : Fabric K) → Each HasFirstIds lines → FabricIsInOrder cmp matching s
-        → Each (DrawsNextIds cmp matching) (turns_from cmp matching lines (entries_from cmp matching is_built lines s) (as_shown s))
-    turns_draw is_built lines s real fine =
-        turns_have cmp matching total is_built (DrawsNextIds cmp matching) (λ X. Unit {0})
+    pub turns_draw : (lines : List (PlainLine K)) (s : Fabric K) → Each HasFirstIds lines → FabricIsInOrder cmp matching s
+        → Each (DrawsNextIds cmp matching) (turns_from cmp matching lines (entries_from cmp matching lines s) (as_shown s))
+    turns_draw lines s real fine =
+        turns_have cmp matching total (DrawsNextIds cmp matching) (λ X. Unit {0})
         (λ line X first ordered _. (
-          subst (λ (after : Fabric K). DrawsNextIds cmp matching (record { line = line; entry = entry_of cmp matching is_built line X; before = as_shown X; after = after })) (fabric_is_shown cmp matching total is_built line X ordered) (turn_draws cmp matching total is_built line X first ordered),
+          subst (λ (after : Fabric K). DrawsNextIds cmp matching (record { line = line; entry = entry_of cmp matching line X; before = as_shown X; after = after })) (fabric_is_shown cmp matching total line X ordered) (turn_draws cmp matching total line X first ordered),
           tt,
         )) lines s real fine tt

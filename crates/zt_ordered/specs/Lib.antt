@@ -1,17 +1,4 @@
 pub mod Test
-pub mod Table
 pub mod Rows
 pub mod Found
-pub mod Sorting
 pub mod Placing
-pub mod Edits
-pub mod OneMore
-pub mod Counts
-pub mod Groups
-pub mod Next
-pub mod Any
-pub mod Sum
-pub mod Body
-pub mod Lends
-pub mod LendsHashed
-pub mod LendsSorted

@@ -1,26 +1,22 @@
 -- What stands at a place among rows in order, and what an edit there does.
-use Rattle.std.specs.Prelude.{◌≡◌, ℕ, suc, ◌<◌, ◌≤◌, true, false, List, [], ◌∷◌, ◌++◌, length, Some, None, Result, Ok, Err, refl, slice_get}
+use Rattle.std.specs.Prelude.{◌≡◌, ℕ, suc, ◌<◌, ◌≤◌, true, List, [], ◌∷◌, ◌++◌, length, Some, None, Result, Ok, Err, refl}
 use Rattle.std.specs.declared.cmp.Ordering.{Ordering}
 use Rattle.std.specs.declared.cmp.Ordering.TheVariants.{Less, Equal, Greater}
 use Rattle.std.specs.Ordering.{is_eq, is_lt, ordering_reverse}
 use Rattle.std.specs.Cmp.{IsTotalOrder, alike_right}
 use Rattle.std.specs.List.{insert, remove}
-use Rattle.std.specs.Option.{option_map, unwrap_or}
+use Rattle.std.specs.Option.{option_map}
 use Rattle.std.specs.List.Sorted.{IsBinarySearchResult, IsSearchInRange}
-use Rattle.std.specs.FinMap.Entries.{put, find, is_sorted, below_all, is_sorted-put}
-use Rattle.std.proofs.Common.{ap, sym, ◌∙◌, subst, arith, get_or, set, zero, add-one}
+use Rattle.std.specs.FinMap.Entries.{put, find, is_sorted, below_all}
+use Rattle.std.proofs.Common.{ap, sym, ◌∙◌, arith, get_or, set, zero, add-one}
 use Rattle.std.proofs.lemmas.Bool.{false≢true}
 use Rattle.std.proofs.lemmas.List.Sorted.{searchable_from_sorted}
-use Rattle.zt_ordered.specs.Test.{by_test, by_ordering, is_eq-Equal, is_lt-Less, and_first, and_second, and_both, T-from, T-to}
-use Rattle.zt_ordered.specs.Rows.{same, without, place, next_place, first_above}
+use Rattle.zt_ordered.specs.Test.{by_ordering, is_lt-Less, and_first, and_second, and_both}
+use Rattle.zt_ordered.specs.Rows.{without, place, next_place}
 use Rattle.zt_ordered.specs.Found.{sorted-head, sorted-tail, row_at-below, row_at-no, find-row_at, below-lower, below-tied}
 
 turned : {P : Type 0} {cmp : P → P → Ordering} → IsTotalOrder cmp → (x y : P) (r : Ordering) → cmp x y ≡ r → cmp y x ≡ ordering_reverse r
 turned o x y r h = o.antisymm y x ∙ ap ordering_reverse h
-
--- a key above another one doesn't tie with what that one is not below
-not_above : {P : Type 0} {cmp : P → P → Ordering} → IsTotalOrder cmp → (key q x : P) → is_lt (cmp key x) ≡ false → cmp key q ≡ Less → same cmp q x ≡ false
-not_above {cmp = cmp} o key q x t above = by_test (same cmp q x) (λ u. absurd (false≢true (sym t ∙ ap is_lt (sym (alike_right o q x key (is_eq-Equal _ u)) ∙ above)))) (λ u. u)
 
 -- a place further on among the rest
 later : (r : Result ℕ ℕ) (i : ℕ) → next_place r ≡ Ok i → (j : ℕ) × (r ≡ Ok j) × (i ≡ suc j)
@@ -93,14 +89,6 @@ module _ {P X : Type 0} (cmp : P → P → Ordering) where
         (λ p. let z = at_first _ i (place-Equal q e es p) h in omega arith)
         (λ p. let next = later _ i (sym (place-Greater q e es p) ∙ h) in let rest = place-in_range q es next.0 next.1 in omega (arith, next.2))
 
-    pub place-gap_in_range : (q : P) (es : List (P × X)) (i : ℕ) → place cmp q es ≡ Err i → i ≤ length es
-    place-gap_in_range q [] i h = let z : 0 ≡ i = cc in omega arith
-    place-gap_in_range q (e ∷ es) i h =
-        by_ordering (cmp q e.0)
-        (λ p. let z = gap_first _ i (place-Less q e es p) h in omega arith)
-        (λ p. cc (sym (place-Equal q e es p) ∙ h))
-        (λ p. let next = later_gap _ i (sym (place-Greater q e es p) ∙ h) in let rest = place-gap_in_range q es next.0 next.1 in omega (arith, next.2))
-
     pub find-place : (q : P) (es : List (P × X)) (i : ℕ) (d : P × X) → place cmp q es ≡ Ok i → find cmp q es ≡ Some (get_or es i d).1
     find-place q [] i d h = cc
     find-place q (e ∷ es) i d h =
@@ -153,68 +141,6 @@ module _ {P X : Type 0} (cmp : P → P → Ordering) where
         (λ p. cc (sym (place-Equal q e es p) ∙ h))
         (λ p. let next = later_gap _ i (sym (place-Greater q e es p) ∙ h) in rw p (ap (λ l. e ∷ l) (without-gap q es next.0 (sorted-tail cmp e es s) next.1)))
 
-    pub first_above-gap : (q : P) (es : List (P × X)) (i : ℕ) → place cmp q es ≡ Err i → first_above cmp q es ≡ slice_get es i
-    first_above-gap q [] i h = refl
-    first_above-gap q (e ∷ es) i h =
-        by_ordering (cmp q e.0)
-        (λ p. let z = gap_first _ i (place-Less q e es p) h in rw (p, ← z) refl)
-        (λ p. cc (sym (place-Equal q e es p) ∙ h))
-        (λ p. let next = later_gap _ i (sym (place-Greater q e es p) ∙ h) in rw (p, next.2) (first_above-gap q es next.0 next.1))
-
-    first_above-below : (q : P) (es : List (P × X)) → below_all cmp q es ≡ true → first_above cmp q es ≡ slice_get es 0
-    first_above-below q [] h = refl
-    first_above-below q (e ∷ es) h = let p : is_lt (cmp q e.0) ≡ true = and_first _ _ h in rw p refl
-
-    pub first_above-place : (q : P) (es : List (P × X)) (i : ℕ) → is_sorted cmp es ≡ true → place cmp q es ≡ Ok i → first_above cmp q es ≡ slice_get es (suc i)
-    first_above-place q [] i s h = cc
-    first_above-place q (e ∷ es) i s h =
-        by_ordering (cmp q e.0)
-        (λ p. cc (sym (place-Less q e es p) ∙ h))
-        (λ p. let z = at_first _ i (place-Equal q e es p) h in rw (p, ← z) (first_above-below q es (below-tied cmp o q e.0 es p (sorted-head cmp e es s))))
-        (λ p. let next = later _ i (sym (place-Greater q e es p) ∙ h) in rw (p, next.2) (first_above-place q es next.0 (sorted-tail cmp e es s) next.1))
-
     -- a value written over the row that was read at the place
     pub set-place : (q : P) (v : X) (es : List (P × X)) (i : ℕ) (row : P × X) → place cmp q es ≡ Ok i → row ≡ get_or es i row → set es i (row.0, v) ≡ put cmp q v es
     set-place q v es i row at read = ap (λ (r : P × X). set es i (r.0, v)) read ∙ sym (put-place q v es i row at)
-
-    pub in_order-set : (q : P) (v : X) (es : List (P × X)) (i : ℕ) (row : P × X) → is_sorted cmp es ≡ true → place cmp q es ≡ Ok i → row ≡ get_or es i row → is_sorted cmp (set es i (row.0, v)) ≡ true
-    in_order-set q v es i row s at read = subst (λ rows. is_sorted cmp rows ≡ true) (sym (set-place q v es i row at read)) (T-to _ (is_sorted-put cmp o q v es (T-from _ s)))
-
-  -- the first row above a key is above it, and no row stands between; where there is none, no row is above the key
-  pub first_above-is : (key : P) (es : List (P × X)) (e : P × X) → first_above cmp key es ≡ Some e → cmp key e.0 ≡ Less
-  first_above-is key [] e h = cc
-  first_above-is key (x ∷ es) e h =
-      by_test (is_lt (cmp key x.0))
-      (λ t. let same_row : Some x ≡ Some e = rw t at h in let is : x ≡ e = ap (λ r. unwrap_or r x) same_row in subst (λ (y : P × X). cmp key y.0 ≡ Less) is (is_lt-Less _ t))
-      (λ t. first_above-is key es e (rw t at h))
-
-  module _ (o : IsTotalOrder cmp) where
-    pub first_above-least : (key q : P) (es : List (P × X)) (e : P × X) → is_sorted cmp es ≡ true → first_above cmp key es ≡ Some e → cmp key q ≡ Less → cmp q e.0 ≡ Less → find cmp q es ≡ None
-    first_above-least key q [] e s h above below = refl
-    first_above-least key q (x ∷ es) e s h above below =
-        by_test (is_lt (cmp key x.0))
-        (λ t.
-        let same_row : Some x ≡ Some e = rw t at h in
-        let is : x ≡ e = ap (λ r. unwrap_or r x) same_row in
-        let lower : cmp q x.0 ≡ Less = subst (λ (y : P × X). cmp q y.0 ≡ Less) (sym is) below in
-        rw lower (find_below q es (below-lower cmp o q x.0 es lower (sorted-head cmp x es s))))
-        (λ t. let other = not_above o key q x.0 t above in rw other (first_above-least key q es e (sorted-tail cmp x es s) (rw t at h) above below))
-      where
-        find_below : (q : P) (es : List (P × X)) → below_all cmp q es ≡ true → find cmp q es ≡ None
-        find_below q es h = find-row_at cmp q es ∙ ap (option_map (λ r. r.1)) (row_at-below cmp o q es h)
-
-    pub first_above-none : (key q : P) (es : List (P × X)) → first_above cmp key es ≡ None → cmp key q ≡ Less → find cmp q es ≡ None
-    first_above-none key q [] h above = refl
-    first_above-none key q (x ∷ es) h above =
-        by_test (is_lt (cmp key x.0))
-        (λ t. let no : Some x ≡ None = rw t at h in cc)
-        (λ t. let other = not_above o key q x.0 t above in rw other (first_above-none key q es (rw t at h) above))
-
-  pub in_order-rest : (xs ys : List (P × X)) → is_sorted cmp (xs ++ ys) ≡ true → is_sorted cmp ys ≡ true
-  in_order-rest [] ys s = s
-  in_order-rest (x ∷ xs) ys s = in_order-rest xs ys (sorted-tail cmp x (xs ++ ys) s)
-
-  -- a row before each row goes to the front
-  pub put-front : (e : P × X) (es : List (P × X)) → is_sorted cmp (e ∷ es) ≡ true → put cmp e.0 e.1 es ≡ e ∷ es
-  put-front e [] s = refl
-  put-front e (x ∷ es) s = let p : cmp e.0 x.0 ≡ Less = is_lt-Less _ (and_first _ _ (sorted-head cmp e (x ∷ es) s)) in rw p refl

@@ -2,13 +2,11 @@
 --     same cmp a b                  the two keys tie
 --     without cmp key rows          the rows but that under the key
 --     row_at cmp key rows           the row under the key, with the key that it stands under
---     sorted_of cmp entries         the entries of a table in the order of their keys
---     first_above cmp key rows      the first row above the key
 --     place cmp key rows            where the row under the key stands, or would go
 use Rattle.std.specs.Prelude.{ℕ, suc, Bool, not, if◌then◌else◌, List, [], ◌∷◌, Option, Some, None, Result, Ok, Err}
 use Rattle.std.specs.declared.cmp.Ordering.{Ordering}
-use Rattle.std.specs.Ordering.{eq_by_cmp, is_lt}
-use Rattle.std.specs.FinMap.Entries.{put, where_key, by_order}
+use Rattle.std.specs.Ordering.{eq_by_cmp}
+use Rattle.std.specs.FinMap.Entries.{where_key, by_order}
 
 abbrev pub same : {P : Type 0} → (P → P → Ordering) → P → P → Bool
 same cmp a b = eq_by_cmp cmp a b
@@ -20,14 +18,6 @@ module _ {P X : Type 0} (cmp : P → P → Ordering) where
   abbrev pub row_at : P → List (P × X) → Option (P × X)
   row_at key [] = None
   row_at key (row ∷ rows) = if same cmp key row.0 then Some row else row_at key rows
-
-  abbrev pub sorted_of : List (P × X) → List (P × X)
-  sorted_of [] = []
-  sorted_of (row ∷ rows) = put cmp row.0 row.1 (sorted_of rows)
-
-  abbrev pub first_above : P → List (P × X) → Option (P × X)
-  first_above key [] = None
-  first_above key (row ∷ rows) = if is_lt (cmp key row.0) then Some row else first_above key rows
 
 -- a place one further on
 abbrev pub next_place : Result ℕ ℕ → Result ℕ ℕ

@@ -1,8 +1,8 @@
 -- A proof by cases of a test, and what tests say.
-use Rattle.std.specs.Prelude.{◌≡◌, ◌≢◌, Bool, true, false, ◌&&◌, Option, Some, None, refl}
+use Rattle.std.specs.Prelude.{◌≡◌, ◌≢◌, Bool, true, false, ◌&&◌, refl}
 use Rattle.std.specs.declared.cmp.Ordering.{Ordering}
 use Rattle.std.specs.declared.cmp.Ordering.TheVariants.{Less, Equal, Greater}
-use Rattle.std.specs.Ordering.{is_eq, is_lt}
+use Rattle.std.specs.Ordering.{is_lt}
 use Rattle.std.proofs.Common.{sym, T, subst}
 
 -- a test is true or false
@@ -15,15 +15,6 @@ pub by_ordering : {G : Type 0} (r : Ordering) → (r ≡ Less → G) → (r ≡ 
 by_ordering Less less equal greater = less refl
 by_ordering Equal less equal greater = equal refl
 by_ordering Greater less equal greater = greater refl
-
-pub by_option : {A G : Type 0} (o : Option A) → ((x : A) → o ≡ Some x → G) → (o ≡ None → G) → G
-by_option None some none = none refl
-by_option (Some x) some none = some x refl
-
-pub is_eq-Equal : (r : Ordering) → is_eq r ≡ true → r ≡ Equal
-is_eq-Equal Less h = cc
-is_eq-Equal Equal h = refl
-is_eq-Equal Greater h = cc
 
 pub is_lt-Less : (r : Ordering) → is_lt r ≡ true → r ≡ Less
 is_lt-Less Less h = refl
@@ -41,9 +32,6 @@ and_second false b h = cc
 pub and_both : (a b : Bool) → a ≡ true → b ≡ true → (a && b) ≡ true
 and_both true b h k = k
 and_both false b h k = h
-
-pub not_Some : {A : Type 0} (x : A) → Some x ≢ None
-not_Some x h = cc
 
 pub T-from : (b : Bool) → b ≡ true → T b
 T-from b h = subst T (sym h) tt

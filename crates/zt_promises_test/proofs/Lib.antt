@@ -3,3 +3,7 @@ pub mod Opened
 pub mod Part1
 pub mod Part2
 pub mod Part3
+pub mod Kept
+pub mod Lacking
+pub mod Suffices
+pub mod Tests

@@ -5,7 +5,6 @@ use Rattle.std.specs.declared.cmp.Ordering.{Ordering}
 use Rattle.zt_model.specs.Fabric.{empty_fabric, entries_from}
 use Rattle.zt_model.specs.Lists.{nth}
 use Rattle.zt_model.specs.Promises.{Turn, turns_from}
-use Rattle.zt_model.specs.Sessions.{is_any_line}
 use Rattle.zt_model.specs.Transcript.{AllKeepWhatTheyShould, IsEntry, IsFaithfulFrom, IsRefusedByCause, LacksIdsByCall, NamesOpenFaces}
 use Rattle.zt_model_test.specs.Script.{HasTotals, Script, matching_in}
 
@@ -36,11 +35,11 @@ Allows promise n s =
 module _ (cmp : ℕ → ℕ → Ordering) (matching : ℕ → ℕ → Bool) (t : Turn ℕ) where
   -- the line is refused exactly by its cause
   abbrev pub HasItsCause : Type 0
-  HasItsCause = IsRefusedByCause cmp matching is_any_line t.line t.entry t.before
+  HasItsCause = IsRefusedByCause cmp matching t.line t.entry t.before
 
   -- too few ids are left for the line's own call
   abbrev pub LacksItsIds : Type 0
-  LacksItsIds = LacksIdsByCall cmp matching is_any_line t.line t.entry t.before
+  LacksItsIds = LacksIdsByCall cmp matching t.line t.entry t.before
 
   -- what is printed stands in order of face
   abbrev pub IsInForm : Type 0
@@ -58,11 +57,11 @@ module _ (cmp : ℕ → ℕ → Ordering) (matching : ℕ → ℕ → Bool) (t :
 
 -- there isn't an entry for each line
 abbrev pub LacksEntries : Script → Type 0
-LacksEntries s = IsFaithfulFrom nat_cmp (matching_in s) is_any_line s.lines s.entries empty_fabric → ⊥
+LacksEntries s = IsFaithfulFrom nat_cmp (matching_in s) s.lines s.entries empty_fabric → ⊥
 
 abbrev pub HasOtherTotals : Script → Type 0
 HasOtherTotals s = HasTotals s → ⊥
 
 -- the machine comes to other entries
 abbrev pub IsNotTheMachines : Script → Type 0
-IsNotTheMachines s = entries_from nat_cmp (matching_in s) is_any_line s.lines empty_fabric ≡ s.entries → ⊥
+IsNotTheMachines s = entries_from nat_cmp (matching_in s) s.lines empty_fabric ≡ s.entries → ⊥

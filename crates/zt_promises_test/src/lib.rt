@@ -1,9 +1,12 @@
 //! The wrong transcripts of `tests/wrong`: each breaks a promise of `zt_model`, but for one that has other totals than
 //! its lines and one that no promise forbids, which alone isn't the machine's own. A law is named for its script, and
-//! names the promise and the line whose entry breaks it.
+//! names the promise and the line whose entry breaks it. In `premises` stand the laws of scripts that lack a premise of the
+//! promises over trees.
 //!
 //! Written by tools/wrong_to_antt.py; change the transcripts or the tool, and not this file.
 #![tactic(auto)]
+
+pub mod premises;
 
 ghost use Rattle.zt_model.specs.Promises.{KeepsExactly, IsSparing, IsMoreSparing, TellsTheFuture, TellsOfRouters, AnswersAsks, SendsFinals, FinishesInitial, SendsUpstream, EndsUpstream, UndeclaresWhatIsGone, UndeclaresWhatWasKept, DrawsNextIds, EndsWhatStands};
 ghost use Rattle.zt_promises_test.specs.Wrong.{Refuses, Allows, HasItsCause, LacksItsIds, IsInForm, NamesOpen, KeepsRightly, LacksEntries, HasOtherTotals, IsNotTheMachines};

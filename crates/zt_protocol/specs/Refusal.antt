@@ -1,10 +1,9 @@
 -- The order and the names of refusals.
 use Rattle.std.specs.Prelude.{ℕ, List, codes}
 use Rattle.zt_protocol.specs.declared.errors.Refusal.{Refusal}
-use Rattle.zt_protocol.specs.declared.errors.Refusal.TheVariants.{NotBuilt, UnknownGateway, UnknownLink, EmptyLink, UnknownFace, LinkedFace, NoSuchRegion, RegionConflict, NorthTaken, WouldLoop, AnswerFromSouth, FinalFromSouth, InterestFromRouter, InterestFromNorth, IllegalCurrent, InterestIdInUse, UnknownInterest, UnknownAsk, UnknownRouter, TokenIdZero, TokenIdInUse, UnknownToken, MomentBack, DictionaryFull, IdsSpent, NumbersSpent}
+use Rattle.zt_protocol.specs.declared.errors.Refusal.TheVariants.{UnknownGateway, UnknownLink, EmptyLink, UnknownFace, LinkedFace, NoSuchRegion, RegionConflict, NorthTaken, WouldLoop, AnswerFromSouth, FinalFromSouth, InterestFromRouter, InterestFromNorth, IllegalCurrent, InterestIdInUse, UnknownInterest, UnknownAsk, UnknownRouter, TokenIdZero, TokenIdInUse, UnknownToken, MomentBack, DictionaryFull, IdsSpent, NumbersSpent}
 
 abbrev pub number_of : Refusal → ℕ
-number_of NotBuilt = 0
 number_of UnknownGateway = 1
 number_of UnknownLink = 2
 number_of EmptyLink = 3
@@ -33,7 +32,6 @@ number_of NumbersSpent = 25
 
 -- the name that a transcript prints
 abbrev pub name_of : Refusal → List ℕ
-name_of NotBuilt = codes "NotBuilt"
 name_of UnknownGateway = codes "UnknownGateway"
 name_of UnknownLink = codes "UnknownLink"
 name_of EmptyLink = codes "EmptyLink"

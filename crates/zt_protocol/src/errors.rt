@@ -8,10 +8,8 @@ use thiserror::Error;
 /// The causes are tried in the order of their numbers, and the first that holds is the answer.
 #[derive(Clone, Copy, PartialEq, Eq, Debug)]
 pub enum Refusal {
-    /// The line is of a kind that isn't built yet.
-    NotBuilt,
     /// The named gateway doesn't exist.
-    UnknownGateway,
+    UnknownGateway = 1,
     /// The link doesn't exist or is closed.
     UnknownLink,
     /// No message waits in that direction of the link.
@@ -63,7 +61,7 @@ pub enum Refusal {
 }
 
 impl Refusal {
-    /// Its place in the order in which causes are tried, from 1; `NotBuilt` is 0.
+    /// Its place in the order in which causes are tried, from 1.
     pub fn number(&self) -> u8
         ensures { result ≡ number_of self.now }
     {
@@ -75,7 +73,6 @@ impl Refusal {
         ensures { result.now ≡ name_of self.now }
     {
         match self {
-            Refusal::NotBuilt => "NotBuilt",
             Refusal::UnknownGateway => "UnknownGateway",
             Refusal::UnknownLink => "UnknownLink",
             Refusal::EmptyLink => "EmptyLink",

@@ -11,7 +11,7 @@ use Rattle.zt_protocol.specs.Plain.{PlainCall, NewSession, NewTransport, PlainEn
 use Rattle.zt_protocol.specs.declared.entries.Sent.{Sent}
 use Rattle.zt_protocol.specs.declared.errors.Refusal.{Refusal}
 use Rattle.zt_protocol.specs.declared.errors.Refusal.TheVariants as refusal
-use Rattle.zt_model.specs.Fabric.{CallAt, Fabric, Node, Place, after_hearing, after_refusal, altered_by_line, at_nth, built_causes, call_at, call_of, causes_of_call, empty_fabric, entry_by, entry_of, fabric_after, new_rows, next_face, opened_at, said_at, said_by_line, sorted_by_face, with_gateway, with_place, with_rows, with_waiting}
+use Rattle.zt_model.specs.Fabric.{CallAt, Fabric, Node, Place, after_hearing, after_refusal, altered_by_line, at_nth, line_causes, call_at, call_of, causes_of_call, empty_fabric, entry_by, entry_of, fabric_after, new_rows, next_face, opened_at, said_at, said_by_line, sorted_by_face, with_gateway, with_place, with_rows, with_waiting}
 use Rattle.zt_model.specs.Hearing.{rows_heard}
 use Rattle.zt_model.specs.Journal.{cause_of, is_making, outcome_of, rows_after}
 use Rattle.zt_model.specs.Lists.{is_some_and, nth}
@@ -51,7 +51,7 @@ first_of_five a b c d x y r same =
     (first_later c (d ∷ (x, r) ∷ (y, r) ∷ []) (d ∷ (x, r) ∷ [])
     (first_later d ((x, r) ∷ (y, r) ∷ []) ((x, r) ∷ []) (first_twice x y r same))))
 
-module _ {K : Type 0} (cmp : K → K → Ordering) (matching : K → K → Bool) (is_built : PlainLine K → Bool) (built : (line : PlainLine K) → is_built line ≡ true) (total : IsTotalOrder cmp) where
+module _ {K : Type 0} (cmp : K → K → Ordering) (matching : K → K → Bool) (total : IsTotalOrder cmp) where
   -- the fabric with a place more
   abbrev with_one : Fabric K → Fabric K
   with_one s = with_place 1 s
@@ -69,11 +69,11 @@ module _ {K : Type 0} (cmp : K → K → Ordering) (matching : K → K → Bool)
     opened_then = with_rows 1 (rows_after_call cmp matching c) (with_one s)
 
     next_is : next_face (nth 1 s.gateways) ≡ alone.node.rows.made + 1
-    next_is = ap next_face (nth_alone cmp matching is_built built total g s alone)
+    next_is = ap next_face (nth_alone cmp matching total g s alone)
 
     opened_left : Each (λ f. is_placed 1 f.number (with_one s).faces ≡ true) (altered cmp matching c alone.node.rows).faces × ((altered cmp matching c alone.node.rows).made ≡ alone.node.rows.made + 1)
     opened_left =
-        let there = nth_alone cmp matching is_built built total g s alone in
+        let there = nth_alone cmp matching total g s alone in
         let gateway = gateway_in_order cmp matching s 1 alone.node there alone.ordered in
         let p : Place = record { gateway = 1; face = next_face (nth 1 s.gateways) } in
         let places = s.faces ++ p ∷ [] in
@@ -85,14 +85,14 @@ module _ {K : Type 0} (cmp : K → K → Ordering) (matching : K → K → Bool)
     opened_heard ms is =
         let p : Place = record { gateway = 1; face = next_face (nth 1 s.gateways) } in
         ap (λ xs. after_hearing cmp xs (with_rows 1 (altered cmp matching c) (with_one s))) is
-        ∙ after_prints cmp matching 1 alone.node c (with_one s) (sorted_by_face (says_opening c s alone.node)) (prints_sorted (with_one s).faces 1 (said cmp matching c alone.node.rows)) (nth_alone cmp matching is_built built total g s alone) opened_left.0
+        ∙ after_prints cmp matching 1 alone.node c (with_one s) (sorted_by_face (says_opening c s alone.node)) (prints_sorted (with_one s).faces 1 (said cmp matching c alone.node.rows)) (nth_alone cmp matching total g s alone) opened_left.0
         (faces_still_placed cmp matching p s alone.ordered)
 
     opened_ordered : FabricIsInOrder cmp matching opened_then
     opened_ordered =
         let ms = sorted_by_face (says_opening c s alone.node) in
         subst (FabricIsInOrder cmp matching) (opened_heard ms refl)
-        (in_order_opened cmp matching total 1 alone.node c s ms (prints_sorted (with_one s).faces 1 (said cmp matching c alone.node.rows)) (nth_alone cmp matching is_built built total g s alone) opens real alone.ordered)
+        (in_order_opened cmp matching total 1 alone.node c s ms (prints_sorted (with_one s).faces 1 (said cmp matching c alone.node.rows)) (nth_alone cmp matching total g s alone) opens real alone.ordered)
 
     made_then : rows_then.made ≡ alone.node.rows.made + 1
     unfolding rows_heard
@@ -110,7 +110,7 @@ module _ {K : Type 0} (cmp : K → K → Ordering) (matching : K → K → Bool)
 
     said_then : says_opening c s alone.node ≡ map sent_alone (said cmp matching c alone.node.rows)
     said_then =
-        let there = nth_alone cmp matching is_built built total g s alone in
+        let there = nth_alone cmp matching total g s alone in
         let gateway = gateway_in_order cmp matching s 1 alone.node there alone.ordered in
         let changed : Node K = record alone.node { rows = rows_then } in
         let at_ : nth 1 opened_then.gateways ≡ Some changed = ap (λ gs. nth 1 (at_nth 1 (λ (n : Node K). record n { rows = rows_after_call cmp matching c n.rows }) gs)) alone.gateways in
@@ -123,35 +123,35 @@ module _ {K : Type 0} (cmp : K → K → Ordering) (matching : K → K → Bool)
 
   -- what a line and its call have to do with each other
   record IsOpening (line : PlainLine K) (c : PlainCall K) (s : Fabric K) (node : Node K) : Type 0 where
-    cause : cause_in cmp matching is_built built line s ≡ cause_of cmp matching c node.rows
+    cause : cause_in cmp matching line s ≡ cause_of cmp matching c node.rows
     says : said_by_line cmp matching line s ≡ says_opening c s node
     does : altered_by_line cmp matching line s ≡ with_rows 1 (altered cmp matching c) (with_one s)
     stays : (r : Refusal) → after_refusal cmp matching line r s ≡ s
 
   opens_to : (line : PlainLine K) (c : PlainCall K) (g : Rows K) (s : Fabric K) (alone : IsAlone cmp matching g s) → opens_face c ≡ true → CallHasFirstIds c → IsOpening line c s alone.node
-      → ComesTo cmp matching is_built line s (outcome_of cmp matching c g) (rows_after cmp matching c g)
+      → ComesTo cmp matching line s (outcome_of cmp matching c g) (rows_after cmp matching c g)
   unfolding entry_of outcome_of fabric_after rows_after
   opens_to line c g s alone opens real is =
-      let caused : cause_in cmp matching is_built built line s ≡ cause_of cmp matching c g = is.cause ∙ ap (cause_of cmp matching c) alone.rows in
+      let caused : cause_in cmp matching line s ≡ cause_of cmp matching c g = is.cause ∙ ap (cause_of cmp matching c) alone.rows in
       let says : said_by_line cmp matching line s ≡ map sent_alone (said cmp matching c g) = is.says ∙ said_then c g s alone opens real ∙ ap (λ h. map sent_alone (said cmp matching c h)) alone.rows in
       record {
-        entry_is = outcome_by cmp matching is_built built total c g (cause_in cmp matching is_built built line s) (said_by_line cmp matching line s) caused says;
+        entry_is = outcome_by cmp matching total c g (cause_in cmp matching line s) (said_by_line cmp matching line s) caused says;
         after = by_cause (cause_of cmp matching c g) refl;
       }
     where
       Left : PlainEntry K → Type 0
       Left entry = IsAlone cmp matching (rows_after cmp matching c g) (fabric_after cmp matching line entry s)
 
-      by_cause : (o : Option Refusal) → cause_of cmp matching c g ≡ o → Left (entry_of cmp matching is_built line s)
+      by_cause : (o : Option Refusal) → cause_of cmp matching c g ≡ o → Left (entry_of cmp matching line s)
       by_cause None accepted =
           let ms = sorted_by_face (said_by_line cmp matching line s) in
-          let entry : entry_of cmp matching is_built line s ≡ Ok ms = ap (λ o. entry_by cmp matching o ms) (is.cause ∙ ap (cause_of cmp matching c) alone.rows ∙ accepted) in
+          let entry : entry_of cmp matching line s ≡ Ok ms = ap (λ o. entry_by cmp matching o ms) (is.cause ∙ ap (cause_of cmp matching c) alone.rows ∙ accepted) in
           let heard = ap (after_hearing cmp ms) is.does ∙ opened_heard c g s alone opens real ms (ap sorted_by_face is.says) in
           let ordered = subst (FabricIsInOrder cmp matching) (sym heard) (opened_ordered c g s alone opens real) in
           subst Left (sym entry)
-          (alone_with cmp matching is_built built total c g alone.node (with_one s) (after_hearing cmp ms (altered_by_line cmp matching line s)) ms heard alone.gateways alone.rows accepted (length_then c g s alone opens real) (places_then c g s alone opens real) alone.links alone.waiting ordered)
+          (alone_with cmp matching total c g alone.node (with_one s) (after_hearing cmp ms (altered_by_line cmp matching line s)) ms heard alone.gateways alone.rows accepted (length_then c g s alone opens real) (places_then c g s alone opens real) alone.links alone.waiting ordered)
       by_cause (Some r) refused_ =
-          let entry : entry_of cmp matching is_built line s ≡ Err r = ap (λ o. entry_by cmp matching o (sorted_by_face (said_by_line cmp matching line s))) (is.cause ∙ ap (cause_of cmp matching c) alone.rows ∙ refused_) in
+          let entry : entry_of cmp matching line s ≡ Err r = ap (λ o. entry_by cmp matching o (sorted_by_face (said_by_line cmp matching line s))) (is.cause ∙ ap (cause_of cmp matching c) alone.rows ∙ refused_) in
           let same : g ≡ rows_after cmp matching c g = sym (ap (λ o. elim o [ None ↦ rows_after_call cmp matching c g | Some refusal ↦ g ]) refused_) in
           subst Left (sym entry) (subst (IsAlone cmp matching (rows_after cmp matching c g)) (sym (is.stays r)) (subst (λ h. IsAlone cmp matching h s) same alone))
 
@@ -159,28 +159,27 @@ module _ {K : Type 0} (cmp : K → K → Ordering) (matching : K → K → Bool)
   full_is g s alone = ap (nat_le GREATEST_NUMBER) (ap (λ (h : Rows K). h.made) alone.rows ∙ sym alone.made)
 
   -- A session's line.
-  pub session_opens : (first : ℕ) (g : Rows K) (s : Fabric K) → 1 ≤ first → IsAlone cmp matching g s → ComesTo cmp matching is_built (Session 1 first) s (outcome_of cmp matching (NewSession first) g) (rows_after cmp matching (NewSession first) g)
-  unfolding built_causes call_of call_causes cause_of first_cause said_by_line said_by altered_by altered_by_line parts_of
+  pub session_opens : (first : ℕ) (g : Rows K) (s : Fabric K) → 1 ≤ first → IsAlone cmp matching g s → ComesTo cmp matching (Session 1 first) s (outcome_of cmp matching (NewSession first) g) (rows_after cmp matching (NewSession first) g)
+  unfolding line_causes call_of call_causes cause_of first_cause said_by_line said_by altered_by altered_by_line parts_of
   session_opens first g s real alone =
-      let there = nth_alone cmp matching is_built built total g s alone in
+      let there = nth_alone cmp matching total g s alone in
       let at_ = called_at_one s alone.node (NewSession first) alone.gateways in
       opens_to (Session 1 first) (NewSession first) g s alone refl real
       (record {
         cause =
-            ap (λ b. first_cause ((not b, refusal.NotBuilt) ∷ (is_none (nth 1 s.gateways), refusal.UnknownGateway) ∷ (nat_le GREATEST_NUMBER (length s.faces), refusal.NumbersSpent) ∷ [])) (built (Session 1 first))
-            ∙ ap (λ o. first_cause ((false, refusal.NotBuilt) ∷ (is_none o, refusal.UnknownGateway) ∷ (nat_le GREATEST_NUMBER (length s.faces), refusal.NumbersSpent) ∷ [])) there
+            ap (λ o. first_cause ((is_none o, refusal.UnknownGateway) ∷ (nat_le GREATEST_NUMBER (length s.faces), refusal.NumbersSpent) ∷ [])) there
             ∙ ap (λ b. first_cause ((b, refusal.NumbersSpent) ∷ [])) (sym (full_is g s alone));
         says = ap (said_at cmp matching s) at_;
         does = refl;
         stays = λ r. refl;
       })
 
-  abbrev face_causes : Bool → Bool → Option (CallAt K) → Bool → Option Refusal
-  face_causes built_ unknown at full =
-      first_cause (((not built_, refusal.NotBuilt) ∷ (unknown, refusal.UnknownGateway) ∷ causes_of_call cmp matching (is_some_and at (λ a. spends_ids cmp matching a.call a.rows)) at) ++ (full, refusal.NumbersSpent) ∷ [])
+  abbrev face_causes : Bool → Option (CallAt K) → Bool → Option Refusal
+  face_causes unknown at full =
+      first_cause (((unknown, refusal.UnknownGateway) ∷ causes_of_call cmp matching (is_some_and at (λ a. spends_ids cmp matching a.call a.rows)) at) ++ (full, refusal.NumbersSpent) ∷ [])
 
   face_first : (mode : WhatAmI) (zid : Zid) (region : Region) (bound : Bound) (first : ℕ) (g : Rows K) (s : Fabric K) (alone : IsAlone cmp matching g s)
-      → (let c : PlainCall K = NewTransport zid mode region bound first in face_causes true false (at_one alone.node c) (nat_le GREATEST_NUMBER (length s.faces)) ≡ cause_of cmp matching c alone.node.rows)
+      → (let c : PlainCall K = NewTransport zid mode region bound first in face_causes false (at_one alone.node c) (nat_le GREATEST_NUMBER (length s.faces)) ≡ cause_of cmp matching c alone.node.rows)
   unfolding call_causes cause_of first_cause
   face_first mode zid region bound first g s alone =
       let c : PlainCall K = NewTransport zid mode region bound first in
@@ -189,19 +188,18 @@ module _ {K : Type 0} (cmp : K → K → Ordering) (matching : K → K → Bool)
 
   -- A face's line.
   pub face_opens : (mode : WhatAmI) (zid : Zid) (region : Region) (bound : Bound) (first : ℕ) (g : Rows K) (s : Fabric K) → 1 ≤ first → IsAlone cmp matching g s
-      → ComesTo cmp matching is_built (FaceLine 1 mode zid region bound first) s (outcome_of cmp matching (NewTransport zid mode region bound first) g) (rows_after cmp matching (NewTransport zid mode region bound first) g)
-  unfolding built_causes call_of call_causes cause_of said_by_line altered_by_line
+      → ComesTo cmp matching (FaceLine 1 mode zid region bound first) s (outcome_of cmp matching (NewTransport zid mode region bound first) g) (rows_after cmp matching (NewTransport zid mode region bound first) g)
+  unfolding line_causes call_of call_causes cause_of said_by_line altered_by_line
   face_opens mode zid region bound first g s real alone =
       let c : PlainCall K = NewTransport zid mode region bound first in
       let line : PlainLine K = FaceLine 1 mode zid region bound first in
-      let there = nth_alone cmp matching is_built built total g s alone in
+      let there = nth_alone cmp matching total g s alone in
       let at_ = called_at_one s alone.node c alone.gateways in
       opens_to line c g s alone refl real
       (record {
         cause =
-            ap (λ b. face_causes b (is_none (nth 1 s.gateways)) (call_at s 1 c) (nat_le GREATEST_NUMBER (length s.faces))) (built line)
-            ∙ ap (λ o. face_causes true (is_none o) (call_at s 1 c) (nat_le GREATEST_NUMBER (length s.faces))) there
-            ∙ ap (λ at. face_causes true false at (nat_le GREATEST_NUMBER (length s.faces))) at_
+            ap (λ o. face_causes (is_none o) (call_at s 1 c) (nat_le GREATEST_NUMBER (length s.faces))) there
+            ∙ ap (λ at. face_causes false at (nat_le GREATEST_NUMBER (length s.faces))) at_
             ∙ face_first mode zid region bound first g s alone;
         says = ap (λ at. said_at cmp matching (opened_at cmp matching at s) at) at_;
         does = ap (λ at. opened_at cmp matching at s) at_;
@@ -211,44 +209,42 @@ module _ {K : Type 0} (cmp : K → K → Ordering) (matching : K → K → Bool)
   -- ---- lines that are refused
 
   -- a refused line, that is no step, leaves all as it is
-  pub refuses : (line : PlainLine K) (g : Rows K) (s : Fabric K) (r : Refusal) → IsAlone cmp matching g s → cause_in cmp matching is_built built line s ≡ Some r → after_refusal cmp matching line r s ≡ s
-      → ComesTo cmp matching is_built line s (Err r) g
+  pub refuses : (line : PlainLine K) (g : Rows K) (s : Fabric K) (r : Refusal) → IsAlone cmp matching g s → cause_in cmp matching line s ≡ Some r → after_refusal cmp matching line r s ≡ s
+      → ComesTo cmp matching line s (Err r) g
   unfolding entry_of fabric_after
   refuses line g s r alone caused stays =
-      let entry : entry_of cmp matching is_built line s ≡ Err r = ap (λ o. entry_by cmp matching o (sorted_by_face (said_by_line cmp matching line s))) caused in
+      let entry : entry_of cmp matching line s ≡ Err r = ap (λ o. entry_by cmp matching o (sorted_by_face (said_by_line cmp matching line s))) caused in
       record { entry_is = entry; after = subst (λ e. IsAlone cmp matching g (fabric_after cmp matching line e s)) (sym entry) (subst (IsAlone cmp matching g) (sym stays) alone) }
 
   no_gateway : (n : ℕ) (node : Node K) → (n == 1) ≡ false → is_none (nth n (node ∷ [])) ≡ true
   no_gateway n node other = rw other refl
 
   -- lines that open a face of a gateway that isn't there
-  pub session_nowhere : (n first : ℕ) (s : Fabric K) → is_none (nth n s.gateways) ≡ true → cause_in cmp matching is_built built (Session n first) s ≡ Some refusal.UnknownGateway
-  unfolding built_causes first_cause
+  pub session_nowhere : (n first : ℕ) (s : Fabric K) → is_none (nth n s.gateways) ≡ true → cause_in cmp matching (Session n first) s ≡ Some refusal.UnknownGateway
+  unfolding line_causes first_cause
   session_nowhere n first s none =
-      ap (λ b. first_cause ((not b, refusal.NotBuilt) ∷ (is_none (nth n s.gateways), refusal.UnknownGateway) ∷ (nat_le GREATEST_NUMBER (length s.faces), refusal.NumbersSpent) ∷ [])) (built (Session n first))
-      ∙ first_holds (is_none (nth n s.gateways)) refusal.UnknownGateway ((nat_le GREATEST_NUMBER (length s.faces), refusal.NumbersSpent) ∷ []) none
+      first_holds (is_none (nth n s.gateways)) refusal.UnknownGateway ((nat_le GREATEST_NUMBER (length s.faces), refusal.NumbersSpent) ∷ []) none
 
-  pub face_nowhere : (n : ℕ) (mode : WhatAmI) (zid : Zid) (region : Region) (bound : Bound) (first : ℕ) (s : Fabric K) → is_none (nth n s.gateways) ≡ true → cause_in cmp matching is_built built (FaceLine n mode zid region bound first) s ≡ Some refusal.UnknownGateway
-  unfolding built_causes first_cause call_of
+  pub face_nowhere : (n : ℕ) (mode : WhatAmI) (zid : Zid) (region : Region) (bound : Bound) (first : ℕ) (s : Fabric K) → is_none (nth n s.gateways) ≡ true → cause_in cmp matching (FaceLine n mode zid region bound first) s ≡ Some refusal.UnknownGateway
+  unfolding line_causes first_cause call_of
   face_nowhere n mode zid region bound first s none =
       let c : PlainCall K = NewTransport zid mode region bound first in
-      ap (λ b. face_causes b (is_none (nth n s.gateways)) (call_at s n c) (nat_le GREATEST_NUMBER (length s.faces))) (built (FaceLine n mode zid region bound first))
-      ∙ ap (λ b. face_causes true b (call_at s n c) (nat_le GREATEST_NUMBER (length s.faces))) none
+      ap (λ b. face_causes b (call_at s n c) (nat_le GREATEST_NUMBER (length s.faces))) none
 
   -- A line that opens a face comes to the outcome of its call, or names another gateway.
-  pub line_makes : (line : PlainLine K) (g : Rows K) (s : Fabric K) → is_making line ≡ true → HasFirstIds line → IsAlone cmp matching g s → ComesTo cmp matching is_built line s (made_entry cmp matching line g) (made_rows cmp matching line g)
+  pub line_makes : (line : PlainLine K) (g : Rows K) (s : Fabric K) → is_making line ≡ true → HasFirstIds line → IsAlone cmp matching g s → ComesTo cmp matching line s (made_entry cmp matching line g) (made_rows cmp matching line g)
   line_makes (Session n first) g s making real alone =
       by_test (n == 1)
       (λ own.
       let is : n ≡ 1 = eqb-true n 1 own in
-      rw own (subst (λ k. ComesTo cmp matching is_built (Session k first) s (outcome_of cmp matching (NewSession first) g) (rows_after cmp matching (NewSession first) g)) (sym is) (session_opens first g s real alone)))
+      rw own (subst (λ k. ComesTo cmp matching (Session k first) s (outcome_of cmp matching (NewSession first) g) (rows_after cmp matching (NewSession first) g)) (sym is) (session_opens first g s real alone)))
       (λ other. rw other (refuses (Session n first) g s refusal.UnknownGateway alone (session_nowhere n first s (ap (λ gs. is_none (nth n gs)) alone.gateways ∙ no_gateway n alone.node other)) refl))
   line_makes (FaceLine n mode zid region bound first) g s making real alone =
       let c : PlainCall K = NewTransport zid mode region bound first in
       by_test (n == 1)
       (λ own.
       let is : n ≡ 1 = eqb-true n 1 own in
-      rw own (subst (λ k. ComesTo cmp matching is_built (FaceLine k mode zid region bound first) s (outcome_of cmp matching c g) (rows_after cmp matching c g)) (sym is) (face_opens mode zid region bound first g s real alone)))
+      rw own (subst (λ k. ComesTo cmp matching (FaceLine k mode zid region bound first) s (outcome_of cmp matching c g) (rows_after cmp matching c g)) (sym is) (face_opens mode zid region bound first g s real alone)))
       (λ other. rw other (refuses (FaceLine n mode zid region bound first) g s refusal.UnknownGateway alone (face_nowhere n mode zid region bound first s (ap (λ gs. is_none (nth n gs)) alone.gateways ∙ no_gateway n alone.node other)) refl))
   line_makes (Gateway mode zid regions south name timeout refused) g s making real alone = never making refl
   line_makes (Link one two first back) g s making real alone = never making refl
@@ -261,23 +257,21 @@ module _ {K : Type 0} (cmp : K → K → Ordering) (matching : K → K → Bool)
   -- ---- the gateway's own line
 
   pub first_line_cause : (mode : WhatAmI) (zid : Zid) (regions : List Region) (south : PlainSouth) (name : Option (List ℕ)) (timeout : ℕ) (refused : List (Region × Region))
-      → (let line : PlainLine K = Gateway mode zid regions south name timeout refused in cause_in cmp matching is_built built line empty_fabric ≡ first_cause (built_causes cmp matching false line empty_fabric))
-  unfolding built_causes first_cause
-  first_line_cause mode zid regions south name timeout refused =
-      let line : PlainLine K = Gateway mode zid regions south name timeout refused in
-      ap (λ b. first_cause ((not b, refusal.NotBuilt) ∷ built_causes cmp matching false line empty_fabric)) (built line)
+      → (let line : PlainLine K = Gateway mode zid regions south name timeout refused in cause_in cmp matching line empty_fabric ≡ first_cause (line_causes cmp matching false line empty_fabric))
+  unfolding line_causes first_cause
+  first_line_cause mode zid regions south name timeout refused = refl
 
   -- Where it isn't refused there is then one gateway without faces.
   pub gateway_made : (mode : WhatAmI) (zid : Zid) (regions : List Region) (south : PlainSouth) (name : Option (List ℕ)) (timeout : ℕ) (refused : List (Region × Region))
-      → (let line : PlainLine K = Gateway mode zid regions south name timeout refused in first_cause (built_causes cmp matching false line empty_fabric) ≡ None
-      → ComesTo cmp matching is_built line empty_fabric (Ok []) (new_rows mode zid regions timeout refused))
+      → (let line : PlainLine K = Gateway mode zid regions south name timeout refused in first_cause (line_causes cmp matching false line empty_fabric) ≡ None
+      → ComesTo cmp matching line empty_fabric (Ok []) (new_rows mode zid regions timeout refused))
   unfolding entry_of fabric_after said_by_line call_of sorted_by_face altered_by_line
   gateway_made mode zid regions south name timeout refused accepted =
       let line : PlainLine K = Gateway mode zid regions south name timeout refused in
       let node : Node K = record { rows = new_rows mode zid regions timeout refused; south = south; name = name } in
-      let entry : entry_of cmp matching is_built line empty_fabric ≡ Ok [] = ap (λ o. entry_by cmp matching o []) (first_line_cause mode zid regions south name timeout refused ∙ accepted) in
+      let entry : entry_of cmp matching line empty_fabric ≡ Ok [] = ap (λ o. entry_by cmp matching o []) (first_line_cause mode zid regions south name timeout refused ∙ accepted) in
       let heard : after_hearing cmp [] (with_gateway node empty_fabric) ≡ with_gateway node empty_fabric = after_hearing_nothing cmp (with_gateway node empty_fabric) in
-      let ordered = in_order_after_line cmp matching total is_built line empty_fabric tt (in_order_empty cmp matching) in
+      let ordered = in_order_after_line cmp matching total line empty_fabric tt (in_order_empty cmp matching) in
       let ordered_ = subst (λ e. FabricIsInOrder cmp matching (fabric_after cmp matching line e empty_fabric)) entry ordered in
       let one : IsAlone cmp matching (new_rows mode zid regions timeout refused) (with_waiting [] (after_hearing cmp [] (with_gateway node empty_fabric))) = record {
         node = node;

@@ -9,7 +9,7 @@ use Rattle.zt_region.specs.South.{PlainSouth}
 use Rattle.zt_protocol.specs.Plain.{PlainCall, PlainEntry, PlainLine, Gateway, Session, Face as FaceLine, Link, Unlink, Step, Speak, Moment, SetTreesAt}
 use Rattle.zt_protocol.specs.declared.errors.Refusal.{Refusal}
 use Rattle.zt_protocol.specs.declared.errors.Refusal.TheVariants as refusal
-use Rattle.zt_model.specs.Fabric.{Fabric, after_refusal, built_causes, empty_fabric, entries_from, entry_by, entry_of, fabric_after, new_rows, said_by_line, sorted_by_face}
+use Rattle.zt_model.specs.Fabric.{Fabric, after_refusal, line_causes, empty_fabric, entries_from, entry_by, entry_of, fabric_after, new_rows, said_by_line, sorted_by_face}
 use Rattle.zt_model.specs.Journal.{IsReplay, Journalled, is_making}
 use Rattle.zt_model.specs.Refusals.{first_cause}
 use Rattle.zt_model.specs.Rows.{Rows}
@@ -20,9 +20,9 @@ use Rattle.zt_replay.specs.Alone.{IsAlone, Speaks, made_entries, made_entry, mad
 use Rattle.zt_replay.proofs.Speaking.{cause_in, line_speaks, nowhere_cause, spoken_at}
 use Rattle.zt_replay.proofs.Opening.{face_nowhere, first_line_cause, gateway_made, line_makes, session_nowhere}
 
-module _ {K : Type 0} (cmp : K → K → Ordering) (matching : K → K → Bool) (is_built : PlainLine K → Bool) (built : (line : PlainLine K) → is_built line ≡ true) (total : IsTotalOrder cmp) where
+module _ {K : Type 0} (cmp : K → K → Ordering) (matching : K → K → Bool) (total : IsTotalOrder cmp) where
   abbrev from : List (PlainLine K) → Fabric K → List (PlainEntry K)
-  from lines s = entries_from cmp matching is_built lines s
+  from lines s = entries_from cmp matching lines s
 
   -- lines that speak come to the outcomes of a replay
   pub calls_come : (entries : List (Journalled K)) (g : Rows K) (s : Fabric K) → Each (λ e. Speaks e.call) entries → IsReplay cmp matching entries g → IsAlone cmp matching g s
@@ -30,8 +30,8 @@ module _ {K : Type 0} (cmp : K → K → Ordering) (matching : K → K → Bool)
   unfolding entries_from
   calls_come [] g s speak replay alone = refl
   calls_come (entry ∷ entries) g s speak replay alone =
-      let here = line_speaks cmp matching is_built built total entry.call g s speak.0 alone in
-      let after = fabric_after cmp matching (Speak entry.call) (entry_of cmp matching is_built (Speak entry.call) s) s in
+      let here = line_speaks cmp matching total entry.call g s speak.0 alone in
+      let after = fabric_after cmp matching (Speak entry.call) (entry_of cmp matching (Speak entry.call) s) s in
       ap (λ e. e ∷ from (map (λ e. Speak e.call) entries) after) (here.entry_is ∙ sym replay.1)
       ∙ ap (λ es. entry.outcome ∷ es) (calls_come entries _ after speak.1 replay.2 here.after)
 
@@ -41,30 +41,30 @@ module _ {K : Type 0} (cmp : K → K → Ordering) (matching : K → K → Bool)
   unfolding entries_from made_entries rows_made
   makings_come [] g s more rest making real alone then_ = then_ s alone
   makings_come (line ∷ lines) g s more rest making real alone then_ =
-      let here = line_makes cmp matching is_built built total line g s making.0 real.0 alone in
-      let after = fabric_after cmp matching line (entry_of cmp matching is_built line s) s in
+      let here = line_makes cmp matching total line g s making.0 real.0 alone in
+      let after = fabric_after cmp matching line (entry_of cmp matching line s) s in
       ap (λ e. e ∷ from (lines ++ more) after) here.entry_is
       ∙ ap (λ es. made_entry cmp matching line g ∷ es) (makings_come lines (made_rows cmp matching line g) after more rest making.1 real.1 here.after then_)
 
   -- The transcript of a script whose gateway is made: its faces are opened, and then there is a journal of calls.
   pub script_comes : (mode : WhatAmI) (zid : Zid) (regions : List Region) (south : PlainSouth) (name : Option (List ℕ)) (timeout : ℕ) (refused : List (Region × Region)) (makings : List (PlainLine K)) (entries : List (Journalled K))
       → (let line : PlainLine K = Gateway mode zid regions south name timeout refused in let rows = new_rows mode zid regions timeout refused in
-      first_cause (built_causes cmp matching false line empty_fabric) ≡ None → Each (λ line. is_making line ≡ true) makings → Each HasFirstIds makings → Each (λ e. Speaks e.call) entries
+      first_cause (line_causes cmp matching false line empty_fabric) ≡ None → Each (λ line. is_making line ≡ true) makings → Each HasFirstIds makings → Each (λ e. Speaks e.call) entries
       → IsReplay cmp matching entries (rows_made cmp matching makings rows)
       → from (line ∷ (makings ++ map (λ e. Speak e.call) entries)) empty_fabric ≡ Ok [] ∷ (made_entries cmp matching makings rows ++ map (λ e. e.outcome) entries))
   unfolding entries_from
   script_comes mode zid regions south name timeout refused makings entries accepted making real speak replay =
       let line : PlainLine K = Gateway mode zid regions south name timeout refused in
       let rows = new_rows mode zid regions timeout refused in
-      let here = gateway_made cmp matching is_built built total mode zid regions south name timeout refused accepted in
-      let after = fabric_after cmp matching line (entry_of cmp matching is_built line empty_fabric) empty_fabric in
+      let here = gateway_made cmp matching total mode zid regions south name timeout refused accepted in
+      let after = fabric_after cmp matching line (entry_of cmp matching line empty_fabric) empty_fabric in
       ap (λ e. e ∷ from (makings ++ map (λ e. Speak e.call) entries) after) here.entry_is
       ∙ ap (λ (es : List (PlainEntry K)). Ok [] ∷ es)
       (makings_come makings rows after (map (λ e. Speak e.call) entries) (map (λ e. e.outcome) entries) making real here.after (λ t alone. calls_come entries (rows_made cmp matching makings rows) t speak replay alone))
 
   -- ---- a gateway that is refused
 
-  refused_first : (line : PlainLine K) (r : Refusal) (more : List (PlainLine K)) → cause_in cmp matching is_built built line empty_fabric ≡ Some r → after_refusal cmp matching line r empty_fabric ≡ empty_fabric → from (line ∷ more) empty_fabric ≡ Err r ∷ from more empty_fabric
+  refused_first : (line : PlainLine K) (r : Refusal) (more : List (PlainLine K)) → cause_in cmp matching line empty_fabric ≡ Some r → after_refusal cmp matching line r empty_fabric ≡ empty_fabric → from (line ∷ more) empty_fabric ≡ Err r ∷ from more empty_fabric
   unfolding entries_from entry_of fabric_after
   refused_first line r more caused stays =
       let ms = sorted_by_face (said_by_line cmp matching line empty_fabric) in
@@ -75,12 +75,12 @@ module _ {K : Type 0} (cmp : K → K → Ordering) (matching : K → K → Bool)
   unfolding entries_from
   calls_refused [] speak = refl
   calls_refused (c ∷ calls) speak =
-      refused_first (Speak c) refusal.UnknownFace (map (λ c. Speak c) calls) (nowhere_cause cmp matching is_built built c empty_fabric (spoken_at empty_fabric c speak.0.0 None speak.0.1 refl) refl) refl
+      refused_first (Speak c) refusal.UnknownFace (map (λ c. Speak c) calls) (nowhere_cause cmp matching c empty_fabric (spoken_at empty_fabric c speak.0.0 None speak.0.1 refl) refl) refl
       ∙ ap (λ (es : List (PlainEntry K)). Err refusal.UnknownFace ∷ es) (calls_refused calls speak.1)
 
-  making_refused : (line : PlainLine K) → is_making line ≡ true → (cause_in cmp matching is_built built line empty_fabric ≡ Some refusal.UnknownGateway) × (after_refusal cmp matching line refusal.UnknownGateway empty_fabric ≡ empty_fabric)
-  making_refused (Session n first) making = (session_nowhere cmp matching is_built built total n first empty_fabric refl, refl)
-  making_refused (FaceLine n mode zid region bound first) making = (face_nowhere cmp matching is_built built total n mode zid region bound first empty_fabric refl, refl)
+  making_refused : (line : PlainLine K) → is_making line ≡ true → (cause_in cmp matching line empty_fabric ≡ Some refusal.UnknownGateway) × (after_refusal cmp matching line refusal.UnknownGateway empty_fabric ≡ empty_fabric)
+  making_refused (Session n first) making = (session_nowhere cmp matching total n first empty_fabric refl, refl)
+  making_refused (FaceLine n mode zid region bound first) making = (face_nowhere cmp matching total n mode zid region bound first empty_fabric refl, refl)
   making_refused (Gateway mode zid regions south name timeout refused) making = never making refl
   making_refused (Link one two first back) making = never making refl
   making_refused (Unlink link) making = never making refl
@@ -98,10 +98,10 @@ module _ {K : Type 0} (cmp : K → K → Ordering) (matching : K → K → Bool)
   -- The transcript of a script whose gateway is refused.
   pub script_refused : (mode : WhatAmI) (zid : Zid) (regions : List Region) (south : PlainSouth) (name : Option (List ℕ)) (timeout : ℕ) (refused : List (Region × Region)) (r : Refusal) (makings : List (PlainLine K)) (calls : List (PlainCall K))
       → (let line : PlainLine K = Gateway mode zid regions south name timeout refused in
-      first_cause (built_causes cmp matching false line empty_fabric) ≡ Some r → Each (λ line. is_making line ≡ true) makings → Each Speaks calls
+      first_cause (line_causes cmp matching false line empty_fabric) ≡ Some r → Each (λ line. is_making line ≡ true) makings → Each Speaks calls
       → from (line ∷ (makings ++ map (λ c. Speak c) calls)) empty_fabric ≡ Err r ∷ (map (λ line. Err refusal.UnknownGateway) makings ++ map (λ c. Err refusal.UnknownFace) calls))
   script_refused mode zid regions south name timeout refused r makings calls caused making speak =
       let line : PlainLine K = Gateway mode zid regions south name timeout refused in
-      refused_first line r (makings ++ map (λ c. Speak c) calls) (first_line_cause cmp matching is_built built total mode zid regions south name timeout refused ∙ caused) refl
+      refused_first line r (makings ++ map (λ c. Speak c) calls) (first_line_cause cmp matching total mode zid regions south name timeout refused ∙ caused) refl
       ∙ ap (λ (es : List (PlainEntry K)). Err r ∷ es)
       (makings_refused makings (map (λ c. Speak c) calls) making ∙ ap (λ (es : List (PlainEntry K)). map (λ line. Err refusal.UnknownGateway) makings ++ es) (calls_refused calls speak))

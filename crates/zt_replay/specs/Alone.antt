@@ -37,9 +37,9 @@ module _ {K : Type 0} (cmp : K → K → Ordering) (matching : K → K → Bool)
     pub ordered : FabricIsInOrder cmp matching s
 
   -- the line comes to this entry, and leaves one gateway with these rows
-  pub record ComesTo (is_built : PlainLine K → Bool) (line : PlainLine K) (s : Fabric K) (entry : PlainEntry K) (g : Rows K) : Type 0 where
-    pub entry_is : entry_of cmp matching is_built line s ≡ entry
-    pub after : IsAlone g (fabric_after cmp matching line (entry_of cmp matching is_built line s) s)
+  pub record ComesTo (line : PlainLine K) (s : Fabric K) (entry : PlainEntry K) (g : Rows K) : Type 0 where
+    pub entry_is : entry_of cmp matching line s ≡ entry
+    pub after : IsAlone g (fabric_after cmp matching line (entry_of cmp matching line s) s)
 
   -- ---- lines that open faces, where one gateway is there
 

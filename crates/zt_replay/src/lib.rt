@@ -17,10 +17,9 @@ use zt_keys::Key;
 /// Where one gateway is there alone, lines that speak come to the outcomes of a journal of their calls, each of
 /// which is the one that the journal's replay gives.
 pub fn journals_are_transcripts<K: Key>()
-    ensures { (is_built : PlainLine K → Bool) → ((line : PlainLine K) → is_built line ≡ true)
-        → (entries : List (Journalled K)) (g : Rows K) (s : Fabric K) → Each (λ e. Speaks e.call) entries
+    ensures { (entries : List (Journalled K)) (g : Rows K) (s : Fabric K) → Each (λ e. Speaks e.call) entries
         → IsReplay K.cmp K.matching entries g → IsAlone K.cmp K.matching g s
-        → entries_from K.cmp K.matching is_built (map (λ e. Speak e.call) entries) s ≡ map (λ e. e.outcome) entries }
+        → entries_from K.cmp K.matching (map (λ e. Speak e.call) entries) s ≡ map (λ e. e.outcome) entries }
 {}
 
 /// Where the entries of each worker are its lines in order, all of them together are the script's lines in an

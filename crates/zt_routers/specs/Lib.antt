@@ -1,2 +1,6 @@
+pub mod Children
+pub mod First
 pub mod Greeting
 pub mod Hiding
+pub mod KeysOf
+pub mod Shown

@@ -38,6 +38,7 @@ fn declare<K: Key>(
 }
 
 // Whether the face is a child of the router by the first table, and none by the second.
+#[tactic(auto, unfolding(zt_model::specs::Trees::is_child))]
 fn is_new_child<K: Key>(
     g: &GatewayState<K>,
     table: &TreeTable,
@@ -48,7 +49,7 @@ fn is_new_child<K: Key>(
     ensures { result ≡ (is_child g.now (trees_of table.now) router f.now
         && not (is_child g.now (trees_of before.now) router f.now)) }
 {
-    is_child(g, table, router, f) && !is_child(g, before, router, f)
+    is_child(g, &table.children, router, f) && !is_child(g, &before.children, router, f)
 }
 
 // Adds what the face is told of the tokens of one router.

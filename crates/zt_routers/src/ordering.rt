@@ -12,7 +12,7 @@ use zt_keys::{Key, Memory};
 use zt_protocol::TreeTable;
 use zt_region::{NodeId, Region, Zid};
 use zt_state::{GatewayState, RoutedToken};
-use zt_tokens::insert_in_order;
+use zt_tokens::KeysInOrder;
 
 // Whether the table lists the router.
 fn is_listed(router: Zid, table: &TreeTable) -> bool
@@ -34,13 +34,13 @@ fn add_left_out<K: Key>(
     row: &RoutedToken<K>,
     region: Region,
     table: &TreeTable,
-    exprs: &mut Vec<K>,
+    exprs: &mut KeysInOrder<K>,
 ) -> Result<(), Memory>
-    ensures { OnOk result (exprs.new.items
-        ≡ (if is_left_out K.cmp region (trees_of table.now) row.now then with_key K.cmp row.now.expr exprs.old.items else exprs.old.items)) }
+    ensures { OnOk result (exprs.new
+        ≡ (if is_left_out K.cmp region (trees_of table.now) row.now then with_key K.cmp row.now.expr exprs.old else exprs.old)) }
 {
     if is_left_out(row, region, table) {
-        insert_in_order(alloc, exprs, row.expr())?;
+        exprs.insert(alloc, row.expr())?;
     }
     Ok(())
 }
@@ -57,11 +57,11 @@ pub fn left_out<K: Key>(
         ≡ left_out K.cmp region (trees_of table.now) g.now) }
 {
     let rows = g.routed();
-    let mut exprs = Vec::new(alloc);
+    let mut exprs = KeysInOrder::new(alloc);
     for place in (0..rows.len()).rev() {
         add_left_out(alloc, &rows[place], region, table, &mut exprs)?;
     }
-    Ok(exprs)
+    exprs.into_vec(alloc)
 }
 
 // Puts the row's expression among those in order, if it is one of the source in the region.
@@ -70,13 +70,13 @@ fn add_routed<K: Key>(
     row: &RoutedToken<K>,
     region: Region,
     source: Zid,
-    exprs: &mut Vec<K>,
+    exprs: &mut KeysInOrder<K>,
 ) -> Result<(), Memory>
-    ensures { OnOk result (exprs.new.items
-        ≡ (if region_eq region row.now.region && zid_eq source row.now.source then with_key K.cmp row.now.expr exprs.old.items else exprs.old.items)) }
+    ensures { OnOk result (exprs.new
+        ≡ (if region_eq region row.now.region && zid_eq source row.now.source then with_key K.cmp row.now.expr exprs.old else exprs.old)) }
 {
     if region == row.region() && source == row.source() {
-        insert_in_order(alloc, exprs, row.expr())?;
+        exprs.insert(alloc, row.expr())?;
     }
     Ok(())
 }
@@ -92,11 +92,11 @@ pub(crate) fn routed_expressions<K: Key>(
         ≡ routed_expressions K.cmp g.now region source) }
 {
     let rows = g.routed();
-    let mut exprs = Vec::new(alloc);
+    let mut exprs = KeysInOrder::new(alloc);
     for place in (0..rows.len()).rev() {
         add_routed(alloc, &rows[place], region, source, &mut exprs)?;
     }
-    Ok(exprs)
+    exprs.into_vec(alloc)
 }
 
 // The place of a router among routers in order of node id, unless its node id is there.

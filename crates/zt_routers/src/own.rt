@@ -3,10 +3,11 @@ ghost use Rattle.std.specs.Prelude.{◌≡◌, ◌++◌, [], ◌∷◌, IfOk, On
 ghost use Rattle.zt_model.specs.Parts.{to_each};
 ghost use Rattle.zt_model.specs.Strategy.{is_router_hat, strategy_of};
 ghost use Rattle.zt_routers.specs.Hiding.{hidden_among, is_own_of};
+ghost use Rattle.zt_routers.specs.Shown.{IsShownAsSaid};
 ghost use Rattle.zt_model.specs.Trees.{hide_to, is_hidden, is_newly_shown, is_own_row, is_routed_row, row_at, router_regions, show_to};
 
 use crate::passing::{pass_to, unpass_to};
-use crate::tables::table_of;
+use crate::tables::{children_in, node_in};
 use std::alloc::Global;
 use zt_keys::{Key, Memory};
 use zt_protocol::Message;
@@ -50,6 +51,30 @@ fn is_hidden<K: Key>(g: &GatewayState<K>, source: Region, expr: &K, region: Regi
     is_router_region(g.mode(), region) && region != source && !is_visible(g, region, expr)
 }
 
+// Whether the region is newly shown the token, where that may be known already of the region that was
+// asked of last: faces of one region often stand together, and to find a row the gateway's rows are gone
+// through.
+fn is_shown_again<K: Key>(
+    g: &GatewayState<K>,
+    source: Region,
+    expr: &K,
+    region: Region,
+    last: &mut Option<(Region, bool)>,
+) -> bool
+    requires { IsShownAsSaid K.cmp g.now source expr.now last.old }
+    ensures answer { result ≡ is_newly_shown K.cmp g.now source expr.now region }
+    ensures last { IsShownAsSaid K.cmp g.now source expr.now last.new }
+{
+    if let Some((known, is_shown)) = *last {
+        if known == region {
+            return is_shown;
+        }
+    }
+    let is_shown = is_newly_shown(g, source, expr, region);
+    *last = Some((region, is_shown));
+    is_shown
+}
+
 // Adds what a face is told where the gateway shows the token.
 #[tactic(auto, unfolding(zt_model::specs::Trees::show_to))]
 fn show_to<K: Key>(
@@ -58,20 +83,34 @@ fn show_to<K: Key>(
     source: Region,
     expr: &K,
     f: &FaceState<K>,
+    last: &mut Option<(Region, bool)>,
     sends: &mut Vec<(u32, Message<K>)>,
 ) -> Result<(), Memory>
-    ensures { OnOk result (sends.new.items ≡ sends.old.items
+    requires { IsShownAsSaid K.cmp g.now source expr.now last.old }
+    ensures sends { OnOk result (sends.new.items ≡ sends.old.items
         ++ map (λ m. (f.now.number, m)) (show_to K.cmp g.now source expr.now f.now)) }
+    ensures last { IsShownAsSaid K.cmp g.now source expr.now last.new }
 {
-    if is_newly_shown(g, source, expr, f.region()) {
-        let table = table_of(alloc, g, f.region())?;
-        pass_to(alloc, g, &table, f.region(), g.zid(), expr, f, sends)?;
+    if is_shown_again(g, source, expr, f.region(), last) {
+        let children = children_in(g, f.region());
+        let node_id = node_in(alloc, g, f.region(), g.zid())?;
+        pass_to(
+            alloc,
+            g,
+            children,
+            node_id,
+            f.region(),
+            g.zid(),
+            expr,
+            f,
+            sends,
+        )?;
     }
     Ok(())
 }
 
-/// The gateway shows a token of the region `source` in its router regions that are newly shown it. The
-/// only error is want of memory.
+/// The gateway shows a token of the region `source` in its router regions that are newly shown it. Where
+/// it was handed no table there is nobody to tell. The only error is want of memory.
 pub fn show<K: Key>(
     alloc: Global,
     g: &GatewayState<K>,
@@ -82,8 +121,12 @@ pub fn show<K: Key>(
         ≡ to_each (show_to K.cmp g.now source expr.now) g.now.faces) }
 {
     let mut sends = Vec::new(alloc);
+    if g.trees().is_empty() {
+        return Ok(sends);
+    }
+    let mut last = None;
     for f in g.faces() {
-        show_to(alloc, g, source, expr, f, &mut sends)?;
+        show_to(alloc, g, source, expr, f, &mut last, &mut sends)?;
     }
     Ok(sends)
 }
@@ -166,14 +209,26 @@ fn hide_to<K: Key>(
         ++ map (λ m. (f.now.number, m)) (hide_to K.cmp g.now source expr.now f.now)) }
 {
     if is_hidden(g, source, expr, f.region()) {
-        let table = table_of(alloc, g, f.region())?;
-        unpass_to(alloc, g, &table, f.region(), g.zid(), expr, f, sends)?;
+        let children = children_in(g, f.region());
+        let node_id = node_in(alloc, g, f.region(), g.zid())?;
+        unpass_to(
+            alloc,
+            g,
+            children,
+            node_id,
+            f.region(),
+            g.zid(),
+            expr,
+            f,
+            sends,
+        )?;
     }
     Ok(())
 }
 
 /// The gateway hides an expression that is gone from the region `source` in its router regions that
-/// can't see it now. The only error is want of memory.
+/// can't see it now. Where it was handed no table there is nobody to tell. The only error is want of
+/// memory.
 pub fn hide<K: Key>(
     alloc: Global,
     g: &GatewayState<K>,
@@ -184,6 +239,9 @@ pub fn hide<K: Key>(
         ≡ to_each (hide_to K.cmp g.now source expr.now) g.now.faces) }
 {
     let mut sends = Vec::new(alloc);
+    if g.trees().is_empty() {
+        return Ok(sends);
+    }
     for f in g.faces() {
         hide_to(alloc, g, source, expr, f, &mut sends)?;
     }

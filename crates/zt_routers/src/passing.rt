@@ -3,14 +3,14 @@ ghost use Rattle.std.specs.Prelude.{◌≡◌, ◌&&◌, ◌++◌, IfOk, OnOk, m
 ghost use Rattle.std.specs.List.{list_any};
 ghost use Rattle.std.specs.Option.{option_copied};
 ghost use Rattle.zt_model.specs.Lists.{first_where};
-ghost use Rattle.zt_model.specs.Trees.{is_child, is_face_of_router, node_of, pass_on, pass_to, table_of, unpass, unpass_to};
-ghost use Rattle.zt_protocol.specs.Plain.{trees_of};
+ghost use Rattle.zt_model.specs.Trees.{is_face_of_router, node_of, pass_on, pass_to, table_of, unpass, unpass_to};
 ghost use Rattle.zt_region.specs.Region.{region_eq, zid_eq};
+ghost use Rattle.zt_routers.specs.Children.{is_child_by};
 
-use crate::tables::table_of;
+use crate::tables::{children_in, node_in};
 use std::alloc::Global;
 use zt_keys::{Key, Memory};
-use zt_protocol::{Message, TreeTable};
+use zt_protocol::Message;
 use zt_region::{NodeId, Region, Zid};
 use zt_state::{FaceState, GatewayState};
 
@@ -37,101 +37,82 @@ fn is_face_of_router<K: Key>(g: &GatewayState<K>, f: &FaceState<K>) -> bool
     }
 }
 
-// Whether the table says that the source's tokens go on to the router.
-fn lists_child(table: &TreeTable, source: Zid, router: Zid) -> bool
-    ensures { result
-        ≡ list_any (λ c. zid_eq source c.0 && zid_eq router c.1) (trees_of table.now).children }
+// Whether the source's tokens go on to the router, by these children.
+fn lists_child(children: &[(Zid, Zid)], source: Zid, router: Zid) -> bool
+    ensures { result ≡ list_any (λ c. zid_eq source c.0 && zid_eq router c.1) children.now }
 {
-    table
-        .children
+    children
         .iter()
         .any(|child| source == child.0 && router == child.1)
 }
 
-// Whether by this table the source's tokens go on to the face.
-#[tactic(auto, unfolding(zt_model::specs::Trees::is_child))]
+// Whether by the children of a table the source's tokens go on to the face.
 pub(crate) fn is_child<K: Key>(
     g: &GatewayState<K>,
-    table: &TreeTable,
+    children: &[(Zid, Zid)],
     source: Zid,
     f: &FaceState<K>,
 ) -> bool
-    ensures { result ≡ is_child g.now (trees_of table.now) source f.now }
+    ensures { result ≡ is_child_by g.now children.now source f.now }
 {
-    lists_child(table, source, f.zid()) && is_face_of_router(g, f)
+    lists_child(children, source, f.zid()) && is_face_of_router(g, f)
 }
 
-// The entry of a router.
-fn find_router(routers: &[(NodeId, Zid)], zid: Zid) -> Option<&(NodeId, Zid)>
-    ensures { option_copied result ≡ first_where (λ r. zid_eq zid r.1) routers.now }
-{
-    for router in routers {
-        if zid == router.1 {
-            return Some(router);
-        }
-    }
-    None
-}
-
-// The gateway's own number for a router.
-fn node_of(zid: Zid, table: &TreeTable) -> NodeId
-    ensures { result ≡ node_of zid (trees_of table.now) }
-{
-    match find_router(&table.routers, zid) {
-        None => 0,
-        Some(router) => router.0,
-    }
-}
-
-// Adds what a face is told of a token of the source, by the table of the region.
-#[tactic(auto, unfolding(zt_model::specs::Trees::pass_to))]
+// Adds what a face is told of a token of the source, by the children and
+// the node id of the region.
+#[tactic(auto, unfolding(zt_model::specs::Trees::pass_to, zt_model::specs::Trees::is_child))]
 pub(crate) fn pass_to<K: Key>(
     alloc: Global,
     g: &GatewayState<K>,
-    table: &TreeTable,
+    children: &[(Zid, Zid)],
+    node_id: NodeId,
     region: Region,
     source: Zid,
     expr: &K,
     f: &FaceState<K>,
     sends: &mut Vec<(u32, Message<K>)>,
 ) -> Result<(), Memory>
-    requires { trees_of table.now ≡ table_of g.now region }
+    requires children { children.now ≡ (table_of g.now region).children }
+    requires node { node_id ≡ node_of source (table_of g.now region) }
     ensures { OnOk result (sends.new.items ≡ sends.old.items
         ++ map (λ m. (f.now.number, m)) (pass_to K.cmp g.now region source expr.now f.now)) }
 {
-    if f.region() == region && is_child(g, table, source, f) {
+    if f.region() == region && is_child(g, children, source, f) {
         let message = Message::DeclareToken {
             id: 0,
             expr: expr.copy(alloc)?,
             interest_id: None,
-            node_id: node_of(source, table),
+            node_id,
         };
         sends.push((f.number(), message))?;
     }
     Ok(())
 }
 
-// Adds what a face is told where a token of the source is gone, by the table of the region.
-#[tactic(auto, unfolding(zt_model::specs::Trees::unpass_to))]
+// Adds what a face is told where a token of the source is gone, by the
+// children and the node id of the region.
+#[tactic(auto, unfolding(zt_model::specs::Trees::unpass_to, zt_model::specs::Trees::is_child))]
 pub(crate) fn unpass_to<K: Key>(
     alloc: Global,
     g: &GatewayState<K>,
-    table: &TreeTable,
+    children: &[(Zid, Zid)],
+    node_id: NodeId,
     region: Region,
     source: Zid,
     expr: &K,
     f: &FaceState<K>,
     sends: &mut Vec<(u32, Message<K>)>,
 ) -> Result<(), Memory>
-    requires { trees_of table.now ≡ table_of g.now region }
+    requires children { children.now ≡ (table_of g.now region).children }
+    requires node { node_id ≡ node_of source (table_of g.now region) }
     ensures { OnOk result (sends.new.items ≡ sends.old.items
         ++ map (λ m. (f.now.number, m)) (unpass_to K.cmp g.now region source expr.now f.now)) }
 {
-    if f.region() == region && is_child(g, table, source, f) {
+    if f.region() == region && is_child(g, children, source, f) {
         let message = Message::UndeclareToken {
             id: 0,
             expr: Some(expr.copy(alloc)?),
-            node_id: node_of(source, table),
+            node_id,
         };
         sends.push((f.number(), message))?;
     }
@@ -148,10 +129,13 @@ pub fn pass_on<K: Key>(
 ) -> Result<Vec<(u32, Message<K>)>, Memory>
     ensures { IfOk result (λ sends. sends.items ≡ pass_on K.cmp region source expr.now g.now) }
 {
-    let table = table_of(alloc, g, region)?;
+    let children = children_in(g, region);
+    let node_id = node_in(alloc, g, region, source)?;
     let mut sends = Vec::new(alloc);
     for f in g.faces() {
-        pass_to(alloc, g, &table, region, source, expr, f, &mut sends)?;
+        pass_to(
+            alloc, g, children, node_id, region, source, expr, f, &mut sends,
+        )?;
     }
     Ok(sends)
 }
@@ -166,10 +150,13 @@ pub fn unpass<K: Key>(
 ) -> Result<Vec<(u32, Message<K>)>, Memory>
     ensures { IfOk result (λ sends. sends.items ≡ unpass K.cmp region source expr.now g.now) }
 {
-    let table = table_of(alloc, g, region)?;
+    let children = children_in(g, region);
+    let node_id = node_in(alloc, g, region, source)?;
     let mut sends = Vec::new(alloc);
     for f in g.faces() {
-        unpass_to(alloc, g, &table, region, source, expr, f, &mut sends)?;
+        unpass_to(
+            alloc, g, children, node_id, region, source, expr, f, &mut sends,
+        )?;
     }
     Ok(sends)
 }

@@ -1,13 +1,17 @@
 // The tables of router regions.
-ghost use Rattle.std.specs.Prelude.{◌≡◌, ◌==◌, ◌&&◌, ◌++◌, ◌∷◌, [], IfOk, OnOk, if◌then◌else◌, option_map};
+ghost use Rattle.std.specs.Prelude.{◌≡◌, ◌==◌, ◌&&◌, ◌||◌, ◌++◌, ◌∷◌, [], IfNone, IfOk, IfSome, None, OnOk, if◌then◌else◌, option_map};
 ghost use Rattle.std.specs.List.{list_any};
 ghost use Rattle.std.specs.Option.{option_copied};
+ghost use Rattle.std.specs.Ordering.{is_eq, nat_cmp};
 ghost use Rattle.zt_model.specs.Lists.{first_where};
-ghost use Rattle.zt_model.specs.Trees.{counted_beside, counted_table, is_same_link, is_same_router, source_of, table_of};
+ghost use Rattle.zt_model.specs.Trees.{counted_beside, counted_table, is_same_link, is_same_router, node_of, source_of, table_of};
 ghost use Rattle.zt_protocol.specs.Plain.{trees_of};
-ghost use Rattle.zt_region.specs.Region.{region_eq};
+ghost use Rattle.zt_region.specs.Region.{region_eq, zid_cmp, zid_eq};
+ghost use Rattle.zt_routers.specs.First.{IsFirst};
+ghost use Rattle.zt_routers.specs.KeysOf.{AreKeysOf, node_key_cmp, zid_key_cmp};
 
 use std::alloc::Global;
+use std::collections::BTreeSet;
 use zt_keys::{Key, Memory};
 use zt_protocol::TreeTable;
 use zt_region::{NodeId, Region, Zid};
@@ -34,14 +38,34 @@ fn clashes_with_router(router: &(NodeId, Zid), counted: &[(NodeId, Zid)]) -> boo
     counted.iter().any(|known| is_same_router(router, known))
 }
 
-// Counts a router, unless it clashes with one that counts.
-fn count_router(router: &(NodeId, Zid), counted: &mut Vec<(NodeId, Zid)>) -> Result<(), Memory>
-    ensures { OnOk result (counted.new.items
-        ≡ (if list_any (is_same_router router.now) counted.old.items then counted.old.items else counted.old.items ++ router.now ∷ [])) }
+// Whether a router's node id or its number is among these.
+fn is_taken(router: &(NodeId, Zid), nodes: &BTreeSet<NodeId>, zids: &BTreeSet<Zid>) -> bool
+    ensures { result ≡ (list_any (λ k. is_eq (nat_cmp router.now.0 k)) nodes.now.keys
+        || list_any (λ k. is_eq (zid_cmp router.now.1 k)) zids.now.keys) }
 {
-    if !clashes_with_router(router, counted) {
-        counted.push(*router)?;
+    nodes.contains(&router.0) || zids.contains(&router.1)
+}
+
+// Counts a router, unless it clashes with one that counts: those have these node ids and numbers.
+fn count_router(
+    router: &(NodeId, Zid),
+    nodes: &mut BTreeSet<NodeId>,
+    zids: &mut BTreeSet<Zid>,
+    counted: &mut Vec<(NodeId, Zid)>,
+) -> Result<(), Memory>
+    requires nodes { AreKeysOf nat_cmp (λ x. x.0) nodes.old.keys counted.old.items }
+    requires zids { AreKeysOf zid_cmp (λ x. x.1) zids.old.keys counted.old.items }
+    ensures counted { OnOk result (counted.new.items
+        ≡ (if list_any (is_same_router router.now) counted.old.items then counted.old.items else counted.old.items ++ router.now ∷ [])) }
+    ensures nodes { OnOk result (AreKeysOf nat_cmp (λ x. x.0) nodes.new.keys counted.new.items) }
+    ensures zids { OnOk result (AreKeysOf zid_cmp (λ x. x.1) zids.new.keys counted.new.items) }
+{
+    if is_taken(router, nodes, zids) {
+        return Ok(());
     }
+    nodes.insert(router.0)?;
+    zids.insert(router.1)?;
+    counted.push(*router)?;
     Ok(())
 }
 
@@ -51,8 +75,10 @@ fn counted_routers(alloc: Global, routers: &[(NodeId, Zid)]) -> Result<Vec<(Node
         ≡ counted_beside is_same_router [] routers.now) }
 {
     let mut counted = Vec::new(alloc);
+    let mut nodes = BTreeSet::new(alloc);
+    let mut zids = BTreeSet::new(alloc);
     for router in routers {
-        count_router(router, &mut counted)?;
+        count_router(router, &mut nodes, &mut zids, &mut counted)?;
     }
     Ok(counted)
 }
@@ -64,17 +90,42 @@ fn clashes_with_link(link: &(u32, NodeId, Zid), counted: &[(u32, NodeId, Zid)]) 
     counted.iter().any(|known| is_same_link(link, known))
 }
 
-// Counts a link, unless it clashes with one that counts.
+// Whether for its face a link's node id or its router is among these.
+fn is_link_taken(
+    link: &(u32, NodeId, Zid),
+    nodes: &BTreeSet<(u32, NodeId)>,
+    zids: &BTreeSet<(u32, Zid)>,
+) -> bool
+    ensures { result
+        ≡ (list_any (λ k. is_eq (node_key_cmp (link.now.0, link.now.1) k)) nodes.now.keys
+        || list_any (λ k. is_eq (zid_key_cmp (link.now.0, link.now.2) k)) zids.now.keys) }
+{
+    nodes.contains(&(link.0, link.1)) || zids.contains(&(link.0, link.2))
+}
+
+// Counts a link, unless it clashes with one that counts: for their faces those have these node ids and
+// routers.
 fn count_link(
     link: &(u32, NodeId, Zid),
+    nodes: &mut BTreeSet<(u32, NodeId)>,
+    zids: &mut BTreeSet<(u32, Zid)>,
     counted: &mut Vec<(u32, NodeId, Zid)>,
 ) -> Result<(), Memory>
-    ensures { OnOk result (counted.new.items
+    requires nodes { AreKeysOf node_key_cmp (λ x. (x.0, x.1)) nodes.old.keys counted.old.items }
+    requires zids { AreKeysOf zid_key_cmp (λ x. (x.0, x.2)) zids.old.keys counted.old.items }
+    ensures counted { OnOk result (counted.new.items
         ≡ (if list_any (is_same_link link.now) counted.old.items then counted.old.items else counted.old.items ++ link.now ∷ [])) }
+    ensures nodes { OnOk result
+        (AreKeysOf node_key_cmp (λ x. (x.0, x.1)) nodes.new.keys counted.new.items) }
+    ensures zids { OnOk result
+        (AreKeysOf zid_key_cmp (λ x. (x.0, x.2)) zids.new.keys counted.new.items) }
 {
-    if !clashes_with_link(link, counted) {
-        counted.push(*link)?;
+    if is_link_taken(link, nodes, zids) {
+        return Ok(());
     }
+    nodes.insert((link.0, link.1))?;
+    zids.insert((link.0, link.2))?;
+    counted.push(*link)?;
     Ok(())
 }
 
@@ -87,8 +138,10 @@ fn counted_links(
         ≡ counted_beside is_same_link [] links.now) }
 {
     let mut counted = Vec::new(alloc);
+    let mut nodes = BTreeSet::new(alloc);
+    let mut zids = BTreeSet::new(alloc);
     for link in links {
-        count_link(link, &mut counted)?;
+        count_link(link, &mut nodes, &mut zids, &mut counted)?;
     }
     Ok(counted)
 }
@@ -138,17 +191,158 @@ pub fn table_of<K: Key>(
     Ok(table)
 }
 
-// The router that a link of the face means by a node id.
-fn linked(links: &[(u32, NodeId, Zid)], face: u32, node_id: NodeId) -> Option<Zid>
-    ensures { result ≡ option_map (λ l. l.2)
-        (first_where (λ l. (l.0 == face) && (l.1 == node_id)) links.now) }
+// The place of the first entry of a router.
+fn place_of_router(routers: &[(NodeId, Zid)], zid: Zid) -> Option<usize>
+    ensures found { IfSome result (λ place. IsFirst (λ r. zid_eq zid r.1) routers.now place) }
+    ensures none { IfNone result (first_where (λ r. zid_eq zid r.1) routers.now ≡ None) }
 {
-    for link in links {
-        if link.0 == face && link.1 == node_id {
-            return Some(link.2);
+    for (place, router) in routers.iter().enumerate() {
+        if zid == router.1 {
+            return Some(place);
         }
     }
     None
+}
+
+// The first of these entries that is a router's.
+fn find_router(routers: &[(NodeId, Zid)], zid: Zid) -> Option<(NodeId, Zid)>
+    ensures { result ≡ first_where (λ r. zid_eq zid r.1) routers.now }
+{
+    for router in routers {
+        if zid == router.1 {
+            return Some(*router);
+        }
+    }
+    None
+}
+
+// The entry of a router that counts. The first one does, unless one before it has its node id; only then
+// is all of it counted.
+fn counted_router(
+    alloc: Global,
+    routers: &[(NodeId, Zid)],
+    zid: Zid,
+) -> Result<Option<(NodeId, Zid)>, Memory>
+    ensures { IfOk result (λ found. found
+        ≡ first_where (λ r. zid_eq zid r.1) (counted_beside is_same_router [] routers.now)) }
+{
+    let Some(place) = place_of_router(routers, zid) else {
+        return Ok(None);
+    };
+    let router = routers[place];
+    if !clashes_with_router(&router, &routers[..place]) {
+        return Ok(Some(router));
+    }
+    let counted = counted_routers(alloc, routers)?;
+    Ok(find_router(&counted, zid))
+}
+
+// Whether a link is a face's for a node id.
+fn is_link_for(link: &(u32, NodeId, Zid), face: u32, node_id: NodeId) -> bool
+    ensures { result ≡ ((link.now.0 == face) && (link.now.1 == node_id)) }
+{
+    link.0 == face && link.1 == node_id
+}
+
+// The place of the first link of a face for a node id.
+fn place_of_link(links: &[(u32, NodeId, Zid)], face: u32, node_id: NodeId) -> Option<usize>
+    ensures found { IfSome result (λ place. IsFirst
+        (λ l. (l.0 == face) && (l.1 == node_id)) links.now place) }
+    ensures none { IfNone result
+        (first_where (λ l. (l.0 == face) && (l.1 == node_id)) links.now ≡ None) }
+{
+    for (place, link) in links.iter().enumerate() {
+        if is_link_for(link, face, node_id) {
+            return Some(place);
+        }
+    }
+    None
+}
+
+// The first of these links that is a face's for a node id.
+fn find_link(links: &[(u32, NodeId, Zid)], face: u32, node_id: NodeId) -> Option<(u32, NodeId, Zid)>
+    ensures { result ≡ first_where (λ l. (l.0 == face) && (l.1 == node_id)) links.now }
+{
+    for link in links {
+        if link.0 == face && link.1 == node_id {
+            return Some(*link);
+        }
+    }
+    None
+}
+
+// The link of a face for a node id that counts. The first one does, unless one before it is the face's
+// for the same router; only then are all of them counted.
+fn counted_link(
+    alloc: Global,
+    links: &[(u32, NodeId, Zid)],
+    face: u32,
+    node_id: NodeId,
+) -> Result<Option<(u32, NodeId, Zid)>, Memory>
+    ensures { IfOk result (λ found. found ≡ first_where
+        (λ l. (l.0 == face) && (l.1 == node_id)) (counted_beside is_same_link [] links.now)) }
+{
+    let Some(place) = place_of_link(links, face, node_id) else {
+        return Ok(None);
+    };
+    let link = links[place];
+    if !clashes_with_link(&link, &links[..place]) {
+        return Ok(Some(link));
+    }
+    let counted = counted_links(alloc, links)?;
+    Ok(find_link(&counted, face, node_id))
+}
+
+/// Where each source's tokens go on to in a region; at first nowhere.
+#[tactic(auto, unfolding(zt_model::specs::Trees::table_of, zt_model::specs::Trees::counted_table))]
+pub(crate) fn children_in<K: Key>(g: &GatewayState<K>, region: Region) -> &[(Zid, Zid)]
+    ensures { result.now ≡ (table_of g.now region).children }
+{
+    match kept_table(g.trees(), region) {
+        None => &[],
+        Some(row) => &row.1.table().children,
+    }
+}
+
+/// The gateway's own number for a router of a region; 0 where it has none. The only error is want of
+/// memory.
+#[tactic(auto, unfolding(zt_model::specs::Trees::table_of, zt_model::specs::Trees::counted_table))]
+pub(crate) fn node_in<K: Key>(
+    alloc: Global,
+    g: &GatewayState<K>,
+    region: Region,
+    zid: Zid,
+) -> Result<NodeId, Memory>
+    ensures { IfOk result (λ node. node ≡ node_of zid (table_of g.now region)) }
+{
+    let Some(row) = kept_table(g.trees(), region) else {
+        return Ok(0);
+    };
+    match counted_router(alloc, &row.1.table().routers, zid)? {
+        None => Ok(0),
+        Some(router) => Ok(router.0),
+    }
+}
+
+// The router that a face of a region means by a node id.
+#[tactic(auto, unfolding(zt_model::specs::Trees::table_of, zt_model::specs::Trees::counted_table))]
+fn linked<K: Key>(
+    alloc: Global,
+    g: &GatewayState<K>,
+    region: Region,
+    face: u32,
+    node_id: NodeId,
+) -> Result<Option<Zid>, Memory>
+    ensures { IfOk result (λ source. source ≡ option_map (λ l. l.2)
+        (first_where (λ l. (l.0 == face) && (l.1 == node_id)) (table_of g.now region).links)) }
+{
+    let Some(row) = kept_table(g.trees(), region) else {
+        return Ok(None);
+    };
+    match counted_link(alloc, &row.1.table().links, face, node_id)? {
+        None => Ok(None),
+        Some(link) => Ok(Some(link.2)),
+    }
 }
 
 /// The router that a face means by a node id, where that isn't the gateway itself. The only error is
@@ -162,6 +356,6 @@ pub fn source_of<K: Key>(
 ) -> Result<Option<Zid>, Memory>
     ensures { IfOk result (λ source. source ≡ source_of g.now f.now node_id) }
 {
-    let table = table_of(alloc, g, f.region())?;
-    Ok(linked(&table.links, f.number(), node_id).filter(|zid| *zid != g.zid()))
+    let zid = linked(alloc, g, f.region(), f.number(), node_id)?;
+    Ok(zid.filter(|zid| *zid != g.zid()))
 }

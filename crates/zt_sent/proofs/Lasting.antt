@@ -13,7 +13,7 @@ use Rattle.zt_region.specs.Region.{whatami_eq}
 use Rattle.zt_region.specs.Tables.{RegionAnswer}
 use Rattle.zt_protocol.specs.Plain.{PlainCall, NewSession, NewTransport, DeclareToken, UndeclareToken, Interest, InterestFinal, DeclareFinal, CloseFace, Expire, SetTrees, SetEntities, PlainLine, Link as LinkLine}
 use Rattle.zt_protocol.specs.declared.entries.Sent.{Sent}
-use Rattle.zt_model.specs.Fabric.{CallAt, Fabric, Node, Place, after_hearing, after_opening, at_nth, both_ends, built_causes, call_at, closed_ends, entries_from, entry_of, fabric_after, next_face, opened_at, opened_ends, opening_at, said_at, said_closing, said_opening, sorted_by_face, with_place}
+use Rattle.zt_model.specs.Fabric.{CallAt, Fabric, Node, Place, after_hearing, after_opening, at_nth, both_ends, line_causes, call_at, closed_ends, entries_from, entry_of, fabric_after, next_face, opened_at, opened_ends, opening_at, said_at, said_closing, said_opening, sorted_by_face, with_place}
 use Rattle.zt_model.specs.Hearing.{rows_heard}
 use Rattle.zt_model.specs.Linking.{LinkEnd, end_region, is_answer, is_end, is_refused_end, link_ends}
 use Rattle.zt_model.specs.Lists.{nth}
@@ -175,8 +175,8 @@ module _ {K : Type 0} (cmp : K → K → Ordering) (matching : K → K → Bool)
                 let is : node.rows.mode ≡ x.rows.mode = cc in
                 is ∙ fits_.mode x there
 
-    ends_fit : (spent : Bool) (one two first back : ℕ) (s : Fabric K) → first_cause (built_causes cmp matching spent (LinkLine one two first back) s) ≡ None → Each (EndFits s) (link_ends s one two first back)
-    unfolding built_causes
+    ends_fit : (spent : Bool) (one two first back : ℕ) (s : Fabric K) → first_cause (line_causes cmp matching spent (LinkLine one two first back) s) ≡ None → Each (EndFits s) (link_ends s one two first back)
+    unfolding line_causes
     ends_fit spent one two first back s accepted = cases (nth one s.gateways) refl (nth two s.gateways) refl (or_none (list_any is_refused_end ends) (list_any (is_end unfit) ends) conflict).1
       where
         ends : List (LinkEnd K)
@@ -275,10 +275,10 @@ module _ {K : Type 0} (cmp : K → K → Ordering) (matching : K → K → Bool)
     upstream_shown g up = record { rises = up.rises; rows = up.rows; below = up.below; locals = up.locals; routed = up.routed }
 
     -- each line leaves it so
-    holds_after : (is_built : PlainLine K → Bool) (line : PlainLine K) (s : Fabric K) → HasFirstIds line → FabricIsInOrder cmp matching s → Holds s → Holds (fabric_after cmp matching line (entry_of cmp matching is_built line s) s)
-    holds_after is_built line s real fine holds =
-        let t = turn_is_shown cmp matching total Holds Comes upstream_of_calls is_built line s real fine holds in
-        let A = fabric_after cmp matching line (entry_of cmp matching is_built line s) s in
+    holds_after : (line : PlainLine K) (s : Fabric K) → HasFirstIds line → FabricIsInOrder cmp matching s → Holds s → Holds (fabric_after cmp matching line (entry_of cmp matching line s) s)
+    holds_after line s real fine holds =
+        let t = turn_is_shown cmp matching total Holds Comes upstream_of_calls line s real fine holds in
+        let A = fabric_after cmp matching line (entry_of cmp matching line s) s in
         each_weaker (λ (x : Node K). Q (without_own x.rows)) (λ (x : Node K). Q x.rows) (λ x up. shown_upstream x.rows up) A.gateways
         (each_of_map (λ (x : Node K). Q x.rows) node_shown A.gateways
         (subst Gateways (sym t.after_gateways) (each_map (λ (x : Node K). Q x.rows) node_shown _ (each_weaker (λ (x : Node K). Q x.rows) (λ (x : Node K). Q (without_own x.rows)) (λ x up. upstream_shown x.rows up) _ t.comes))))
@@ -299,7 +299,7 @@ module _ {K : Type 0} (cmp : K → K → Ordering) (matching : K → K → Bool)
             (each_weaker (λ f. nobody f.number ≡ false → is_sent_all cmp matching x.rows.mode f ≡ true → (i : InterestRow K) → local_any cmp matching f i ≡ is_held_south cmp matching (without_own x.rows) i) (λ f. is_sent_all cmp matching x.rows.mode f ≡ true → (i : InterestRow K) → local_any cmp matching f i ≡ is_held_south cmp matching (without_own x.rows) i) (λ f own. own refl) x.rows.faces up.locals, each_shown (i + 1) gs all.1)
 
     -- After each turn of a transcript nothing is sent upstream but what is held.
-    pub turns_end : (is_built : PlainLine K → Bool) (lines : List (PlainLine K)) (s : Fabric K) → Each HasFirstIds lines → FabricIsInOrder cmp matching s → Holds s
-        → Each (EndsUpstream cmp matching) (turns_from cmp matching lines (entries_from cmp matching is_built lines s) (as_shown s))
-    turns_end is_built lines s real fine holds =
-        turns_show cmp matching total Holds Comes upstream_of_calls (EndsUpstream cmp matching) ends_shown is_built (holds_after is_built) lines s real fine holds
+    pub turns_end : (lines : List (PlainLine K)) (s : Fabric K) → Each HasFirstIds lines → FabricIsInOrder cmp matching s → Holds s
+        → Each (EndsUpstream cmp matching) (turns_from cmp matching lines (entries_from cmp matching lines s) (as_shown s))
+    turns_end lines s real fine holds =
+        turns_show cmp matching total Holds Comes upstream_of_calls (EndsUpstream cmp matching) ends_shown (holds_after) lines s real fine holds

@@ -626,7 +626,7 @@ module _ {K : Type 0} (cmp : K → K → Ordering) (matching : K → K → Bool)
         faces_shown (Due (calls_in cmp matching t)) (Due (calls_in cmp matching t)) (λ j g f xs due. due) is.changed.faces t.after.faces (printed t) (after_hearing cmp (printed t) is.changed).gateways t.after.gateways is.after_places is.after_gateways is.comes
 
     -- Each turn of a transcript sends upstream what is due.
-    pub turns_send : (is_built : PlainLine K → Bool) (lines : List (PlainLine K)) (s : Fabric K) → Each HasFirstIds lines → FabricIsInOrder cmp matching s
-        → Each (SendsUpstream cmp matching) (turns_from cmp matching lines (entries_from cmp matching is_built lines s) (as_shown s))
-    turns_send is_built lines s real fine =
-        turns_show cmp matching total (λ s. Unit {0}) Comes upstream_of_calls (SendsUpstream cmp matching) upstream_shown is_built (λ line x first ordered _. tt) lines s real fine tt
+    pub turns_send : (lines : List (PlainLine K)) (s : Fabric K) → Each HasFirstIds lines → FabricIsInOrder cmp matching s
+        → Each (SendsUpstream cmp matching) (turns_from cmp matching lines (entries_from cmp matching lines s) (as_shown s))
+    turns_send lines s real fine =
+        turns_show cmp matching total (λ s. Unit {0}) Comes upstream_of_calls (SendsUpstream cmp matching) upstream_shown (λ line x first ordered _. tt) lines s real fine tt

@@ -69,8 +69,10 @@ impl<K: Key> Journaled<K> {
         call: Call<K>,
         refusal: Refusal,
     ) -> Result<Receipt, Memory>
-        requires { cause_of K.cmp K.matching (plain_call call) self.old.gateway.rows ≡ Some refusal }
-        ensures done { OnOk result (self.new ≡ entered K.cmp K.matching pass (plain_call call) self.old) }
+        requires { cause_of K.cmp K.matching (plain_call call) self.old.gateway.rows
+            ≡ Some refusal }
+        ensures done { OnOk result
+            (self.new ≡ entered K.cmp K.matching pass (plain_call call) self.old) }
         ensures place { IfOk result (λ receipt. receipt.place ≡ length self.old.entries) }
         ensures answer { IfOk result (λ receipt. receipt.answer
             ≡ answer_of K.cmp K.matching (plain_call call) self.old.gateway.rows) }
@@ -96,11 +98,14 @@ impl<K: Key> Journaled<K> {
         call: Call<K>,
         prepared: Prepared<K>,
     ) -> Result<Receipt, Memory>
-        requires accepted { cause_of K.cmp K.matching (plain_call call) self.old.gateway.rows ≡ None }
+        requires accepted { cause_of K.cmp K.matching (plain_call call) self.old.gateway.rows
+            ≡ None }
         requires planned { prepared ≡ planned K.cmp K.matching (plain_call call) self.old.gateway }
         requires outcome { outcome_of K.cmp K.matching (plain_call call) self.old.gateway.rows
-            ≡ Ok (map sent_alone (by_face (said K.cmp K.matching (plain_call call) self.old.gateway.rows))) }
-        ensures done { OnOk result (self.new ≡ entered K.cmp K.matching pass (plain_call call) self.old) }
+            ≡ Ok (map sent_alone
+            (by_face (said K.cmp K.matching (plain_call call) self.old.gateway.rows))) }
+        ensures done { OnOk result
+            (self.new ≡ entered K.cmp K.matching pass (plain_call call) self.old) }
         ensures place { IfOk result (λ receipt. receipt.place ≡ length self.old.entries) }
         ensures answer { IfOk result (λ receipt. receipt.answer
             ≡ answer_of K.cmp K.matching (plain_call call) self.old.gateway.rows) }
@@ -109,7 +114,7 @@ impl<K: Key> Journaled<K> {
         let sent = sent_by(self.alloc, &prepared)?;
         self.entries.reserve(1)?;
         let place = self.entries.len() as u64;
-        let made = self.gateway.commit(prepared);
+        let made = self.gateway.commit_call(prepared, &call);
         self.gateway.clear_outbox();
         let entry = JournalEntry {
             pass,
@@ -129,7 +134,8 @@ impl<K: Key> Journaled<K> {
     /// want of memory: then the gateway and the journal are as before, and the call is dropped.
     pub fn enter(&mut self, pass: u32, call: Call<K>) -> Result<Receipt, Memory>
         requires { CallHasFirstIds (plain_call call) }
-        ensures done { OnOk result (self.new ≡ entered K.cmp K.matching pass (plain_call call) self.old) }
+        ensures done { OnOk result
+            (self.new ≡ entered K.cmp K.matching pass (plain_call call) self.old) }
         ensures place { IfOk result (λ receipt. receipt.place ≡ length self.old.entries) }
         ensures answer { IfOk result (λ receipt. receipt.answer
             ≡ answer_of K.cmp K.matching (plain_call call) self.old.gateway.rows) }
@@ -145,7 +151,8 @@ impl<K: Key> Journaled<K> {
     /// An equal copy of the entry at the place. None exactly where the journal is no longer than that. The
     /// only error is want of memory.
     pub fn entry(&self, alloc: Global, place: u64) -> Result<Option<JournalEntry<K>>, Memory>
-        ensures found { IfOk result (λ found. option_map journalled found ≡ slice_get self.now.entries place) }
+        ensures found { IfOk result
+            (λ found. option_map journalled found ≡ slice_get self.now.entries place) }
         ensures kept { IsRecord K.cmp K.matching self.now }
     {
         match self.entries.get(place as usize) {

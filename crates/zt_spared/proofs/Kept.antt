@@ -493,7 +493,7 @@ module _ {K : Type 0} (cmp : K → K → Ordering) (matching : K → K → Bool)
         kept k (message.DeclareQueryable number e info id) one = tt
 
     -- Each turn of a transcript undeclares by id what was kept.
-    pub turns_undeclare_kept : (is_built : PlainLine K → Bool) (lines : List (PlainLine K)) (s : Fabric K) → Each HasFirstIds lines → FabricIsInOrder cmp matching s
-        → Each (UndeclaresWhatWasKept cmp matching) (turns_from cmp matching lines (entries_from cmp matching is_built lines s) (as_shown s))
-    turns_undeclare_kept is_built lines s real fine =
-        turns_show cmp matching total (λ s. Unit {0}) Comes kept_of_calls (UndeclaresWhatWasKept cmp matching) kept_shown is_built (λ line x first ordered _. tt) lines s real fine tt
+    pub turns_undeclare_kept : (lines : List (PlainLine K)) (s : Fabric K) → Each HasFirstIds lines → FabricIsInOrder cmp matching s
+        → Each (UndeclaresWhatWasKept cmp matching) (turns_from cmp matching lines (entries_from cmp matching lines s) (as_shown s))
+    turns_undeclare_kept lines s real fine =
+        turns_show cmp matching total (λ s. Unit {0}) Comes kept_of_calls (UndeclaresWhatWasKept cmp matching) kept_shown (λ line x first ordered _. tt) lines s real fine tt

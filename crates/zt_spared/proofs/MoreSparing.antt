@@ -283,7 +283,7 @@ module _ {K : Type 0} (cmp : K → K → Ordering) (matching : K → K → Bool)
           spares k (message.DeclareQueryable id e info interest) o found asked_ told = tt
 
       -- Each turn of a transcript is more sparing.
-      pub turns_spare_more : (is_built : PlainLine K → Bool) (lines : List (PlainLine K)) (s : Fabric K) → Each HasFirstIds lines → FabricIsInOrder cmp matching s
-          → Each (IsMoreSparing cmp matching) (turns_from cmp matching lines (entries_from cmp matching is_built lines s) (as_shown s))
-      turns_spare_more is_built lines s real fine =
-          turns_show cmp matching total (λ s. Unit {0}) Comes sparing_of_calls (IsMoreSparing cmp matching) more_shown is_built (λ line x first ordered _. tt) lines s real fine tt
+      pub turns_spare_more : (lines : List (PlainLine K)) (s : Fabric K) → Each HasFirstIds lines → FabricIsInOrder cmp matching s
+          → Each (IsMoreSparing cmp matching) (turns_from cmp matching lines (entries_from cmp matching lines s) (as_shown s))
+      turns_spare_more lines s real fine =
+          turns_show cmp matching total (λ s. Unit {0}) Comes sparing_of_calls (IsMoreSparing cmp matching) more_shown (λ line x first ordered _. tt) lines s real fine tt

@@ -265,7 +265,7 @@ module _ {K : Type 0} (cmp : K → K → Ordering) (matching : K → K → Bool)
         spares k (message.DeclareQueryable id e info interest) o found judged = tt
 
     -- Each turn of a transcript is sparing.
-    pub turns_spare : (is_built : PlainLine K → Bool) (lines : List (PlainLine K)) (s : Fabric K) → Each HasFirstIds lines → FabricIsInOrder cmp matching s
-        → Each (IsSparing cmp matching) (turns_from cmp matching lines (entries_from cmp matching is_built lines s) (as_shown s))
-    turns_spare is_built lines s real fine =
-        turns_show cmp matching total (λ s. Unit {0}) Comes spared_of_calls (IsSparing cmp matching) spares_in is_built (λ line x first ordered _. tt) lines s real fine tt
+    pub turns_spare : (lines : List (PlainLine K)) (s : Fabric K) → Each HasFirstIds lines → FabricIsInOrder cmp matching s
+        → Each (IsSparing cmp matching) (turns_from cmp matching lines (entries_from cmp matching lines s) (as_shown s))
+    turns_spare lines s real fine =
+        turns_show cmp matching total (λ s. Unit {0}) Comes spared_of_calls (IsSparing cmp matching) spares_in (λ line x first ordered _. tt) lines s real fine tt

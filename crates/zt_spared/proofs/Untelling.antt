@@ -113,7 +113,7 @@ module _ {K : Type 0} (cmp : K → K → Ordering) (matching : K → K → Bool)
         (λ j g f xs all. each_weaker (GoneFor cmp matching g f.region) (GoneFor cmp matching (without_own g) f.region) (λ m one. gone_shown g f.region m one) xs all) 1 Z.gateways is.comes))
 
     -- Each turn of a transcript tells of what is gone.
-    pub turns_untell : (is_built : PlainLine K → Bool) (lines : List (PlainLine K)) (s : Fabric K) → Each HasFirstIds lines → FabricIsInOrder cmp matching s
-        → Each (UndeclaresWhatIsGone cmp matching) (turns_from cmp matching lines (entries_from cmp matching is_built lines s) (as_shown s))
-    turns_untell is_built lines s real fine =
-        turns_show cmp matching total (λ s. Unit {0}) Comes gone_of_calls (UndeclaresWhatIsGone cmp matching) gone_shows is_built (λ line x first ordered _. tt) lines s real fine tt
+    pub turns_untell : (lines : List (PlainLine K)) (s : Fabric K) → Each HasFirstIds lines → FabricIsInOrder cmp matching s
+        → Each (UndeclaresWhatIsGone cmp matching) (turns_from cmp matching lines (entries_from cmp matching lines s) (as_shown s))
+    turns_untell lines s real fine =
+        turns_show cmp matching total (λ s. Unit {0}) Comes gone_of_calls (UndeclaresWhatIsGone cmp matching) gone_shows (λ line x first ordered _. tt) lines s real fine tt

@@ -6,5 +6,6 @@ pub mod OwnRows
 mod Regions
 mod Recounted
 mod Rising
+pub mod Sought
 pub mod Walks
 mod Uncounting

@@ -20,7 +20,7 @@ use Rattle.zt_indexes.specs.Rows.{is_row_at}
 use Rattle.zt_model.specs.Lists.{at_id, first_where, without_id}
 use Rattle.zt_model.specs.Rows.{ById, Face, RoutedRow}
 use Rattle.zt_model.specs.Visible.{rows_of_face}
-use Rattle.zt_state.specs.Indexed.{HasLiveInOrder, KeepsLive, routed_live}
+use Rattle.zt_state.specs.Indexed.{HasLiveInOrder, KeepsDeclared, routed_live}
 use Rattle.zt_state.specs.Rising.{IsRising}
 use Rattle.zt_state.proofs.Rising.{none-above, none-changed, none-dropped}
 
@@ -143,11 +143,11 @@ module _ {K : Type 0} where
       by_number true = kept f h.0
       by_number false = h.0
 
-  rows-kept : (f g : Face K) → KeepsLive f g → rows_of_face g ≡ rows_of_face f
+  rows-kept : (f g : Face K) → KeepsDeclared f g → rows_of_face g ≡ rows_of_face f
   rows-kept f g kept = λ i. map (λ row. (kept.region i, row.1)) (kept.live i)
 
   -- a change that keeps what a face declares
-  pub quiet-rows : (n : ℕ) (change : Face K → Face K) → ((f : Face K) → KeepsLive f (change f)) → (fs : List (Face K)) → flat_map rows_of_face (map (λ f. if n == f.number then change f else f) fs) ≡ flat_map rows_of_face fs
+  pub quiet-rows : (n : ℕ) (change : Face K → Face K) → ((f : Face K) → KeepsDeclared f (change f)) → (fs : List (Face K)) → flat_map rows_of_face (map (λ f. if n == f.number then change f else f) fs) ≡ flat_map rows_of_face fs
   quiet-rows n change kept [] = refl
   quiet-rows n change kept (f ∷ fs) = ap₂ (λ (a b : List (Region × K)). a ++ b) (by_number (n == f.number)) (quiet-rows n change kept fs)
     where
@@ -155,7 +155,7 @@ module _ {K : Type 0} where
       by_number true = rows-kept f (change f) (kept f)
       by_number false = refl
 
-  pub quiet-order : (change : Face K → Face K) → ((f : Face K) → KeepsLive f (change f)) → (f : Face K) → HasLiveInOrder f → HasLiveInOrder (change f)
+  pub quiet-order : (change : Face K → Face K) → ((f : Face K) → KeepsDeclared f (change f)) → (f : Face K) → HasLiveInOrder f → HasLiveInOrder (change f)
   quiet-order change kept f h = subst (λ (rows : ById K). is_sorted nat_cmp rows ≡ true) (sym ((kept f).live)) h
 
   abbrev pub others : ℕ → List (Face K) → List (Face K)

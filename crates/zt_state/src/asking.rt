@@ -1,14 +1,17 @@
-// What faces ask for.
-ghost use Rattle.std.specs.Prelude.{◌≡◌, OnOk};
+// What faces ask for and hold.
+ghost use Rattle.std.specs.Prelude.{◌≡◌, ◌==◌, if◌then◌else◌, map, OnOk};
 ghost use Rattle.zt_model.specs.Parts.{with_face};
-ghost use Rattle.zt_model.specs.Routing.{asked_as};
+ghost use Rattle.zt_model.specs.Routing.{asked_as, unheld};
+ghost use Rattle.zt_seekers.specs.Seekers.{AreSeekers};
 
+use crate::by_number::Faces;
 use crate::gateway::GatewayState;
-use crate::walk::{FaceAddition, QuietAddition};
+use crate::walk::{FaceAddition, FaceChange, empty};
 use std::alloc::Global;
 use zt_face::{FaceState, RemoteInterest};
 use zt_keys::{Key, Memory};
 use zt_protocol::InterestId;
+use zt_seekers::Seekers;
 
 // An interest of a face, which was sent upstream as these.
 #[derive(Drop)]
@@ -31,10 +34,61 @@ impl<'a, K: Key> FaceAddition<K> for Asks<'a, K> {
     }
 }
 
-impl<'a, K: Key> QuietAddition<K> for Asks<'a, K> {
-    ghost use Rattle.std.specs.Prelude.{refl};
+// An interest that a face holds no more.
+#[derive(Drop)]
+struct Unhold(InterestId);
 
-    ghost keeps_live = { λ _ _. record { number = refl; region = refl; live = refl } };
+impl<K: Key> FaceChange<K> for Unhold {
+    ghost use Rattle.std.specs.Prelude.{refl};
+    ghost use Rattle.zt_model.specs.Routing.{unheld};
+
+    ghost changed = { λ c. unheld c.0 };
+
+    ghost keeps_number = { λ _ _. refl };
+
+    fn change(&self, f: &mut FaceState<K>) {
+        f.unhold(self.0);
+    }
+}
+
+// The face of the number asks. The only error is want of memory.
+fn ask_in<K: Key>(
+    alloc: Global,
+    faces: &mut Faces<K>,
+    seekers: &mut Seekers<K>,
+    face: u32,
+    id: InterestId,
+    interest: &RemoteInterest<K>,
+    pendings: &[(u32, u32)],
+) -> Result<(), Memory>
+    requires { AreSeekers K.anchored seekers.old faces.old }
+    ensures faces { OnOk result (faces.new ≡ map (λ f. if face == f.number
+        then asked_as pendings.now id interest.now f else f) faces.old) }
+    ensures seekers { OnOk result (AreSeekers K.anchored seekers.new faces.new) }
+{
+    let Some(f) = faces.find(face) else {
+        return Ok(());
+    };
+    seekers.hold(alloc, f, id, interest)?;
+    let asks = Asks {
+        id,
+        interest,
+        pendings,
+    };
+    faces.add(alloc, face, &asks)
+}
+
+// The face of the number holds an interest no more.
+fn unhold_in<K: Key>(faces: &mut Faces<K>, seekers: &mut Seekers<K>, face: u32, id: InterestId)
+    requires { AreSeekers K.anchored seekers.old faces.old }
+    ensures faces { faces.new ≡ map (λ f. if face == f.number then unheld id f else f) faces.old }
+    ensures seekers { AreSeekers K.anchored seekers.new faces.new }
+{
+    let Some(f) = faces.find(face) else {
+        return;
+    };
+    seekers.unhold(f, id);
+    faces.change(face, &Unhold(id));
 }
 
 #[tactic(auto, unfolding(zt_model::specs::Parts::with_face))]
@@ -53,11 +107,33 @@ impl<K: Key> GatewayState<K> {
         ensures { OnOk result (self.new
             ≡ with_face face (asked_as pendings.now id interest.now) self.old) }
     {
-        let asks = Asks {
+        match ask_in(
+            alloc,
+            &mut self.faces,
+            &mut self.seekers,
+            face,
             id,
             interest,
             pendings,
-        };
-        self.add_to_face(alloc, face, &asks)
+        ) {
+            Ok(()) => Ok(()),
+            Err(error) => {
+                empty(
+                    alloc,
+                    &mut self.faces,
+                    &mut self.routed,
+                    &mut self.live,
+                    &mut self.seekers,
+                );
+                Err(error)
+            }
+        }
+    }
+
+    /// The face holds the interest of the id no more.
+    pub fn unhold(&mut self, face: u32, id: InterestId)
+        ensures { self.new ≡ with_face face (unheld id) self.old }
+    {
+        unhold_in(&mut self.faces, &mut self.seekers, face, id);
     }
 }

@@ -46,6 +46,7 @@ impl<K: Key> GatewayState<K> {
             dictionary: copy_keys(alloc, self.dictionary.as_slice())?,
             faces: self.faces.copy(alloc)?,
             live: self.live.copy(alloc)?,
+            seekers: self.seekers.copy(alloc)?,
         })
     }
 }

@@ -1,36 +1,14 @@
-// What changes at one face without memory, but for what it declares.
+// What changes at one face without memory, but for what it declares and holds.
 ghost use Rattle.std.specs.Prelude.{◌≡◌};
 ghost use Rattle.zt_model.specs.Closing.{without_asks};
 ghost use Rattle.zt_model.specs.Parts.{with_face};
-ghost use Rattle.zt_model.specs.Routing.{ended, initial_finalised, unheld};
+ghost use Rattle.zt_model.specs.Routing.{ended, initial_finalised};
 
 use crate::gateway::GatewayState;
 use crate::walk::{FaceChange, QuietChange};
 use zt_face::FaceState;
 use zt_keys::Key;
 use zt_protocol::InterestId;
-
-#[derive(Drop)]
-struct Unhold(InterestId);
-
-impl<K: Key> FaceChange<K> for Unhold {
-    ghost use Rattle.std.specs.Prelude.{refl};
-    ghost use Rattle.zt_model.specs.Routing.{unheld};
-
-    ghost changed = { λ c. unheld c.0 };
-
-    ghost keeps_number = { λ _ _. refl };
-
-    fn change(&self, f: &mut FaceState<K>) {
-        f.unhold(self.0);
-    }
-}
-
-impl<K: Key> QuietChange<K> for Unhold {
-    ghost use Rattle.std.specs.Prelude.{refl};
-
-    ghost keeps_live = { λ _ _. record { number = refl; region = refl; live = refl } };
-}
 
 #[derive(Drop)]
 struct EndPending(InterestId);
@@ -51,7 +29,7 @@ impl<K: Key> FaceChange<K> for EndPending {
 impl<K: Key> QuietChange<K> for EndPending {
     ghost use Rattle.std.specs.Prelude.{refl};
 
-    ghost keeps_live = { λ _ _. record { number = refl; region = refl; live = refl } };
+    ghost keeps_live = { λ _ _. record { number = refl; region = refl; live = refl; held = refl } };
 }
 
 #[derive(Drop)]
@@ -73,7 +51,7 @@ impl<K: Key> FaceChange<K> for FinaliseInitial {
 impl<K: Key> QuietChange<K> for FinaliseInitial {
     ghost use Rattle.std.specs.Prelude.{refl};
 
-    ghost keeps_live = { λ _ _. record { number = refl; region = refl; live = refl } };
+    ghost keeps_live = { λ _ _. record { number = refl; region = refl; live = refl; held = refl } };
 }
 
 #[derive(Drop)]
@@ -95,18 +73,11 @@ impl<K: Key> FaceChange<K> for DropAsks {
 impl<K: Key> QuietChange<K> for DropAsks {
     ghost use Rattle.std.specs.Prelude.{refl};
 
-    ghost keeps_live = { λ _ _. record { number = refl; region = refl; live = refl } };
+    ghost keeps_live = { λ _ _. record { number = refl; region = refl; live = refl; held = refl } };
 }
 
 #[tactic(auto, unfolding(zt_model::specs::Parts::with_face))]
 impl<K: Key> GatewayState<K> {
-    /// The face holds the interest of the id no more.
-    pub fn unhold(&mut self, face: u32, id: InterestId)
-        ensures { self.new ≡ with_face face (unheld id) self.old }
-    {
-        self.change_face(face, &Unhold(id));
-    }
-
     /// The interest that the face was sent under the id is finished.
     pub fn end_pending(&mut self, face: u32, id: InterestId)
         ensures { self.new ≡ with_face face (ended id) self.old }

@@ -1,11 +1,14 @@
 // A gateway with its faces.
-ghost use Rattle.std.specs.Prelude.{◌≡◌, [], IfOk};
+ghost use Rattle.std.specs.Prelude.{◌≡◌, [], filter, map, IfOk, IfSome};
 ghost use Rattle.std.specs.Option.{option_copied};
 ghost use Rattle.zt_model.specs.Fabric.{new_rows};
 ghost use Rattle.zt_model.specs.Parts.{find_face};
 ghost use Rattle.zt_model.specs.Visible.{live_rows};
+ghost use Rattle.zt_model.specs.Wants.{seeks};
 ghost use Rattle.zt_indexes.specs.Rows.{AreCountsOf};
+ghost use Rattle.zt_region.specs.Region.{is_north};
 ghost use Rattle.zt_protocol.specs.Plain.{trees_of};
+ghost use Rattle.zt_state.specs.Rising.{IsRising};
 
 use crate::by_number::Faces;
 use std::alloc::Global;
@@ -15,6 +18,7 @@ use zt_indexes::LiveCounts;
 use zt_keys::{Key, Memory};
 use zt_protocol::TreeTable;
 use zt_region::{Admission, Region, WhatAmI, Zid};
+use zt_seekers::Seekers;
 
 /// A token of a router region, under the router that it comes from; the gateway's own rows stand under
 /// its own number.
@@ -134,6 +138,7 @@ pub struct GatewayState<K: Key> {
     pub(crate) dictionary: Vec<K>,
     pub(crate) faces: Faces<K>,
     pub(crate) live: LiveCounts<K>,
+    pub(crate) seekers: Seekers<K>,
 }
 
 impl<K: Key> Model for GatewayState<K> {
@@ -156,7 +161,7 @@ impl<K: Key> Model for GatewayState<K> {
       faces = g.faces;
     } };
 
-    ghost invariant = { λ g. IsIndexed K.cmp g.zid g.made g.routed.items g.faces g.live };
+    ghost invariant = { λ g. IsIndexed K.cmp K.anchored g.zid g.made g.routed.items g.faces g.live g.seekers };
 }
 
 impl<K: Key> GatewayState<K> {
@@ -184,6 +189,7 @@ impl<K: Key> GatewayState<K> {
             dictionary: Vec::new(alloc),
             faces: Faces::new(alloc),
             live: LiveCounts::new(alloc),
+            seekers: Seekers::new(alloc),
         }
     }
 
@@ -262,6 +268,25 @@ impl<K: Key> GatewayState<K> {
         ensures { AreCountsOf K.cmp result.now (live_rows self.now) }
     {
         &self.live
+    }
+
+    /// The numbers of the faces to the north, in order.
+    pub fn north(&self) -> &[u32]
+        ensures rising { IsRising (λ f. f.number) self.now.faces }
+        ensures north { result.now ≡ map (λ f. f.number) (filter (λ f. is_north f.region) self.now.faces) }
+    {
+        self.seekers.north()
+    }
+
+    /// The numbers of the faces that may be told of the expression, in order: those to the north, and
+    /// those that hold an interest in its tokens. A look-up. `None` where the expression can't be looked
+    /// up, as a key expression with wild ends. The only error is want of memory.
+    pub fn find_seekers(&self, alloc: Global, expr: &K) -> Result<Option<Vec<u32>>, Memory>
+        ensures rising { IsRising (λ f. f.number) self.now.faces }
+        ensures found { IfOk result (λ found. IfSome found (λ numbers. numbers.items
+            ≡ map (λ f. f.number) (filter (λ f. seeks K.matching f expr.now) self.now.faces))) }
+    {
+        self.seekers.find(alloc, expr)
     }
 
     /// The open face of this number. A search by halves.

@@ -10,6 +10,7 @@ ghost use Rattle.zt_model.specs.Lists.{at_id};
 ghost use Rattle.zt_model.specs.Parts.{with_face};
 ghost use Rattle.zt_model.specs.Telling.{registered, unregistered};
 ghost use Rattle.zt_model.specs.Visible.{rows_of_face};
+ghost use Rattle.zt_seekers.specs.Seekers.{AreSeekers};
 ghost use Rattle.zt_state.specs.Indexed.{HasLiveInOrder};
 
 use crate::by_number::Faces;
@@ -20,6 +21,7 @@ use zt_face::FaceState;
 use zt_indexes::LiveCounts;
 use zt_keys::{Key, Memory};
 use zt_protocol::TokenId;
+use zt_seekers::Seekers;
 
 // A token that a face declares.
 #[derive(Drop)]
@@ -133,15 +135,23 @@ fn unregister_in<K: Key>(faces: &mut Faces<K>, live: &mut LiveCounts<K>, face: u
 }
 
 // The face of the number goes, with what it declares.
-fn close_in<K: Key>(faces: &mut Faces<K>, live: &mut LiveCounts<K>, face: u32)
+fn close_in<K: Key>(
+    faces: &mut Faces<K>,
+    live: &mut LiveCounts<K>,
+    seekers: &mut Seekers<K>,
+    face: u32,
+)
+    requires { AreSeekers K.anchored seekers.old faces.old }
     ensures faces { faces.new ≡ filter (λ f. not (face == f.number)) faces.old }
     ensures counts { Recounts K.cmp (flat_map rows_of_face faces.old)
         (flat_map rows_of_face faces.new) live.old live.new }
+    ensures seekers { AreSeekers K.anchored seekers.new faces.new }
 {
     let Some(f) = faces.find(face) else {
         return;
     };
     uncount_all(live, f);
+    seekers.close(f);
     faces.remove(face);
 }
 
@@ -160,7 +170,13 @@ impl<K: Key> GatewayState<K> {
         match register_in(alloc, &mut self.faces, &mut self.live, face, id, expr) {
             Ok(()) => Ok(()),
             Err(error) => {
-                empty(alloc, &mut self.faces, &mut self.routed, &mut self.live);
+                empty(
+                    alloc,
+                    &mut self.faces,
+                    &mut self.routed,
+                    &mut self.live,
+                    &mut self.seekers,
+                );
                 Err(error)
             }
         }
@@ -177,6 +193,6 @@ impl<K: Key> GatewayState<K> {
     pub fn close(&mut self, face: u32)
         ensures { self.new ≡ without_face face self.old }
     {
-        close_in(&mut self.faces, &mut self.live, face);
+        close_in(&mut self.faces, &mut self.live, &mut self.seekers, face);
     }
 }

@@ -1,13 +1,36 @@
 // Faces that open.
-ghost use Rattle.std.specs.Prelude.{◌≡◌, ◌<◌, ◌+◌, ◌^◌, OnOk};
+ghost use Rattle.std.specs.Prelude.{◌≡◌, ◌<◌, ◌+◌, ◌++◌, ◌∷◌, ◌^◌, [], OnOk};
 ghost use Rattle.zt_model.specs.Parts.{opened_session};
 ghost use Rattle.zt_model.specs.Routing.{initial_of, opened};
+ghost use Rattle.zt_seekers.specs.Seekers.{AreSeekers};
+ghost use Rattle.zt_state.specs.Rising.{AreUpTo};
 
+use crate::by_number::Faces;
 use crate::gateway::GatewayState;
+use crate::walk::empty;
 use std::alloc::Global;
 use zt_face::FaceState;
 use zt_keys::{Key, Memory};
 use zt_region::{Bound, Region, WhatAmI, Zid};
+use zt_seekers::Seekers;
+
+// A face opens that holds nothing yet, under a number above `made`. The only error is want of memory.
+fn open_in<K: Key>(
+    faces: &mut Faces<K>,
+    seekers: &mut Seekers<K>,
+    face: FaceState<K>,
+    made: u32,
+) -> Result<(), Memory>
+    requires up_to { AreUpTo (λ f. f.number) made faces.old }
+    requires above { made < face.number }
+    requires holds { face.held ≡ [] }
+    requires seekers { AreSeekers K.anchored seekers.old faces.old }
+    ensures faces { OnOk result (faces.new ≡ faces.old ++ face ∷ []) }
+    ensures seekers { OnOk result (AreSeekers K.anchored seekers.new faces.new) }
+{
+    seekers.open(&face)?;
+    faces.push(face, made)
+}
 
 // A mutual north peer has an initial interest.
 fn initial_of(mode: WhatAmI, region: Region, bound: Bound) -> Option<bool>
@@ -20,15 +43,43 @@ fn initial_of(mode: WhatAmI, region: Region, bound: Bound) -> Option<bool>
 }
 
 impl<K: Key> GatewayState<K> {
+    // A face opens that has no rows yet, under the next number. The only error is want of memory.
+    fn open_next(&mut self, alloc: Global, face: FaceState<K>) -> Result<(), Memory>
+        requires room { self.old.made + 1 < 2 ^ 32 }
+        requires next { face.number ≡ self.old.made + 1 }
+        requires declares { face.live ≡ [] }
+        requires holds { face.held ≡ [] }
+        ensures { OnOk result (self.new ≡ record self.old {
+          made = self.old.made + 1;
+          faces = self.old.faces ++ face ∷ [];
+        }) }
+    {
+        match open_in(&mut self.faces, &mut self.seekers, face, self.made) {
+            Ok(()) => {
+                self.made += 1;
+                Ok(())
+            }
+            Err(error) => {
+                empty(
+                    alloc,
+                    &mut self.faces,
+                    &mut self.routed,
+                    &mut self.live,
+                    &mut self.seekers,
+                );
+                Err(error)
+            }
+        }
+    }
+
     /// A session opens, under the next number. The only error is want of memory.
     pub fn open_session(&mut self, alloc: Global, first: u32) -> Result<(), Memory>
         requires { self.old.made + 1 < 2 ^ 32 }
         ensures { OnOk result (self.new ≡ opened_session first self.old) }
     {
-        let number = self.made + 1;
         let session = FaceState::new(
             alloc,
-            number,
+            self.made + 1,
             Region::Local,
             Bound::North,
             WhatAmI::Client,
@@ -36,9 +87,7 @@ impl<K: Key> GatewayState<K> {
             first,
             None,
         );
-        self.faces.push(session, self.made)?;
-        self.made = number;
-        Ok(())
+        self.open_next(alloc, session)
     }
 
     /// The face of a transport opens, under the next number. The only error is want of memory.
@@ -57,8 +106,6 @@ impl<K: Key> GatewayState<K> {
         let number = self.made + 1;
         let initial = initial_of(self.mode, region, bound);
         let face = FaceState::new(alloc, number, region, bound, whatami, zid, first, initial);
-        self.faces.push(face, self.made)?;
-        self.made = number;
-        Ok(())
+        self.open_next(alloc, face)
     }
 }

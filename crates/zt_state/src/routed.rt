@@ -301,7 +301,13 @@ impl<K: Key> GatewayState<K> {
         ) {
             Ok(()) => Ok(()),
             Err(error) => {
-                empty(alloc, &mut self.faces, &mut self.routed, &mut self.live);
+                empty(
+                    alloc,
+                    &mut self.faces,
+                    &mut self.routed,
+                    &mut self.live,
+                    &mut self.seekers,
+                );
                 Err(error)
             }
         }

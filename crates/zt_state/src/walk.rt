@@ -8,6 +8,7 @@ use std::alloc::Global;
 use zt_face::FaceState;
 use zt_indexes::LiveCounts;
 use zt_keys::{Key, Memory};
+use zt_seekers::Seekers;
 
 /// A change of a face that takes no memory.
 pub trait FaceChange<K: Key> {
@@ -41,21 +42,21 @@ pub trait FaceAddition<K: Key> {
     ghost keeps_number: { (c : Self) (f : Face K) → (added c f).number ≡ f.number };
 }
 
-/// A change of a face that keeps what it declares.
+/// A change of a face that keeps what it declares and holds.
 pub trait QuietChange<K: Key>: FaceChange<K> {
     ghost use Rattle.zt_model.specs.Rows.{Face};
     ghost use Rattle.zt_state.specs.Indexed.{KeepsLive};
 
-    /// The face keeps its number, its region and its tokens.
+    /// The face keeps its number, its region, its tokens and its interests.
     ghost keeps_live: { (c : Self) (f : Face K) → KeepsLive f (Self.changed c f) };
 }
 
-/// A change of a face that takes memory and keeps what it declares.
+/// A change of a face that takes memory and keeps what it declares and holds.
 pub trait QuietAddition<K: Key>: FaceAddition<K> {
     ghost use Rattle.zt_model.specs.Rows.{Face};
     ghost use Rattle.zt_state.specs.Indexed.{KeepsLive};
 
-    /// The face keeps its number, its region and its tokens.
+    /// The face keeps its number, its region, its tokens and its interests.
     ghost keeps_live: { (c : Self) (f : Face K) → KeepsLive f (Self.added c f) };
 }
 
@@ -65,26 +66,29 @@ pub(crate) fn empty<K: Key>(
     faces: &mut Faces<K>,
     routed: &mut Vec<RoutedToken<K>>,
     live: &mut LiveCounts<K>,
+    seekers: &mut Seekers<K>,
 )
     ensures faces { faces.new ≡ [] }
     ensures routed { routed.new.items ≡ [] }
     ensures live { live.new ≡ [] }
+    ensures seekers { seekers.new ≡ record { north = []; index = [] } }
 {
     *faces = Faces::new(alloc);
     routed.clear();
     *live = LiveCounts::new(alloc);
+    *seekers = Seekers::new(alloc);
 }
 
 #[tactic(auto, unfolding(zt_model::specs::Parts::with_face))]
 impl<K: Key> GatewayState<K> {
-    // Changes the face of a number in what it doesn't declare.
+    // Changes the face of a number in what it neither declares nor holds.
     pub(crate) fn change_face<C: QuietChange<K>>(&mut self, number: u32, change: &C)
         ensures { self.new ≡ with_face number (C.changed change.now) self.old }
     {
         self.faces.change(number, change);
     }
 
-    // Changes the face of a number in what it doesn't declare. The only error is want of memory.
+    // Changes the face of a number in what it neither declares nor holds. The only error is want of memory.
     pub(crate) fn add_to_face<C: QuietAddition<K>>(
         &mut self,
         alloc: Global,
@@ -96,7 +100,13 @@ impl<K: Key> GatewayState<K> {
         match self.faces.add(alloc, number, addition) {
             Ok(()) => Ok(()),
             Err(error) => {
-                empty(alloc, &mut self.faces, &mut self.routed, &mut self.live);
+                empty(
+                    alloc,
+                    &mut self.faces,
+                    &mut self.routed,
+                    &mut self.live,
+                    &mut self.seekers,
+                );
                 Err(error)
             }
         }

@@ -15,7 +15,7 @@ use Rattle.zt_protocol.specs.Refusal.{name_of}
 use Rattle.zt_protocol.specs.declared.entries.Report.{Report}
 use Rattle.zt_protocol.specs.declared.entries.Sent.{Sent}
 use Rattle.zt_protocol.specs.declared.errors.Refusal.{Refusal}
-use Rattle.zt_protocol.specs.declared.errors.Refusal.TheVariants.{NotBuilt, UnknownGateway, UnknownLink, EmptyLink, UnknownFace, LinkedFace, NoSuchRegion, RegionConflict, NorthTaken, WouldLoop, AnswerFromSouth, FinalFromSouth, InterestFromRouter, InterestFromNorth, IllegalCurrent, InterestIdInUse, UnknownInterest, UnknownAsk, UnknownRouter, TokenIdZero, TokenIdInUse, UnknownToken, MomentBack, DictionaryFull, IdsSpent, NumbersSpent}
+use Rattle.zt_protocol.specs.declared.errors.Refusal.TheVariants.{UnknownGateway, UnknownLink, EmptyLink, UnknownFace, LinkedFace, NoSuchRegion, RegionConflict, NorthTaken, WouldLoop, AnswerFromSouth, FinalFromSouth, InterestFromRouter, InterestFromNorth, IllegalCurrent, InterestIdInUse, UnknownInterest, UnknownAsk, UnknownRouter, TokenIdZero, TokenIdInUse, UnknownToken, MomentBack, DictionaryFull, IdsSpent, NumbersSpent}
 use Rattle.zt_fields.proofs.Exact.{some_is}
 use Rattle.zt_fields.specs.Fields.{is_byte}
 use Rattle.zt_text.specs.Sent.{IsSent, IsPrinted, ArePrinted}
@@ -28,8 +28,7 @@ use Rattle.zt_text.proofs.SentLaws.{sent_line, line_feedless, same_sent}
 -- the refusal of a name
 abbrev refusal_of : List ℕ → Option Refusal
 refusal_of text =
-    if bytes_eq text (codes "NotBuilt") then Some NotBuilt
-    else if bytes_eq text (codes "UnknownGateway") then Some UnknownGateway
+    if bytes_eq text (codes "UnknownGateway") then Some UnknownGateway
     else if bytes_eq text (codes "UnknownLink") then Some UnknownLink
     else if bytes_eq text (codes "EmptyLink") then Some EmptyLink
     else if bytes_eq text (codes "UnknownFace") then Some UnknownFace
@@ -57,7 +56,6 @@ refusal_of text =
     else None
 
 named : (r : Refusal) → refusal_of (name_of r) ≡ Some r
-named NotBuilt = refl
 named UnknownGateway = refl
 named UnknownLink = refl
 named EmptyLink = refl
@@ -88,7 +86,6 @@ same_refusal : (r q : Refusal) → name_of r ≡ name_of q → r ≡ q
 same_refusal r q h = some_is r q (sym (named r) ∙ (ap refusal_of h ∙ named q))
 
 plain_name : (r : Refusal) → is_plain (name_of r) ≡ true
-plain_name NotBuilt = refl
 plain_name UnknownGateway = refl
 plain_name UnknownLink = refl
 plain_name EmptyLink = refl

@@ -1,5 +1,5 @@
 -- One answer more, of an expression or of an ask.
-use Rattle.std.proofs.Common.{◌≡◌, ℕ, ◌+◌, ◌<◌, ◌≤◌, Bool, ◌&&◌, true, false, is_none, if◌then◌else◌, List, [], ◌∷◌, ◌++◌, Some, None, unwrap_or, filter, map, flat_map, length, get_or, drop, refl, ap, sym, ◌∙◌, append_assoc}
+use Rattle.std.proofs.Common.{◌≡◌, ℕ, ◌+◌, ◌<◌, ◌≤◌, Bool, ◌&&◌, true, false, is_none, if◌then◌else◌, List, [], ◌∷◌, ◌++◌, Option, Some, None, unwrap_or, filter, map, flat_map, length, get_or, drop, refl, ap, sym, ◌∙◌, append_assoc}
 use Rattle.std.proofs.lemmas.List.{append-nil, drop_all, map-append}
 use Rattle.std.specs.declared.cmp.Ordering.{Ordering}
 use Rattle.zt_protocol.specs.Interest.{has_tokens, is_current, is_future}
@@ -10,21 +10,24 @@ use Rattle.zt_model.specs.Parts.{told_id}
 use Rattle.zt_model.specs.Rows.{ById, Face, InterestRow, Rows}
 use Rattle.zt_model.specs.Telling.{answered_expressions, answers_from}
 use Rattle.zt_model.specs.Visible.{visible_expressions}
-use Rattle.zt_model.specs.Wants.{asks_token, is_about}
+use Rattle.zt_model.specs.Wants.{is_about}
 use Rattle.zt_state.proofs.Walks.{drop_item}
 use Rattle.zt_tokens.specs.Answered.{id_after}
 
-asked_now : {K : Type 0} (current tokens : Bool) (about : K → Bool) (es : List K) → (current && tokens) ≡ true → filter (λ e. tokens && about e) es ≡ (if current && tokens then filter about es else [])
-asked_now true true about es is = refl
-asked_now true false about es is = cc
-asked_now false tokens about es is = cc
+about_all : {A : Type 0} (xs : List A) → filter (λ _. true) xs ≡ xs
+about_all [] = refl
+about_all (x ∷ xs) = ap (λ ys. x ∷ ys) (about_all xs)
+
+-- an interest without an expression is about all
+pub about_none : {K : Type 0} (matching : K → K → Bool) (about : Option K) → about ≡ None → (xs : List K) → filter (is_about matching about) xs ≡ xs
+about_none matching about none xs = rw none (about_all xs)
 
 module _ {K : Type 0} (cmp : K → K → Ordering) (matching : K → K → Bool) where
-  -- of the visible expressions those are answered that the interest asks for
+  -- an interest that asks for tokens now is answered those visible expressions that it is about
   pub answered_is : (g : Rows K) (interest : InterestRow K) (f : Face K) → (is_current interest.mode && has_tokens interest.options) ≡ true
-      → filter (asks_token matching interest) (visible_expressions cmp g f.region) ≡ answered_expressions cmp matching g interest f
+      → filter (is_about matching interest.expr) (visible_expressions cmp g f.region) ≡ answered_expressions cmp matching g interest f
   unfolding answered_expressions
-  answered_is g interest f asks = asked_now (is_current interest.mode) (has_tokens interest.options) (is_about matching interest.expr) (visible_expressions cmp g f.region) asks
+  answered_is g interest f asks = rw asks refl
 
   -- the answer of one expression
   pub answer_is : (n next : ℕ) (told : ById K) (mode : InterestMode) (id : ℕ) (e : K) → n ≡ (if is_future mode then unwrap_or (told_id cmp e told) next else 0)

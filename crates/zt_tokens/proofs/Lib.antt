@@ -1,3 +1,5 @@
 mod Visible
 pub mod Gathering
 pub mod Answers
+pub mod Chosen
+pub mod Unsought

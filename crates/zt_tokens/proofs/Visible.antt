@@ -1,13 +1,12 @@
 -- The visible expressions are those that the counts show.
 use Rattle.std.proofs.Common.{◌≡◌, ℕ, Bool, true, false, ◌&&◌, T, if◌then◌else◌, List, [], ◌∷◌, Some, None, ap, filter, map, refl, subst, sym, ◌∙◌}
 use Rattle.std.proofs.lemmas.Map.Keys.{sorted_head, sorted_tail}
-use Rattle.std.specs.BTreeMap.{is_at}
 use Rattle.std.specs.Cmp.{IsTotalOrder}
 use Rattle.std.specs.FinMap.Entries.{below_all, find, find-put, is_sorted, is_sorted-put, put, same_entries}
 use Rattle.std.specs.List.{AllByRecursion, list_any}
 use Rattle.std.specs.List.Sorted.{IsStrictlySortedBy}
 use Rattle.std.specs.Map.{keys_of}
-use Rattle.std.specs.Ordering.{is_eq, is_lt}
+use Rattle.std.specs.Ordering.{is_lt}
 use Rattle.std.specs.declared.cmp.Ordering.{Ordering}
 use Rattle.std.specs.declared.cmp.Ordering.TheVariants.{Less, Equal, Greater}
 use Rattle.zt_keys.specs.Test.{by_test}
@@ -15,6 +14,7 @@ use Rattle.zt_region.specs.declared.region.Region.{Region}
 use Rattle.zt_indexes.specs.Counted.{is_shown_in}
 use Rattle.zt_indexes.specs.Live.{counts_at, shown_keys}
 use Rattle.zt_indexes.specs.Rows.{AreCountsOf, counts-shown}
+use Rattle.zt_indexes.specs.Shown.{among-shown, shown-sorted}
 use Rattle.zt_model.specs.Lists.{in_key_order, is_among, same, with_key}
 use Rattle.zt_model.specs.Rows.{Rows}
 use Rattle.zt_model.specs.Visible.{is_visible, live_rows, shows, visible_expressions}
@@ -23,11 +23,6 @@ by_ordering : {G : Type 0} (r : Ordering) → (r ≡ Less → G) → (r ≡ Equa
 by_ordering Less less equal greater = less refl
 by_ordering Equal less equal greater = equal refl
 by_ordering Greater less equal greater = greater refl
-
-equal-from : (r : Ordering) → is_eq r ≡ true → r ≡ Equal
-equal-from Less h = cc
-equal-from Equal h = refl
-equal-from Greater h = cc
 
 both : (a b : Bool) → T a → T b → T (a && b)
 both true b p q = q
@@ -84,39 +79,6 @@ module _ {K : Type 0} (cmp : K → K → Ordering) where
         (λ q. find-alone q keys ∙ ap (λ b. if b then Some tt else None) (alike q) ∙ sym (found-in_order q list)) in
         sym (keys-alone keys) ∙ ap keys_of entries ∙ keys-alone (in_key_order cmp list)
 
-    -- ---- the keys that counts show
-    module _ (shown : Region → Bool) where
-      all-shown : (P : K → Type 0) (counts : List (K × List (Region × ℕ))) → AllByRecursion P (keys_of counts) → AllByRecursion P (shown_keys shown counts)
-      all-shown P [] h = tt
-      all-shown P (e ∷ es) h = by_test (is_shown_in shown e.1) (λ t. rw t (h.0, all-shown P es h.1)) (λ t. rw t (all-shown P es h.1))
-
-      shown-sorted : (counts : List (K × List (Region × ℕ))) → IsStrictlySortedBy cmp (keys_of counts) → IsStrictlySortedBy cmp (shown_keys shown counts)
-      unfolding IsStrictlySortedBy
-      shown-sorted [] h = tt
-      shown-sorted (e ∷ es) h =
-          by_test (is_shown_in shown e.1)
-          (λ t. rw t (all-shown (λ y. cmp e.0 y ≡ Less) es h.0, shown-sorted es h.1))
-          (λ t. rw t (shown-sorted es h.1))
-
-      -- no key above another ties with it
-      none-tied : (q k : K) (keys : List K) → cmp q k ≡ Equal → AllByRecursion (λ y. cmp k y ≡ Less) keys → is_among cmp q keys ≡ false
-      none-tied q k [] tie h = refl
-      none-tied q k (x ∷ xs) tie h =
-          let above : cmp q x ≡ Less = o.congr q k x tie ∙ h.0 in
-          rw above (none-tied q k xs tie h.1)
-
-      among-shown : (q : K) (counts : List (K × List (Region × ℕ))) → IsStrictlySortedBy cmp (keys_of counts) → is_among cmp q (shown_keys shown counts) ≡ is_shown_in shown (counts_at cmp q counts)
-      unfolding IsStrictlySortedBy
-      among-shown q [] h = refl
-      among-shown q (e ∷ es) h =
-          by_test (is_at (cmp q) e.0)
-          (λ t.
-          let none = none-tied q e.0 (shown_keys shown es) (equal-from _ t) (all-shown (λ y. cmp e.0 y ≡ Less) es h.0) in
-          by_test (is_shown_in shown e.1) (λ u. rw (u, t, u) refl) (λ u. rw (u, t, u) none))
-          (λ t.
-          let rest = among-shown q es h.1 in
-          by_test (is_shown_in shown e.1) (λ u. rw (u, t) rest) (λ u. rw (u, t) rest))
-
     -- what a region is shown by counts of the live tokens
     pub visible-counted : (g : Rows K) (own : Region) (e : K) (counts : List (K × List (Region × ℕ))) → AreCountsOf cmp counts (live_rows g) → is_shown_in (shows own) (counts_at cmp e counts) ≡ is_visible cmp g own e
     unfolding is_visible
@@ -126,5 +88,5 @@ module _ {K : Type 0} (cmp : K → K → Ordering) where
         → shown_keys (shows own) counts ≡ visible_expressions cmp g own
     unfolding visible_expressions
     visible-listed one g own counts are sorted =
-        keys-listed one (shown_keys (shows own) counts) (map (λ row. row.1) (filter (λ row. shows own row.0) (live_rows g))) (shown-sorted (shows own) counts sorted)
-        (λ q. among-shown (shows own) q counts sorted ∙ counts-shown cmp (shows own) q counts (live_rows g) are ∙ sym (among-kept (shows own) q (live_rows g)))
+        keys-listed one (shown_keys (shows own) counts) (map (λ row. row.1) (filter (λ row. shows own row.0) (live_rows g))) (shown-sorted cmp o (shows own) counts sorted)
+        (λ q. among-shown cmp o (shows own) q counts sorted ∙ counts-shown cmp (shows own) q counts (live_rows g) are ∙ sym (among-kept (shows own) q (live_rows g)))

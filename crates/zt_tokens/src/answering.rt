@@ -4,16 +4,18 @@ ghost use Rattle.std.specs.Prelude.{filter, map, unwrap_or};
 ghost use Rattle.zt_model.specs.Parts.{to_face, told_id};
 ghost use Rattle.zt_model.specs.Telling.{answer, answer_to, answers_from, answers_of};
 ghost use Rattle.zt_model.specs.Telling.{answered_expressions, is_answered_by, was_sent_as};
-ghost use Rattle.zt_model.specs.Wants.{asks_token};
+ghost use Rattle.zt_model.specs.Visible.{visible_expressions};
+ghost use Rattle.zt_model.specs.Wants.{is_about};
 ghost use Rattle.zt_protocol.specs.Interest.{has_tokens, is_current, is_future};
 ghost use Rattle.zt_tokens.specs.Answered.{answer_of, id_after};
 
 use crate::questions::find_face;
-use crate::visibility::visible_expressions;
+use crate::visibility::{visible_expressions, visible_matches};
 use bitflags::Flags;
 use std::alloc::Global;
 use zt_keys::{Key, Memory};
 use zt_protocol::{InterestId, InterestMode, InterestOptions, Message, TokenId};
+use zt_region::Region;
 use zt_state::{AskState, FaceState, GatewayState, LocalTokens, RemoteInterest, is_among};
 
 // Whether the interest asks for tokens that are there now.
@@ -23,11 +25,21 @@ fn asks_now<K: Key>(interest: &RemoteInterest<K>) -> bool
     interest.mode().is_current() && interest.options().contains(InterestOptions::TOKENS)
 }
 
-// Keeps the expressions that the interest asks for.
-fn keep_asked<K: Key>(interest: &RemoteInterest<K>, exprs: &mut Vec<K>)
-    ensures { exprs.new.items ≡ filter (asks_token K.matching interest.now) exprs.old.items }
+// Of the expressions that are visible to faces of a region those that the interest is about, in key
+// order. The only error is want of memory.
+fn asked_expressions<K: Key>(
+    alloc: Global,
+    g: &GatewayState<K>,
+    interest: &RemoteInterest<K>,
+    own: Region,
+) -> Result<Vec<K>, Memory>
+    ensures { IfOk result (λ exprs. exprs.items
+        ≡ filter (is_about K.matching interest.now.expr) (visible_expressions K.cmp g.now own)) }
 {
-    exprs.retain(|expr| interest.asks_token(expr));
+    match interest.expr() {
+        Some(key) => visible_matches(alloc, g, own, key),
+        None => visible_expressions(alloc, g, own),
+    }
 }
 
 /// The expressions that a face is answered at once when it asks so: those that match and are
@@ -46,9 +58,7 @@ pub fn answered_expressions<K: Key>(
     if !asks_now(interest) {
         return Ok(Vec::new(alloc));
     }
-    let mut exprs = visible_expressions(alloc, g, f.region())?;
-    keep_asked(interest, &mut exprs);
-    Ok(exprs)
+    asked_expressions(alloc, g, interest, f.region())
 }
 
 // The id of an answer: 0 where what comes later isn't asked for, else the one under which the face

@@ -8,6 +8,7 @@ mod ordering;
 mod questions;
 mod telling;
 mod visibility;
+mod walking;
 
 pub use answering::{answer, answer_interest, answered_expressions, is_answered_by};
 pub use forgetting::forget;
@@ -18,3 +19,4 @@ pub use questions::{
 };
 pub use telling::tell;
 pub use visibility::visible_expressions;
+pub use walking::{FaceRule, say_at, say_each};

@@ -1,5 +1,5 @@
 // The visible expressions.
-ghost use Rattle.std.specs.Prelude.{◌≡◌, IfOk};
+ghost use Rattle.std.specs.Prelude.{◌≡◌, filter, IfOk};
 ghost use Rattle.zt_model.specs.Visible.{visible_expressions};
 
 use crate::questions::ShownTo;
@@ -18,4 +18,18 @@ pub fn visible_expressions<K: Key>(
     ensures { IfOk result (λ exprs. exprs.items ≡ visible_expressions K.cmp g.now own) }
 {
     g.live().shown_keys(alloc, &ShownTo(own))
+}
+
+/// The expressions that match the key and are visible to faces of a region, in key order, each once.
+/// The only error is want of memory.
+pub fn visible_matches<K: Key>(
+    alloc: Global,
+    g: &GatewayState<K>,
+    own: Region,
+    key: &K,
+) -> Result<Vec<K>, Memory>
+    ensures { IfOk result (λ exprs. exprs.items
+        ≡ filter (K.matching key.now) (visible_expressions K.cmp g.now own)) }
+{
+    g.live().matching_keys(alloc, &ShownTo(own), key)
 }

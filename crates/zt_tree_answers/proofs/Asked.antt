@@ -15,7 +15,7 @@ use Rattle.zt_protocol.specs.declared.entries.Sent.{Sent}
 use Rattle.zt_protocol.specs.declared.errors.Refusal.{Refusal}
 use Rattle.zt_protocol.specs.declared.interests.InterestMode.{InterestMode}
 use Rattle.zt_protocol.specs.declared.interests.InterestOptions.{InterestOptions}
-use Rattle.zt_model.specs.Fabric.{CallAt, Fabric, Node, Place, after_hearing, altered_by_line, built_causes, call_at_place, call_of, causes_of_call, entry_by, entry_of, fabric_after, is_linked_face, line_causes, line_spends_ids, printed_for, said_at, said_by_line, sorted_by_face, with_waiting}
+use Rattle.zt_model.specs.Fabric.{CallAt, Fabric, Node, Place, after_hearing, altered_by_line, line_causes, call_at_place, call_of, causes_of_call, entry_by, entry_of, fabric_after, is_linked_face, line_causes, line_spends_ids, printed_for, said_at, said_by_line, sorted_by_face, with_waiting}
 use Rattle.zt_model.specs.Hearing.{heard_all, messages_for}
 use Rattle.zt_model.specs.Lists.{nth, same}
 use Rattle.zt_model.specs.Parts.{find_face}
@@ -67,7 +67,7 @@ legal_kept mode who options legal = cases (whatami_eq who Peer || has_tokens opt
 
 module _ {K : Type 0} (cmp : K → K → Ordering) (matching : K → K → Bool) (total : IsTotalOrder cmp) (equal_is_same : (a b : K) → cmp a b ≡ Equal → a ≡ b) (e : K) (i : InterestRow K) (about : is_about matching i.expr e ≡ true) (tokens : has_tokens i.options ≡ true) (current : is_current i.mode ≡ true) (s : Fabric K) (fine : FabricIsInOrder cmp matching s)
     (agree : TreesAgree cmp matching s) (trees : IsTreeFabric s) (quiet : are_links_empty s ≡ true) (keep : AllKeepWhatTheyShould cmp matching s) (k id q : ℕ) (plain : is_plain_number s k ≡ true) (z : FaceAt K) (z_is : face_numbered s k ≡ Some z) (options : InterestOptions) (kept : i ≡ interest_kept z.face i.mode options i.expr)
-    (own other : ℕ) (own_at : is_at_gateway s k own ≡ true) (tree : IsInTree s own other) (other_at : is_at_gateway s q other ≡ true) (is_built : PlainLine K → Bool) where
+    (own other : ℕ) (own_at : is_at_gateway s k own ≡ true) (tree : IsInTree s own other) (other_at : is_at_gateway s q other ≡ true) where
   -- it is answered, or stands at the end of some way and is sent no final
   abbrev pub Asked : List (Sent K) → Fabric K → Type 0
   Asked ms t = (is_illegal_current i.mode i.options ≡ false) × (AnswersFirst cmp id e (printed_for k ms) ⊎ ((way : List (ℕ × ℕ)) × (up : List (ℕ × ℕ)) × (top : ℕ) × Stands cmp matching total equal_is_same e i k id q way up top t × Each (IsNoFinal id) (printed_for k ms)))
@@ -247,19 +247,19 @@ module _ {K : Type 0} (cmp : K → K → Ordering) (matching : K → K → Bool)
       let by_node = λ (o : Option (Node K)). (let r : Option (CallAt K) = elim o [ None ↦ None | Some node ↦ Some (record { gateway = j; rows = node.rows; call = c }) ] in r) in
       ap (call_at_place s (Interest k id i.mode options i.expr)) place_is ∙ ap by_node th.node_is
 
-  accepted_line : (spent : Bool) → first_cause (built_causes cmp matching spent line s) ≡ None → Asks (sorted_by_face (said_by_line cmp matching line s)) (with_waiting (sorted_by_face (said_by_line cmp matching line s)) (after_hearing cmp (sorted_by_face (said_by_line cmp matching line s)) (altered_by_line cmp matching line s)))
-  unfolding built_causes call_of said_by_line altered_by_line
+  accepted_line : (spent : Bool) → first_cause (line_causes cmp matching spent line s) ≡ None → Asks (sorted_by_face (said_by_line cmp matching line s)) (with_waiting (sorted_by_face (said_by_line cmp matching line s)) (after_hearing cmp (sorted_by_face (said_by_line cmp matching line s)) (altered_by_line cmp matching line s)))
+  unfolding line_causes call_of said_by_line altered_by_line
   accepted_line spent accepted =
       let two = no_cause _ _ _ (no_cause _ _ _ accepted).1 in
       at_call spent two.0 (call_at_place s (Interest k id i.mode options i.expr) (nth k s.faces)) call_is two.1
 
-  pub asked_line : is_accepted (entry_of cmp matching is_built line s) ≡ true → Asks (messages_of (entry_of cmp matching is_built line s)) (fabric_after cmp matching line (entry_of cmp matching is_built line s) s)
+  pub asked_line : is_accepted (entry_of cmp matching line s) ≡ true → Asks (messages_of (entry_of cmp matching line s)) (fabric_after cmp matching line (entry_of cmp matching line s) s)
   unfolding fabric_after entry_of
-  asked_line ok = cases (first_cause (line_causes cmp matching is_built (line_spends_ids cmp matching line s) line s)) refl ok
+  asked_line ok = cases (first_cause (line_causes cmp matching (line_spends_ids cmp matching line s) line s)) refl ok
     where
       entry : Option Refusal → PlainEntry K
       entry o = entry_by cmp matching o (sorted_by_face (said_by_line cmp matching line s))
 
-      cases : (o : Option Refusal) → first_cause (line_causes cmp matching is_built (line_spends_ids cmp matching line s) line s) ≡ o → is_accepted (entry o) ≡ true → Asks (messages_of (entry o)) (fabric_after cmp matching line (entry o) s)
-      cases None accepted yes_ = accepted_line (line_spends_ids cmp matching line s) (no_cause _ _ _ accepted).1
+      cases : (o : Option Refusal) → first_cause (line_causes cmp matching (line_spends_ids cmp matching line s) line s) ≡ o → is_accepted (entry o) ≡ true → Asks (messages_of (entry o)) (fabric_after cmp matching line (entry o) s)
+      cases None accepted yes_ = accepted_line (line_spends_ids cmp matching line s) accepted
       cases (Some r) refused yes_ = never yes_ refl

@@ -14,7 +14,7 @@ use Rattle.zt_protocol.specs.Plain.{PlainCall, NewSession, NewTransport, Declare
 use Rattle.zt_protocol.specs.declared.entries.Sent.{Sent}
 use Rattle.zt_protocol.specs.declared.errors.Refusal.{Refusal}
 use Rattle.zt_protocol.specs.declared.errors.Refusal.TheVariants as refusal
-use Rattle.zt_model.specs.Fabric.{CallAt, Fabric, Node, after_hearing, after_refusal, altered_by_line, built_causes, call_of, entry_by, entry_of, fabric_after, line_causes, line_spends_ids, new_rows, opened_at, said_at, said_by_line, sorted_by_face, with_gateway, with_place, with_session, with_waiting}
+use Rattle.zt_model.specs.Fabric.{CallAt, Fabric, Node, after_hearing, after_refusal, altered_by_line, line_causes, call_of, entry_by, entry_of, fabric_after, line_causes, line_spends_ids, new_rows, opened_at, said_at, said_by_line, sorted_by_face, with_gateway, with_place, with_session, with_waiting}
 use Rattle.zt_model.specs.Lists.{nth}
 use Rattle.zt_model.specs.Promises.{is_accepted}
 use Rattle.zt_model.specs.Refusals.{first_cause}
@@ -46,12 +46,12 @@ module _ {K : Type 0} (cmp : K → K → Ordering) (matching : K → K → Bool)
     pub timeless : expires c ≡ false
     pub held : (z : FaceAt K) → face_numbered s k ≡ Some z → z.gateway ≡ j → c ≡ InterestFinal z.face.number id → is_future i.mode ≡ false
 
-  module _ (P : List (Sent K) → Fabric K → Type 0) (dropped : LeftByDropped cmp matching total equal_is_same s fine agree P) (calls : LeftBySpoken cmp matching total equal_is_same s fine agree IsCalmCall (Unit {0}) P) (framed : (t : Fabric K) (ms : List (Sent K)) → IsFrame s t ms → P ms t) (is_built : PlainLine K → Bool) where
+  module _ (P : List (Sent K) → Fabric K → Type 0) (dropped : LeftByDropped cmp matching total equal_is_same s fine agree P) (calls : LeftBySpoken cmp matching total equal_is_same s fine agree IsCalmCall (Unit {0}) P) (framed : (t : Fabric K) (ms : List (Sent K)) → IsFrame s t ms → P ms t) where
     itself : P [] s
     itself = framed s [] (frame_itself cmp matching total equal_is_same s fine agree)
 
     abbrev Entry : PlainLine K → PlainEntry K
-    Entry line = entry_of cmp matching is_built line s
+    Entry line = entry_of cmp matching line s
 
     abbrev After : PlainLine K → Fabric K
     After line = fabric_after cmp matching line (Entry line) s
@@ -68,15 +68,15 @@ module _ {K : Type 0} (cmp : K → K → Ordering) (matching : K → K → Bool)
     refused line still (Ok ms) no_ = never refl no_
     refused line still (Err r) no_ = subst (P []) (sym (still r)) itself
 
-    by_entry : (line : PlainLine K) → ((r : Refusal) → after_refusal cmp matching line r s ≡ s) → (first_cause (built_causes cmp matching (line_spends_ids cmp matching line s) line s) ≡ None → IsTreeFabric (Then line) → P (sorted_by_face (said_by_line cmp matching line s)) (Then line)) → IsTreeFabric (After line) → Leaves line
+    by_entry : (line : PlainLine K) → ((r : Refusal) → after_refusal cmp matching line r s ≡ s) → (first_cause (line_causes cmp matching (line_spends_ids cmp matching line s) line s) ≡ None → IsTreeFabric (Then line) → P (sorted_by_face (said_by_line cmp matching line s)) (Then line)) → IsTreeFabric (After line) → Leaves line
     unfolding fabric_after entry_of
-    by_entry line still accepted_ trees = cases (first_cause (line_causes cmp matching is_built (line_spends_ids cmp matching line s) line s)) refl trees
+    by_entry line still accepted_ trees = cases (first_cause (line_causes cmp matching (line_spends_ids cmp matching line s) line s)) refl trees
       where
         entry : Option Refusal → PlainEntry K
         entry o = entry_by cmp matching o (sorted_by_face (said_by_line cmp matching line s))
 
-        cases : (o : Option Refusal) → first_cause (line_causes cmp matching is_built (line_spends_ids cmp matching line s) line s) ≡ o → IsTreeFabric (fabric_after cmp matching line (entry o) s) → P (messages_of (entry o)) (fabric_after cmp matching line (entry o) s)
-        cases None accepted trees_ = accepted_ (no_cause _ _ _ accepted).1 trees_
+        cases : (o : Option Refusal) → first_cause (line_causes cmp matching (line_spends_ids cmp matching line s) line s) ≡ o → IsTreeFabric (fabric_after cmp matching line (entry o) s) → P (messages_of (entry o)) (fabric_after cmp matching line (entry o) s)
+        cases None accepted trees_ = accepted_ accepted trees_
         cases (Some r) refused_ trees_ = subst (P []) (sym (still r)) itself
 
     -- ---- lines that make something
@@ -87,8 +87,8 @@ module _ {K : Type 0} (cmp : K → K → Ordering) (matching : K → K → Bool)
         let node : Node K = record { rows = new_rows mode zid regions timeout pairs; south = south; name = name } in
         subst (P []) (sym (nothing_said cmp matching total equal_is_same s fine agree (with_gateway node s))) (framed (with_gateway node s) [] (frame_gateway cmp matching total equal_is_same s fine agree node))
 
-    session_leaves : (n first : ℕ) → first_cause (built_causes cmp matching (line_spends_ids cmp matching (Session n first) s) (Session n first) s) ≡ None → (let line : PlainLine K = Session n first in P (sorted_by_face (said_by_line cmp matching line s)) (Then line))
-    unfolding built_causes call_of said_by_line altered_by_line parts_of said_by altered_by sorted_by_face
+    session_leaves : (n first : ℕ) → first_cause (line_causes cmp matching (line_spends_ids cmp matching (Session n first) s) (Session n first) s) ≡ None → (let line : PlainLine K = Session n first in P (sorted_by_face (said_by_line cmp matching line s)) (Then line))
+    unfolding line_causes call_of said_by_line altered_by_line parts_of said_by altered_by sorted_by_face
     session_leaves n first accepted = cases (nth n s.gateways) refl (no_cause _ _ _ accepted).0
       where
         G : Option (CallAt K) → Type 0
@@ -111,7 +111,7 @@ module _ {K : Type 0} (cmp : K → K → Ordering) (matching : K → K → Bool)
         let ms = sorted_by_face (said_at cmp matching (opened_at cmp matching (Some (record { gateway = n; rows = node.rows; call = c })) s) (Some (record { gateway = n; rows = node.rows; call = c }))) in
         subst (P ms) (sym (opened_is cmp matching total s fine agree n node at_ c refl ms prints)) (framed _ ms (frame_opened cmp matching total equal_is_same s fine agree n node at_ c refl ms prints)))
 
-    link_leaves : (one two first back : ℕ) → 1 ≤ first → 1 ≤ back → (let line : PlainLine K = LinkLine one two first back in first_cause (built_causes cmp matching (line_spends_ids cmp matching line s) line s) ≡ None → IsTreeFabric (Then line) → P (sorted_by_face (said_by_line cmp matching line s)) (Then line))
+    link_leaves : (one two first back : ℕ) → 1 ≤ first → 1 ≤ back → (let line : PlainLine K = LinkLine one two first back in first_cause (line_causes cmp matching (line_spends_ids cmp matching line s) line s) ≡ None → IsTreeFabric (Then line) → P (sorted_by_face (said_by_line cmp matching line s)) (Then line))
     link_leaves one two first back real1 real2 accepted trees =
         let line : PlainLine K = LinkLine one two first back in
         framed (Then line) (sorted_by_face (said_by_line cmp matching line s))
@@ -159,7 +159,7 @@ module _ {K : Type 0} (cmp : K → K → Ordering) (matching : K → K → Bool)
     speech_leaves : (call : PlainCall K) → Entry (Speak call) ≢ Err refusal.IdsSpent → ((f x : ℕ) → call ≡ InterestFinal f x → (is_accepted (Entry (Speak call)) && (is_future i.mode && ((k == f) && (id == x)))) ≡ false) → Leaves (Speak call)
     speech_leaves call other calm =
         by_test (is_accepted (Entry (Speak call)))
-        (λ yes. spoken_after cmp matching total equal_is_same s fine agree IsCalmCall (Unit {0}) P itself dropped calls is_built (Speak call) (speech_calm call (λ f x is. ap (λ b. b && (is_future i.mode && ((k == f) && (id == x)))) (sym yes) ∙ calm f x is)) refl other)
+        (λ yes. spoken_after cmp matching total equal_is_same s fine agree IsCalmCall (Unit {0}) P itself dropped calls (Speak call) (speech_calm call (λ f x is. ap (λ b. b && (is_future i.mode && ((k == f) && (id == x)))) (sym yes) ∙ calm f x is)) refl other)
         (λ no_. refused (Speak call) (λ r. refl) (Entry (Speak call)) no_)
 
     calm_speech : (call : PlainCall K) → Calm (Speak call) → (f x : ℕ) → call ≡ InterestFinal f x → (is_accepted (Entry (Speak call)) && (is_future i.mode && ((k == f) && (id == x)))) ≡ false
@@ -184,9 +184,9 @@ module _ {K : Type 0} (cmp : K → K → Ordering) (matching : K → K → Bool)
     not_accepted false h = refl
 
     pub every_line : (line : PlainLine K) → HasFirstIds line → Entry line ≢ Err refusal.IdsSpent → IsTreeFabric (After line) → Calm line → Leaves line
-    every_line (Step n back) real other trees calm = spoken_after cmp matching total equal_is_same s fine agree IsCalmCall (Unit {0}) P itself dropped calls is_built (Step n back) tt refl other
+    every_line (Step n back) real other trees calm = spoken_after cmp matching total equal_is_same s fine agree IsCalmCall (Unit {0}) P itself dropped calls (Step n back) tt refl other
     every_line (Speak call) real other trees calm = speech_leaves call other (calm_speech call calm)
-    every_line (SetTreesAt n region t) real other trees calm = spoken_after cmp matching total equal_is_same s fine agree IsCalmCall (Unit {0}) P itself dropped calls is_built (SetTreesAt n region t) (record { timeless = refl; held = λ z z_is here is. cc }) refl other
+    every_line (SetTreesAt n region t) real other trees calm = spoken_after cmp matching total equal_is_same s fine agree IsCalmCall (Unit {0}) P itself dropped calls (SetTreesAt n region t) (record { timeless = refl; held = λ z z_is here is. cc }) refl other
     every_line (Moment n now) real other trees calm = refused (Moment n now) (λ r. refl) (Entry (Moment n now)) (not_accepted (is_accepted (Entry (Moment n now))) (calm s s))
     every_line (Unlink n) real other trees calm = refused (Unlink n) (λ r. refl) (Entry (Unlink n)) (not_accepted (is_accepted (Entry (Unlink n))) (calm s s))
     every_line (Gateway mode zid regions south name timeout pairs) real other trees calm = by_entry (Gateway mode zid regions south name timeout pairs) (λ r. refl) (λ accepted _. gateway_leaves mode zid regions south name timeout pairs) trees

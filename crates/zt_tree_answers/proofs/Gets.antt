@@ -108,7 +108,7 @@ module _ {K : Type 0} (cmp : K → K → Ordering) (matching : K → K → Bool)
       at_each (λ (a : Ask K). is_future a.interest.mode ≡ true → at_id id z.face.held ≡ Some a.interest) id z.face.asks ask
       (each_weaker (AskIsHeld z.face) (λ row. (id == row.0) ≡ true → is_future row.1.interest.mode ≡ true → at_id id z.face.held ≡ Some row.1.interest) (λ row h same_ later. ap (λ n. at_id n z.face.held) (eqb-true id row.0 same_) ∙ h.held later) z.face.asks asks) at_
 
-  module _ (is_built : PlainLine K → Bool) (e : K) (i : InterestRow K) (about : is_about matching i.expr e ≡ true) (k id q : ℕ) where
+  module _ (e : K) (i : InterestRow K) (about : is_about matching i.expr e ≡ true) (k id q : ℕ) where
     abbrev Calm : Turn K → Type 0
     Calm t = disturbs cmp matching k id i t ≡ false
 
@@ -125,13 +125,13 @@ module _ {K : Type 0} (cmp : K → K → Ordering) (matching : K → K → Bool)
     Ends turns = (list_any is_answered turns ≡ true) ⊎ Each NoFinal turns
 
     abbrev TurnsOf : List (PlainLine K) → Fabric K → Fabric K → List (Turn K)
-    TurnsOf lines s shown = turns_from cmp matching lines (entries_from cmp matching is_built lines s) shown
+    TurnsOf lines s shown = turns_from cmp matching lines (entries_from cmp matching lines s) shown
 
     abbrev TurnOf : PlainLine K → Fabric K → Turn K
-    TurnOf line s = record { line = line; entry = entry_of cmp matching is_built line s; before = as_shown s; after = fabric_shown cmp matching line (entry_of cmp matching is_built line s) (as_shown s) }
+    TurnOf line s = record { line = line; entry = entry_of cmp matching line s; before = as_shown s; after = fabric_shown cmp matching line (entry_of cmp matching line s) (as_shown s) }
 
     abbrev Next : PlainLine K → Fabric K → Fabric K
-    Next line s = fabric_after cmp matching line (entry_of cmp matching is_built line s) s
+    Next line s = fabric_after cmp matching line (entry_of cmp matching line s) s
 
     answered : (ms : List (Message K)) → AnswersFirst cmp id e ms → is_among cmp e (answers_in id ms) ≡ true
     answered ms first = answers_are_messages cmp id e ms ∙ first_is_some cmp id e ms first
@@ -146,18 +146,18 @@ module _ {K : Type 0} (cmp : K → K → Ordering) (matching : K → K → Bool)
       goes [] s real sound agree trees_s (t ∷ rest) later = λ is trees calm live stands. cc
       goes (line ∷ lines) s real sound agree trees_s (t ∷ rest) later = λ is trees calm live stands.
           let next = Next line s in
-          let entry = entry_of cmp matching is_built line s in
-          let shown = fabric_is_shown cmp matching total is_built line s sound.order in
+          let entry = entry_of cmp matching line s in
+          let shown = fabric_is_shown cmp matching total line s sound.order in
           let here : IsTreeFabric next = tree_unshown cmp matching next (subst IsTreeFabric shown trees.0.0) in
           let head_ : TurnOf line s ≡ t = heads is in
-          let sound_next = sound_after_line cmp matching total equal_is_same is_built line s real.0 sound in
+          let sound_next = sound_after_line cmp matching total equal_is_same line s real.0 sound in
           let other = not_spent cmp matching total equal_is_same entry trees.0.1 in
-          let agree_next = trees_after_each cmp matching total equal_is_same is_built s sound.order agree line real.0 other here in
+          let agree_next = trees_after_each cmp matching total equal_is_same s sound.order agree line real.0 other here in
           let after_ : t.after ≡ as_shown next = ap (λ (u : Turn K). u.after) (sym head_) ∙ shown in
           let live_next : is_plainly_live_at cmp matching next q e ≡ true = sym (live_shown cmp matching next q e) ∙ ap (λ (u : Fabric K). is_plainly_live_at cmp matching u q e) (sym after_) ∙ live.0 in
           let lives = plainly_lives cmp matching total equal_is_same next sound_next.order agree_next here q e live_next in
           let calm_ : Calm (TurnOf line s) = subst Calm (sym head_) calm.0 in
-          let turned = one_turn cmp matching total equal_is_same e i k id q way up top about tokens current legal s sound.order agree (holds s sound) is_built stands line real.0 other here (λ before after. calm_) sound_next.order lives in
+          let turned = one_turn cmp matching total equal_is_same e i k id q way up top about tokens current legal s sound.order agree (holds s sound) stands line real.0 other here (λ before after. calm_) sound_next.order lives in
           ⊎_elim
           (λ first. inl (or_left (is_answered t) (list_any is_answered rest) (subst (λ (u : Turn K). is_answered u ≡ true) head_ (answered (printed_for k (messages_of entry)) first))))
           (λ on.
@@ -173,15 +173,15 @@ module _ {K : Type 0} (cmp : K → K → Ordering) (matching : K → K → Bool)
       -- the accepted line that asks, of a fabric where nothing waits
       begins : (line : PlainLine K) (s : Fabric K) → Each HasFirstIds (line ∷ []) → (sound : SoundFabric cmp matching total equal_is_same s) → TreesAgree cmp matching s → IsTreeFabric s → (asking : Turn K) → TurnOf line s ≡ asking → IsTreeTurn cmp matching (TurnOf line s)
           → (made : MakesAsk cmp matching asking k id i) → are_links_empty asking.before ≡ true → is_at_gateway asking.before k own ≡ true → IsInTree asking.before own other → is_at_gateway asking.before q other ≡ true → Live asking
-          → (is_illegal_current i.mode i.options ≡ false) × (AnswersFirst cmp id e (printed_for k (messages_of (entry_of cmp matching is_built line s)))
-          ⊎ ((way : List (ℕ × ℕ)) × (up : List (ℕ × ℕ)) × (top : ℕ) × Stands cmp matching total equal_is_same e i k id q way up top (Next line s) × Each (IsNoFinal id) (printed_for k (messages_of (entry_of cmp matching is_built line s)))))
+          → (is_illegal_current i.mode i.options ≡ false) × (AnswersFirst cmp id e (printed_for k (messages_of (entry_of cmp matching line s)))
+          ⊎ ((way : List (ℕ × ℕ)) × (up : List (ℕ × ℕ)) × (top : ℕ) × Stands cmp matching total equal_is_same e i k id q way up top (Next line s) × Each (IsNoFinal id) (printed_for k (messages_of (entry_of cmp matching line s)))))
       begins line s real sound agree trees_s asking head_ trees made quiet own_at tree other_at live =
           let next = Next line s in
-          let entry = entry_of cmp matching is_built line s in
-          let shown = fabric_is_shown cmp matching total is_built line s sound.order in
+          let entry = entry_of cmp matching line s in
+          let shown = fabric_is_shown cmp matching total line s sound.order in
           let here : IsTreeFabric next = tree_unshown cmp matching next (subst IsTreeFabric shown trees.0) in
-          let sound_next = sound_after_line cmp matching total equal_is_same is_built line s real.0 sound in
-          let agree_next = trees_after_each cmp matching total equal_is_same is_built s sound.order agree line real.0 (not_spent cmp matching total equal_is_same entry trees.1) here in
+          let sound_next = sound_after_line cmp matching total equal_is_same line s real.0 sound in
+          let agree_next = trees_after_each cmp matching total equal_is_same s sound.order agree line real.0 (not_spent cmp matching total equal_is_same entry trees.1) here in
           let after_ : asking.after ≡ as_shown next = ap (λ (u : Turn K). u.after) (sym head_) ∙ shown in
           let before_ : asking.before ≡ as_shown s = ap (λ (u : Turn K). u.before) (sym head_) in
           let live_next : is_plainly_live_at cmp matching next q e ≡ true = sym (live_shown cmp matching next q e) ∙ ap (λ (u : Fabric K). is_plainly_live_at cmp matching u q e) (sym after_) ∙ live in
@@ -196,12 +196,12 @@ module _ {K : Type 0} (cmp : K → K → Ordering) (matching : K → K → Bool)
           let other_ : is_at_gateway s q other ≡ true = ap (λ (u : Fabric K). is_at_gateway u q other) (sym before_) ∙ other_at in
           let tree_ : IsInTree s own other = in_tree_unshown s own other (subst (λ (u : Fabric K). IsInTree u own other) before_ tree) in
           let accepted : is_accepted entry ≡ true = ap (λ (u : Turn K). is_accepted u.entry) head_ ∙ made.accepted in
-          let asks = asked_line cmp matching total equal_is_same e i about made.tokens made.current s sound.order agree trees_s quiet_ (sound_gateways_keep cmp matching s sound) k id q plain z.0 z.1.0 made.options kept own other own_ tree_ other_ is_built in
+          let asks = asked_line cmp matching total equal_is_same e i about made.tokens made.current s sound.order agree trees_s quiet_ (sound_gateways_keep cmp matching s sound) k id q plain z.0 z.1.0 made.options kept own other own_ tree_ other_ in
           subst
           (λ (l : PlainLine K).
-          is_accepted (entry_of cmp matching is_built l s) ≡ true → FabricIsInOrder cmp matching (Next l s) → is_plain_number (Next l s) q ≡ true → LivesAt cmp matching e (Next l s) q
-          → (is_illegal_current i.mode i.options ≡ false) × (AnswersFirst cmp id e (printed_for k (messages_of (entry_of cmp matching is_built l s)))
-          ⊎ ((way : List (ℕ × ℕ)) × (up : List (ℕ × ℕ)) × (top : ℕ) × Stands cmp matching total equal_is_same e i k id q way up top (Next l s) × Each (IsNoFinal id) (printed_for k (messages_of (entry_of cmp matching is_built l s))))))
+          is_accepted (entry_of cmp matching l s) ≡ true → FabricIsInOrder cmp matching (Next l s) → is_plain_number (Next l s) q ≡ true → LivesAt cmp matching e (Next l s) q
+          → (is_illegal_current i.mode i.options ≡ false) × (AnswersFirst cmp id e (printed_for k (messages_of (entry_of cmp matching l s)))
+          ⊎ ((way : List (ℕ × ℕ)) × (up : List (ℕ × ℕ)) × (top : ℕ) × Stands cmp matching total equal_is_same e i k id q way up top (Next l s) × Each (IsNoFinal id) (printed_for k (messages_of (entry_of cmp matching l s))))))
           (sym line_is) asks accepted sound_next.order plain_q lives
 
       asked : (lines : List (PlainLine K)) (s : Fabric K) → Each HasFirstIds lines → SoundFabric cmp matching total equal_is_same s → TreesAgree cmp matching s → IsTreeFabric s
@@ -212,12 +212,12 @@ module _ {K : Type 0} (cmp : K → K → Ordering) (matching : K → K → Bool)
       asked [] s real sound agree trees_s (t ∷ ts) asking rest later = λ is trees made quiet own_at tree other_at calm live. cc
       asked (line ∷ lines) s real sound agree trees_s [] asking rest later = λ is trees made quiet own_at tree other_at calm live.
           let next = Next line s in
-          let entry = entry_of cmp matching is_built line s in
-          let shown = fabric_is_shown cmp matching total is_built line s sound.order in
+          let entry = entry_of cmp matching line s in
+          let shown = fabric_is_shown cmp matching total line s sound.order in
           let here : IsTreeFabric next = tree_unshown cmp matching next (subst IsTreeFabric shown trees.0.0) in
           let head_ : TurnOf line s ≡ asking = heads is in
-          let sound_next = sound_after_line cmp matching total equal_is_same is_built line s real.0 sound in
-          let agree_next = trees_after_each cmp matching total equal_is_same is_built s sound.order agree line real.0 (not_spent cmp matching total equal_is_same entry trees.0.1) here in
+          let sound_next = sound_after_line cmp matching total equal_is_same line s real.0 sound in
+          let agree_next = trees_after_each cmp matching total equal_is_same s sound.order agree line real.0 (not_spent cmp matching total equal_is_same entry trees.0.1) here in
           let begun = begins line s (real.0, tt) sound agree trees_s asking head_ trees.0 made quiet own_at tree other_at live.0 in
           ⊎_elim
           (λ first. inl (or_left (is_answered asking) (list_any is_answered rest) (subst (λ (u : Turn K). is_answered u ≡ true) head_ (answered (printed_for k (messages_of entry)) first))))
@@ -229,10 +229,10 @@ module _ {K : Type 0} (cmp : K → K → Ordering) (matching : K → K → Bool)
           begun.1
       asked (line ∷ lines) s real sound agree trees_s (t ∷ ts) asking rest later = λ is trees made quiet own_at tree other_at calm live.
           let next = Next line s in
-          let shown = fabric_is_shown cmp matching total is_built line s sound.order in
+          let shown = fabric_is_shown cmp matching total line s sound.order in
           let here : IsTreeFabric next = tree_unshown cmp matching next (subst IsTreeFabric shown trees.0.0) in
-          let sound_next = sound_after_line cmp matching total equal_is_same is_built line s real.0 sound in
-          let agree_next = trees_after_each cmp matching total equal_is_same is_built s sound.order agree line real.0 (not_spent cmp matching total equal_is_same (entry_of cmp matching is_built line s) trees.0.1) here in
+          let sound_next = sound_after_line cmp matching total equal_is_same line s real.0 sound in
+          let agree_next = trees_after_each cmp matching total equal_is_same s sound.order agree line real.0 (not_spent cmp matching total equal_is_same (entry_of cmp matching line s) trees.0.1) here in
           asked lines next real.1 sound_next agree_next here ts asking rest later (subst (λ (u : Fabric K). TurnsOf lines next u ≡ ts ++ asking ∷ rest ++ later) shown (tails is)) (subst (λ (u : Fabric K). Each (IsTreeTurn cmp matching) (TurnsOf lines next u)) shown trees.1) made quiet own_at tree other_at calm live
 
   -- ---- the theorem
@@ -246,21 +246,21 @@ module _ {K : Type 0} (cmp : K → K → Ordering) (matching : K → K → Bool)
       omega arith
 
   -- An ask is answered what a plain face of its tree has live from the asking to the final.
-  pub gets_what_stays : (is_built : PlainLine K → Bool) (lines : List (PlainLine K)) (s : Fabric K) → Each HasFirstIds lines → SoundFabric cmp matching total equal_is_same s → TreesAgree cmp matching s → IsTreeFabric s
-      → (let turns = turns_from cmp matching lines (entries_from cmp matching is_built lines s) (as_shown s) in Each (IsTreeTurn cmp matching) turns → GetsWhatStays cmp matching turns)
-  gets_what_stays is_built lines s real sound agree trees_s = λ trees a e own other face about own_at tree other_at stays.
+  pub gets_what_stays : (lines : List (PlainLine K)) (s : Fabric K) → Each HasFirstIds lines → SoundFabric cmp matching total equal_is_same s → TreesAgree cmp matching s → IsTreeFabric s
+      → (let turns = turns_from cmp matching lines (entries_from cmp matching lines s) (as_shown s) in Each (IsTreeTurn cmp matching) turns → GetsWhatStays cmp matching turns)
+  gets_what_stays lines s real sound agree trees_s = λ trees a e own other face about own_at tree other_at stays.
       let rest = a.between ++ option_to_list a.ending in
       let calm = none_each (disturbs cmp matching a.face a.id a.interest) (a.asking ∷ rest) a.undisturbed in
       let live = all_each (λ t. is_plainly_live_at cmp matching t.after face e) (a.asking ∷ rest) stays in
       let is = a.turns_are ∙ ap (λ ts. ts ++ a.later) (append_assoc a.earlier (a.asking ∷ a.between) (option_to_list a.ending)) in
       ⊎_elim (λ some. some) (λ none_. absurd (final_came a.face a.id a.asking a.between a.ending a.finished none_))
-      (asked is_built e a.interest about a.face a.id face own other lines s real sound agree trees_s a.earlier a.asking rest a.later is trees a.made a.quiet own_at tree other_at calm.1 live)
+      (asked e a.interest about a.face a.id face own other lines s real sound agree trees_s a.earlier a.asking rest a.later is trees a.made a.quiet own_at tree other_at calm.1 live)
 
   -- The three promises over trees.
-  pub keep_tree_promises : (is_built : PlainLine K → Bool) (lines : List (PlainLine K)) (s : Fabric K) → Each HasFirstIds lines → SoundFabric cmp matching total equal_is_same s → TreesAgree cmp matching s → IsTreeFabric s
-      → KeepTreePromises cmp matching (turns_from cmp matching lines (entries_from cmp matching is_built lines s) (as_shown s))
-  keep_tree_promises is_built lines s real sound agree trees_s = λ trees. record {
-    knowledge = turns_know cmp matching total equal_is_same is_built lines s real sound agree trees;
-    gets = gets_what_stays is_built lines s real sound agree trees_s trees;
-    gets_only = gets_only cmp matching total equal_is_same is_built lines s real sound agree trees_s trees;
+  pub keep_tree_promises : (lines : List (PlainLine K)) (s : Fabric K) → Each HasFirstIds lines → SoundFabric cmp matching total equal_is_same s → TreesAgree cmp matching s → IsTreeFabric s
+      → KeepTreePromises cmp matching (turns_from cmp matching lines (entries_from cmp matching lines s) (as_shown s))
+  keep_tree_promises lines s real sound agree trees_s = λ trees. record {
+    knowledge = turns_know cmp matching total equal_is_same lines s real sound agree trees;
+    gets = gets_what_stays lines s real sound agree trees_s trees;
+    gets_only = gets_only cmp matching total equal_is_same lines s real sound agree trees_s trees;
   }

@@ -11,7 +11,7 @@ use Rattle.zt_protocol.specs.declared.errors.Refusal.{Refusal}
 use Rattle.zt_protocol.specs.declared.errors.Refusal.TheVariants as refusal
 use Rattle.zt_protocol.specs.declared.messages.Message.{Message}
 use Rattle.zt_protocol.specs.declared.messages.Message.TheVariants as message
-use Rattle.zt_model.specs.Fabric.{CallAt, Fabric, Link, Node, Place, after_hearing, after_refusal, altered_by_line, built_causes, call_at, call_at_place, call_face, call_of, call_of_face, call_of_step, causes_of_call, entry_by, entry_of, fabric_after, is_linked_face, line_causes, line_spends_ids, said_at, said_by_line, sorted_by_face, table_at, with_call_face, with_waiting, without_message}
+use Rattle.zt_model.specs.Fabric.{CallAt, Fabric, Link, Node, Place, after_hearing, after_refusal, altered_by_line, line_causes, call_at, call_at_place, call_face, call_of, call_of_face, call_of_step, causes_of_call, entry_by, entry_of, fabric_after, is_linked_face, line_causes, line_spends_ids, said_at, said_by_line, sorted_by_face, table_at, with_call_face, with_waiting, without_message}
 use Rattle.zt_model.specs.Linking.{call_of_message, oldest, sending_end, speaking_end, waiting_of}
 use Rattle.zt_model.specs.Lists.{has_id, is_some_and, nth, rest_of}
 use Rattle.zt_model.specs.Parts.{find_face}
@@ -110,8 +110,8 @@ module _ {K : Type 0} (cmp : K → K → Ordering) (matching : K → K → Bool)
         (inl (said_ place at_k)))
         accepted
 
-    speech : (spent : Bool) (call : PlainCall K) → LineSaid cmp matching total equal_is_same s fine agree Said (Speak call) → first_cause (built_causes cmp matching spent (Speak call) s) ≡ None → Follows s (call_of_face s call (call_face call))
-    unfolding built_causes call_of
+    speech : (spent : Bool) (call : PlainCall K) → LineSaid cmp matching total equal_is_same s fine agree Said (Speak call) → first_cause (line_causes cmp matching spent (Speak call) s) ≡ None → Follows s (call_of_face s call (call_face call))
+    unfolding line_causes call_of
     speech spent (NewSession first) said_ accepted = never refl (no_cause _ _ _ accepted).0
     speech spent (NewTransport zid whatami region bound first) said_ accepted = never refl (no_cause _ _ _ accepted).0
     speech spent (Expire now) said_ accepted = never refl (no_cause _ _ _ accepted).0
@@ -197,29 +197,26 @@ module _ {K : Type 0} (cmp : K → K → Ordering) (matching : K → K → Bool)
 
     -- ---- lines
 
-    step_refused : (is_built : PlainLine K → Bool) (spent : Bool) (n : ℕ) (back : Bool) (r : Refusal) → first_cause (line_causes cmp matching is_built spent (Step n back) s) ≡ Some r → r ≢ refusal.IdsSpent → P [] (after_refusal cmp matching (Step n back) r s)
-    unfolding built_causes call_of
-    step_refused is_built spent n back r refused other =
+    step_refused : (spent : Bool) (n : ℕ) (back : Bool) (r : Refusal) → first_cause (line_causes cmp matching spent (Step n back) s) ≡ Some r → r ≢ refusal.IdsSpent → P [] (after_refusal cmp matching (Step n back) r s)
+    unfolding line_causes call_of
+    step_refused spent n back r refused other =
         of_cond (P []) (nat_lt 3 (number_of r)) (without_message n back s) s
         (λ far.
-        ⊎_elim (λ first. never (ap (λ x. nat_lt 3 (number_of x)) (sym first.1) ∙ far) refl)
-        (λ one.
         ⊎_elim (λ first. never (ap (λ x. nat_lt 3 (number_of x)) (sym first.1) ∙ far) refl)
         (λ two.
         ⊎_elim (λ first. never (ap (λ x. nat_lt 3 (number_of x)) (sym first.1) ∙ far) refl)
         (λ three. step_dropped spent n back r (nth n s.links) refl (not_not two.0) (not_not three.0) three.1 other)
         (skip_to _ refusal.EmptyLink _ r two.1))
-        (skip_to _ refusal.UnknownLink _ r one.1))
-        (skip_to _ refusal.NotBuilt _ r refused))
+        (skip_to _ refusal.UnknownLink _ r refused))
         (λ _. itself)
 
     abbrev pub SaidBy : PlainLine K → Type 0
     SaidBy (Step n back) = Stepping
     SaidBy line = LineSaid cmp matching total equal_is_same s fine agree Said line
 
-    accepted_line : (spent : Bool) (line : PlainLine K) → SaidBy line → is_call_or_step line ≡ true → first_cause (built_causes cmp matching spent line s) ≡ None
+    accepted_line : (spent : Bool) (line : PlainLine K) → SaidBy line → is_call_or_step line ≡ true → first_cause (line_causes cmp matching spent line s) ≡ None
         → P (sorted_by_face (said_by_line cmp matching line s)) (with_waiting (sorted_by_face (said_by_line cmp matching line s)) (after_hearing cmp (sorted_by_face (said_by_line cmp matching line s)) (altered_by_line cmp matching line s)))
-    unfolding built_causes call_of said_by_line altered_by_line
+    unfolding line_causes call_of said_by_line altered_by_line
     accepted_line spent (Step n back) said_ leaves accepted =
         let one = no_cause _ _ _ accepted in
         let two = no_cause _ _ _ one.1 in
@@ -233,24 +230,24 @@ module _ {K : Type 0} (cmp : K → K → Ordering) (matching : K → K → Bool)
     accepted_line spent (LinkLine one two first back) said_ leaves accepted = never leaves refl
     accepted_line spent (Unlink link) said_ leaves accepted = never leaves refl
 
-    refused_line : (is_built : PlainLine K → Bool) (spent : Bool) (line : PlainLine K) (r : Refusal) → first_cause (line_causes cmp matching is_built spent line s) ≡ Some r → r ≢ refusal.IdsSpent → P [] (after_refusal cmp matching line r s)
-    refused_line is_built spent (Step n back) r refused other = step_refused is_built spent n back r refused other
-    refused_line is_built spent (Speak call) r refused other = itself
-    refused_line is_built spent (Moment n now) r refused other = itself
-    refused_line is_built spent (SetTreesAt n region t) r refused other = itself
-    refused_line is_built spent (Gateway mode zid regions south name timeout pairs) r refused other = itself
-    refused_line is_built spent (Session n first) r refused other = itself
-    refused_line is_built spent (FaceLine n mode zid region bound first) r refused other = itself
-    refused_line is_built spent (LinkLine one two first back) r refused other = itself
-    refused_line is_built spent (Unlink link) r refused other = itself
+    refused_line : (spent : Bool) (line : PlainLine K) (r : Refusal) → first_cause (line_causes cmp matching spent line s) ≡ Some r → r ≢ refusal.IdsSpent → P [] (after_refusal cmp matching line r s)
+    refused_line spent (Step n back) r refused other = step_refused spent n back r refused other
+    refused_line spent (Speak call) r refused other = itself
+    refused_line spent (Moment n now) r refused other = itself
+    refused_line spent (SetTreesAt n region t) r refused other = itself
+    refused_line spent (Gateway mode zid regions south name timeout pairs) r refused other = itself
+    refused_line spent (Session n first) r refused other = itself
+    refused_line spent (FaceLine n mode zid region bound first) r refused other = itself
+    refused_line spent (LinkLine one two first back) r refused other = itself
+    refused_line spent (Unlink link) r refused other = itself
 
-    pub spoken_after : (is_built : PlainLine K → Bool) (line : PlainLine K) → SaidBy line → is_call_or_step line ≡ true → entry_of cmp matching is_built line s ≢ Err refusal.IdsSpent → P (messages_of (entry_of cmp matching is_built line s)) (fabric_after cmp matching line (entry_of cmp matching is_built line s) s)
+    pub spoken_after : (line : PlainLine K) → SaidBy line → is_call_or_step line ≡ true → entry_of cmp matching line s ≢ Err refusal.IdsSpent → P (messages_of (entry_of cmp matching line s)) (fabric_after cmp matching line (entry_of cmp matching line s) s)
     unfolding fabric_after entry_of
-    spoken_after is_built line said_ leaves other = cases (first_cause (line_causes cmp matching is_built (line_spends_ids cmp matching line s) line s)) refl other
+    spoken_after line said_ leaves other = cases (first_cause (line_causes cmp matching (line_spends_ids cmp matching line s) line s)) refl other
       where
         spent : Bool
         spent = line_spends_ids cmp matching line s
 
-        cases : (o : Option Refusal) → first_cause (line_causes cmp matching is_built spent line s) ≡ o → entry_by cmp matching o (sorted_by_face (said_by_line cmp matching line s)) ≢ Err refusal.IdsSpent → P (messages_of (entry_by cmp matching o (sorted_by_face (said_by_line cmp matching line s)))) (fabric_after cmp matching line (entry_by cmp matching o (sorted_by_face (said_by_line cmp matching line s))) s)
-        cases None accepted other_ = accepted_line spent line said_ leaves (no_cause _ _ _ accepted).1
-        cases (Some r) refused other_ = refused_line is_built spent line r refused (λ is. other_ (ap (λ (x : Refusal). (let d : PlainEntry K = Err x in d)) is))
+        cases : (o : Option Refusal) → first_cause (line_causes cmp matching spent line s) ≡ o → entry_by cmp matching o (sorted_by_face (said_by_line cmp matching line s)) ≢ Err refusal.IdsSpent → P (messages_of (entry_by cmp matching o (sorted_by_face (said_by_line cmp matching line s)))) (fabric_after cmp matching line (entry_by cmp matching o (sorted_by_face (said_by_line cmp matching line s))) s)
+        cases None accepted other_ = accepted_line spent line said_ leaves accepted
+        cases (Some r) refused other_ = refused_line spent line r refused (λ is. other_ (ap (λ (x : Refusal). (let d : PlainEntry K = Err x in d)) is))

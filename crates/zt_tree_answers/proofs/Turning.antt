@@ -39,12 +39,12 @@ module _ {K : Type 0} (cmp : K → K → Ordering) (matching : K → K → Bool)
   Turns ms t = FabricIsInOrder cmp matching t → LivesAt cmp matching e t q → Turned ms t
 
   module _ (about : is_about matching i.expr e ≡ true) (tokens : has_tokens i.options ≡ true) (current : is_current i.mode ≡ true) (legal : is_illegal_current i.mode i.options ≡ false) (s : Fabric K) (fine : FabricIsInOrder cmp matching s) (agree : TreesAgree cmp matching s)
-      (holds : (k : ℕ) (z : FaceAt K) (id : ℕ) (ask : Ask K) → face_numbered s k ≡ Some z → at_id id z.face.asks ≡ Some ask → is_future ask.interest.mode ≡ true → at_id id z.face.held ≡ Some ask.interest) (is_built : PlainLine K → Bool) where
+      (holds : (k : ℕ) (z : FaceAt K) (id : ℕ) (ask : Ask K) → face_numbered s k ≡ Some z → at_id id z.face.asks ≡ Some ask → is_future ask.interest.mode ≡ true → at_id id z.face.held ≡ Some ask.interest) where
     abbrev Entry : PlainLine K → List (Sent K)
-    Entry line = messages_of (entry_of cmp matching is_built line s)
+    Entry line = messages_of (entry_of cmp matching line s)
 
     abbrev After : PlainLine K → Fabric K
-    After line = fabric_after cmp matching line (entry_of cmp matching is_built line s) s
+    After line = fabric_after cmp matching line (entry_of cmp matching line s) s
 
     -- ---- a closed face
 
@@ -58,9 +58,9 @@ module _ {K : Type 0} (cmp : K → K → Ordering) (matching : K → K → Bool)
       shut_framed : (t : Fabric K) (ms : List (Sent K)) → IsFrame s t ms → Shut ms t
       shut_framed t ms frame = (frame.closed k closed, frame.prints k closed.place closed.node closed.place_is closed.node_is)
 
-      shut_turn : (line : PlainLine K) → HasFirstIds line → entry_of cmp matching is_built line s ≢ Err refusal.IdsSpent → IsTreeFabric (After line) → ((before after : Fabric K) → disturbs cmp matching k id i (record { line = line; entry = entry_of cmp matching is_built line s; before = before; after = after }) ≡ false) → Turned (Entry line) (After line)
+      shut_turn : (line : PlainLine K) → HasFirstIds line → entry_of cmp matching line s ≢ Err refusal.IdsSpent → IsTreeFabric (After line) → ((before after : Fabric K) → disturbs cmp matching k id i (record { line = line; entry = entry_of cmp matching line s; before = before; after = after }) ≡ false) → Turned (Entry line) (After line)
       shut_turn line real other trees calm =
-          let shut = every_line cmp matching total equal_is_same s fine agree i k id Shut (closed_dropped cmp matching total equal_is_same s fine agree k closed) shut_calls shut_framed is_built line real other trees calm in
+          let shut = every_line cmp matching total equal_is_same s fine agree i k id Shut (closed_dropped cmp matching total equal_is_same s fine agree k closed) shut_calls shut_framed line real other trees calm in
           inr (inr shut.0, subst (Each (IsNoFinal id)) (sym shut.1) tt)
 
     -- ---- a plain face
@@ -87,12 +87,12 @@ module _ {K : Type 0} (cmp : K → K → Ordering) (matching : K → K → Bool)
           let none_ = frame.prints k th.place th.node th.place_is (ap (λ g. nth g s.gateways) th.gateway_is ∙ th.node_is) in
           inr (inl (frame.plain k th.place th.place_is plain, pursued_framed cmp matching e i s t agree ms frame k id q way up top pursued lives), subst (Each (IsNoFinal id)) (sym none_) tt)
 
-      going_turn : (line : PlainLine K) → HasFirstIds line → entry_of cmp matching is_built line s ≢ Err refusal.IdsSpent → IsTreeFabric (After line) → ((before after : Fabric K) → disturbs cmp matching k id i (record { line = line; entry = entry_of cmp matching is_built line s; before = before; after = after }) ≡ false) → Turns (Entry line) (After line)
-      going_turn line real other trees calm = every_line cmp matching total equal_is_same s fine agree i k id Turns going_dropped going_calls going_framed is_built line real other trees calm
+      going_turn : (line : PlainLine K) → HasFirstIds line → entry_of cmp matching line s ≢ Err refusal.IdsSpent → IsTreeFabric (After line) → ((before after : Fabric K) → disturbs cmp matching k id i (record { line = line; entry = entry_of cmp matching line s; before = before; after = after }) ≡ false) → Turns (Entry line) (After line)
+      going_turn line real other trees calm = every_line cmp matching total equal_is_same s fine agree i k id Turns going_dropped going_calls going_framed line real other trees calm
 
     -- ---- either
 
-    pub one_turn : Stands s → (line : PlainLine K) → HasFirstIds line → entry_of cmp matching is_built line s ≢ Err refusal.IdsSpent → IsTreeFabric (After line)
-        → ((before after : Fabric K) → disturbs cmp matching k id i (record { line = line; entry = entry_of cmp matching is_built line s; before = before; after = after }) ≡ false) → Turns (Entry line) (After line)
+    pub one_turn : Stands s → (line : PlainLine K) → HasFirstIds line → entry_of cmp matching line s ≢ Err refusal.IdsSpent → IsTreeFabric (After line)
+        → ((before after : Fabric K) → disturbs cmp matching k id i (record { line = line; entry = entry_of cmp matching line s; before = before; after = after }) ≡ false) → Turns (Entry line) (After line)
     one_turn stands line real other trees calm =
         ⊎_elim (λ p. going_turn p.0 p.1 line real other trees calm) (λ closed order lives. shut_turn closed line real other trees calm) stands

@@ -3,13 +3,12 @@
 //! `specs/Ways.antt` has the words for ways up a tree, `specs/Steady.antt` those for what messages leave as it is.
 #![tactic(auto)]
 
-ghost use Rattle.std.specs.Prelude.{◌≡◌, Bool, List};
+ghost use Rattle.std.specs.Prelude.{◌≡◌, List};
 ghost use Rattle.zt_protocol.specs.Plain.{PlainLine};
-ghost use Rattle.zt_model.specs.Fabric.{Fabric, empty_fabric, entries_from};
-ghost use Rattle.zt_model.specs.Promises.{turns_from};
+ghost use Rattle.zt_model.specs.Fabric.{Fabric, empty_fabric};
 ghost use Rattle.zt_model.specs.Transcript.{Each};
 ghost use Rattle.zt_model.specs.TreePromises.{GetsWhatStays, IsTreeFabric, IsTreeTurn, KeepTreePromises};
-ghost use Rattle.zt_laws.specs.Shown.{as_shown};
+ghost use Rattle.zt_laws.specs.Shown.{turns_of};
 ghost use Rattle.zt_laws.specs.Sound.{HasFirstIds};
 ghost use Rattle.zt_kept.specs.Lines.{EachGatewayIs};
 ghost use Rattle.zt_kept.specs.Sound.{IsSound};
@@ -22,12 +21,13 @@ use zt_keys::Key;
 /// expression that one plain face of its tree has live from the asking to the final. So it is from the empty fabric on, and
 /// from each that is sound and of trees that agree.
 pub fn asks_get_what_stays<K: Key>()
-    ensures start { (is_built : PlainLine K → Bool) (lines : List (PlainLine K)) → Each HasFirstIds lines
-        → (let turns = turns_from K.cmp K.matching lines (entries_from K.cmp K.matching is_built lines empty_fabric) empty_fabric in
+    ensures start { (lines : List (PlainLine K)) → Each HasFirstIds lines
+        → (let turns = turns_of K.cmp K.matching lines empty_fabric in
         Each (IsTreeTurn K.cmp K.matching) turns → GetsWhatStays K.cmp K.matching turns) }
-    ensures later { (is_built : PlainLine K → Bool) (lines : List (PlainLine K)) (s : Fabric K) → Each HasFirstIds lines
-        → EachGatewayIs K.cmp K.matching (IsSound K.cmp K.matching) s → TreesAgree K.cmp K.matching s → IsTreeFabric s
-        → (let turns = turns_from K.cmp K.matching lines (entries_from K.cmp K.matching is_built lines s) (as_shown s) in
+    ensures later { (lines : List (PlainLine K)) (s : Fabric K) → Each HasFirstIds lines
+        → EachGatewayIs K.cmp K.matching (IsSound K.cmp K.matching) s
+        → TreesAgree K.cmp K.matching s → IsTreeFabric s
+        → (let turns = turns_of K.cmp K.matching lines s in
         Each (IsTreeTurn K.cmp K.matching) turns → GetsWhatStays K.cmp K.matching turns) }
 {}
 
@@ -35,9 +35,10 @@ pub fn asks_get_what_stays<K: Key>()
 /// that asked for now and later know their tree wherever nothing waits, and asks get what stays and only what was. So it is
 /// from the empty fabric on, and from each that is sound and of trees that agree.
 pub fn trees_keep_their_promises<K: Key>()
-    ensures start { (is_built : PlainLine K → Bool) (lines : List (PlainLine K)) → Each HasFirstIds lines
-        → KeepTreePromises K.cmp K.matching (turns_from K.cmp K.matching lines (entries_from K.cmp K.matching is_built lines empty_fabric) empty_fabric) }
-    ensures later { (is_built : PlainLine K → Bool) (lines : List (PlainLine K)) (s : Fabric K) → Each HasFirstIds lines
-        → EachGatewayIs K.cmp K.matching (IsSound K.cmp K.matching) s → TreesAgree K.cmp K.matching s → IsTreeFabric s
-        → KeepTreePromises K.cmp K.matching (turns_from K.cmp K.matching lines (entries_from K.cmp K.matching is_built lines s) (as_shown s)) }
+    ensures start { (lines : List (PlainLine K)) → Each HasFirstIds lines
+        → KeepTreePromises K.cmp K.matching (turns_of K.cmp K.matching lines empty_fabric) }
+    ensures later { (lines : List (PlainLine K)) (s : Fabric K) → Each HasFirstIds lines
+        → EachGatewayIs K.cmp K.matching (IsSound K.cmp K.matching) s
+        → TreesAgree K.cmp K.matching s → IsTreeFabric s
+        → KeepTreePromises K.cmp K.matching (turns_of K.cmp K.matching lines s) }
 {}

@@ -177,25 +177,25 @@ module _ {K : Type 0} (cmp : K → K → Ordering) (matching : K → K → Bool)
 
     -- ---- turns
 
-    module _ (is_built : PlainLine K → Bool) (face id : ℕ) (interest : InterestRow K) where
+    module _ (face id : ℕ) (interest : InterestRow K) where
       -- a line that doesn't disturb the ask is no accepted unlinking
       calm_leaves : (line : PlainLine K) (s : Fabric K) (sound : SoundFabric cmp matching total equal_is_same s) (agree : TreesAgree cmp matching s) (trees : IsTreeFabric s) (Q : K → Type 0) (all : Everywhere Q s) (before after : Fabric K)
-          → disturbs cmp matching face id interest (record { line = line; entry = entry_of cmp matching is_built line s; before = before; after = after }) ≡ false → HasFirstIds line → IsTreeFabric (fabric_after cmp matching line (entry_of cmp matching is_built line s) s)
-          → Leaves cmp matching total equal_is_same s sound.order agree trees Q all (messages_of (entry_of cmp matching is_built line s)) (fabric_after cmp matching line (entry_of cmp matching is_built line s) s)
+          → disturbs cmp matching face id interest (record { line = line; entry = entry_of cmp matching line s; before = before; after = after }) ≡ false → HasFirstIds line → IsTreeFabric (fabric_after cmp matching line (entry_of cmp matching line s) s)
+          → Leaves cmp matching total equal_is_same s sound.order agree trees Q all (messages_of (entry_of cmp matching line s)) (fabric_after cmp matching line (entry_of cmp matching line s) s)
       unfolding fabric_after
-      calm_leaves (Unlink n) s sound agree trees Q all before after calm real now_ = refused (entry_of cmp matching is_built (Unlink n) s) calm
+      calm_leaves (Unlink n) s sound agree trees Q all before after calm real now_ = refused (entry_of cmp matching (Unlink n) s) calm
         where
           refused : (e : PlainEntry K) → (is_accepted e && true) ≡ false → Leaves cmp matching total equal_is_same s sound.order agree trees Q all (messages_of e) (fabric_after cmp matching (Unlink n) e s)
           refused (Ok ms) h = never refl h
           refused (Err r) h = (everywhere_weaker Q (OrLive cmp matching Q s) (λ e own. inl own) s all, tt)
-      calm_leaves (Step n back) s sound agree trees Q all before after calm real now_ = line_leaves cmp matching total equal_is_same s sound.order agree trees Q all is_built (Step n back) refl real now_
-      calm_leaves (Speak call) s sound agree trees Q all before after calm real now_ = line_leaves cmp matching total equal_is_same s sound.order agree trees Q all is_built (Speak call) refl real now_
-      calm_leaves (Moment n now) s sound agree trees Q all before after calm real now_ = line_leaves cmp matching total equal_is_same s sound.order agree trees Q all is_built (Moment n now) refl real now_
-      calm_leaves (SetTreesAt n region t) s sound agree trees Q all before after calm real now_ = line_leaves cmp matching total equal_is_same s sound.order agree trees Q all is_built (SetTreesAt n region t) refl real now_
-      calm_leaves (Gateway mode zid regions south name timeout refused) s sound agree trees Q all before after calm real now_ = line_leaves cmp matching total equal_is_same s sound.order agree trees Q all is_built (Gateway mode zid regions south name timeout refused) refl real now_
-      calm_leaves (Session n first) s sound agree trees Q all before after calm real now_ = line_leaves cmp matching total equal_is_same s sound.order agree trees Q all is_built (Session n first) refl real now_
-      calm_leaves (FaceLine n mode zid region bound first) s sound agree trees Q all before after calm real now_ = line_leaves cmp matching total equal_is_same s sound.order agree trees Q all is_built (FaceLine n mode zid region bound first) refl real now_
-      calm_leaves (LinkLine one two first back) s sound agree trees Q all before after calm real now_ = line_leaves cmp matching total equal_is_same s sound.order agree trees Q all is_built (LinkLine one two first back) refl real now_
+      calm_leaves (Step n back) s sound agree trees Q all before after calm real now_ = line_leaves cmp matching total equal_is_same s sound.order agree trees Q all (Step n back) refl real now_
+      calm_leaves (Speak call) s sound agree trees Q all before after calm real now_ = line_leaves cmp matching total equal_is_same s sound.order agree trees Q all (Speak call) refl real now_
+      calm_leaves (Moment n now) s sound agree trees Q all before after calm real now_ = line_leaves cmp matching total equal_is_same s sound.order agree trees Q all (Moment n now) refl real now_
+      calm_leaves (SetTreesAt n region t) s sound agree trees Q all before after calm real now_ = line_leaves cmp matching total equal_is_same s sound.order agree trees Q all (SetTreesAt n region t) refl real now_
+      calm_leaves (Gateway mode zid regions south name timeout refused) s sound agree trees Q all before after calm real now_ = line_leaves cmp matching total equal_is_same s sound.order agree trees Q all (Gateway mode zid regions south name timeout refused) refl real now_
+      calm_leaves (Session n first) s sound agree trees Q all before after calm real now_ = line_leaves cmp matching total equal_is_same s sound.order agree trees Q all (Session n first) refl real now_
+      calm_leaves (FaceLine n mode zid region bound first) s sound agree trees Q all before after calm real now_ = line_leaves cmp matching total equal_is_same s sound.order agree trees Q all (FaceLine n mode zid region bound first) refl real now_
+      calm_leaves (LinkLine one two first back) s sound agree trees Q all before after calm real now_ = line_leaves cmp matching total equal_is_same s sound.order agree trees Q all (LinkLine one two first back) refl real now_
 
       abbrev Calm : Turn K → Type 0
       Calm t = disturbs cmp matching face id interest t ≡ false
@@ -207,13 +207,13 @@ module _ {K : Type 0} (cmp : K → K → Ordering) (matching : K → K → Bool)
       Closed Q t = (e : K) → LiveAt cmp matching t.after e → Q e
 
       abbrev TurnsOf : List (PlainLine K) → Fabric K → Fabric K → List (Turn K)
-      TurnsOf lines s shown = turns_from cmp matching lines (entries_from cmp matching is_built lines s) shown
+      TurnsOf lines s shown = turns_from cmp matching lines (entries_from cmp matching lines s) shown
 
       abbrev TurnOf : PlainLine K → Fabric K → Turn K
-      TurnOf line s = record { line = line; entry = entry_of cmp matching is_built line s; before = as_shown s; after = fabric_shown cmp matching line (entry_of cmp matching is_built line s) (as_shown s) }
+      TurnOf line s = record { line = line; entry = entry_of cmp matching line s; before = as_shown s; after = fabric_shown cmp matching line (entry_of cmp matching line s) (as_shown s) }
 
       abbrev Next : PlainLine K → Fabric K → Fabric K
-      Next line s = fabric_after cmp matching line (entry_of cmp matching is_built line s) s
+      Next line s = fabric_after cmp matching line (entry_of cmp matching line s) s
 
       -- from tokens of a kind on, answers are of the kind, where what becomes live is too
       goes : (lines : List (PlainLine K)) (s : Fabric K) → Each HasFirstIds lines → SoundFabric cmp matching total equal_is_same s → TreesAgree cmp matching s → IsTreeFabric s → (Q : K → Type 0) → Everywhere Q s
@@ -225,19 +225,19 @@ module _ {K : Type 0} (cmp : K → K → Ordering) (matching : K → K → Bool)
       goes [] s real sound agree trees_s Q all (t ∷ ts) ending later = λ is trees closed calm. cc
       goes (line ∷ lines) s real sound agree trees_s Q all [] None later = λ is trees closed calm. tt
       goes (line ∷ lines) s real sound agree trees_s Q all [] (Some t) later = λ is trees closed calm.
-          let shown = fabric_is_shown cmp matching total is_built line s sound.order in
+          let shown = fabric_is_shown cmp matching total line s sound.order in
           let here : IsTreeFabric (Next line s) = tree_unshown cmp matching (Next line s) (subst IsTreeFabric shown trees.0.0) in
           let head_ : TurnOf line s ≡ t = heads is in
           let leaves = calm_leaves line s sound agree trees_s Q all (as_shown s) (TurnOf line s).after (subst Calm (sym head_) calm.0) real.0 here in
           (subst (Answers Q) head_ leaves.1, tt)
       goes (line ∷ lines) s real sound agree trees_s Q all (t ∷ ts) ending later = λ is trees closed calm.
           let next = Next line s in
-          let shown = fabric_is_shown cmp matching total is_built line s sound.order in
+          let shown = fabric_is_shown cmp matching total line s sound.order in
           let here : IsTreeFabric next = tree_unshown cmp matching next (subst IsTreeFabric shown trees.0.0) in
           let head_ : TurnOf line s ≡ t = heads is in
           let leaves = calm_leaves line s sound agree trees_s Q all (as_shown s) (TurnOf line s).after (subst Calm (sym head_) calm.0) real.0 here in
-          let sound_next = sound_after_line cmp matching total equal_is_same is_built line s real.0 sound in
-          let agree_next = trees_after_each cmp matching total equal_is_same is_built s sound.order agree line real.0 (not_spent cmp matching total equal_is_same (entry_of cmp matching is_built line s) trees.0.1) here in
+          let sound_next = sound_after_line cmp matching total equal_is_same line s real.0 sound in
+          let agree_next = trees_after_each cmp matching total equal_is_same s sound.order agree line real.0 (not_spent cmp matching total equal_is_same (entry_of cmp matching line s) trees.0.1) here in
           let closed_ : (e : K) → LiveAt cmp matching (as_shown next) e → Q e = subst (λ (u : Fabric K). (e : K) → LiveAt cmp matching u e → Q e) shown (subst (Closed Q) (sym head_) closed.0) in
           let all_next : Everywhere Q next = everywhere_weaker (OrLive cmp matching Q next) Q (λ e own. ⊎_elim (λ q. q) (λ live. closed_ e (shown_live next e live)) own) next leaves.0 in (
             subst (Answers Q) head_ leaves.1,
@@ -250,15 +250,15 @@ module _ {K : Type 0} (cmp : K → K → Ordering) (matching : K → K → Bool)
 
       -- the asking itself
       at_ask : (n i : ℕ) (mode : InterestMode) (options : InterestOptions) (ex : Option K) (s : Fabric K) (sound : SoundFabric cmp matching total equal_is_same s) (agree : TreesAgree cmp matching s) (trees_s : IsTreeFabric s) → are_links_empty s ≡ true
-          → (let line : PlainLine K = Speak (Interest n i mode options ex) in HasFirstIds line → IsTreeFabric (Next line s) → Everywhere (LiveAt cmp matching (Next line s)) (Next line s) × AnswersIn cmp matching (LiveAt cmp matching (Next line s)) (messages_of (entry_of cmp matching is_built line s)))
+          → (let line : PlainLine K = Speak (Interest n i mode options ex) in HasFirstIds line → IsTreeFabric (Next line s) → Everywhere (LiveAt cmp matching (Next line s)) (Next line s) × AnswersIn cmp matching (LiveAt cmp matching (Next line s)) (messages_of (entry_of cmp matching line s)))
       at_ask n i mode options ex s sound agree trees_s quiet = λ real now_.
           let line : PlainLine K = Speak (Interest n i mode options ex) in
           let next = Next line s in
           let L = LiveAt cmp matching next in
-          let leaves = line_leaves cmp matching total equal_is_same s sound.order agree trees_s (LiveAt cmp matching s) (quiet_everywhere s sound agree trees_s quiet) is_built line refl real now_ in
-          let stay : (e : K) → LiveAt cmp matching s e → L e = asks_stay cmp matching total equal_is_same s sound.order agree trees_s is_built n i mode options ex in (
+          let leaves = line_leaves cmp matching total equal_is_same s sound.order agree trees_s (LiveAt cmp matching s) (quiet_everywhere s sound agree trees_s quiet) line refl real now_ in
+          let stay : (e : K) → LiveAt cmp matching s e → L e = asks_stay cmp matching total equal_is_same s sound.order agree trees_s n i mode options ex in (
             everywhere_weaker (OrLive cmp matching (LiveAt cmp matching s) next) L (λ e own. ⊎_elim (stay e) (λ live. live) own) next leaves.0,
-            answers_weaker (LiveAt cmp matching s) L stay (messages_of (entry_of cmp matching is_built line s)) leaves.1,
+            answers_weaker (LiveAt cmp matching s) L stay (messages_of (entry_of cmp matching line s)) leaves.1,
           )
 
       asked : (lines : List (PlainLine K)) (s : Fabric K) → Each HasFirstIds lines → SoundFabric cmp matching total equal_is_same s → TreesAgree cmp matching s → IsTreeFabric s
@@ -271,37 +271,37 @@ module _ {K : Type 0} (cmp : K → K → Ordering) (matching : K → K → Bool)
       asked (line ∷ lines) s real sound agree trees_s [] asking between ending later = λ is trees made quiet calm.
           let next = Next line s in
           let Q = Was (asking ∷ between) in
-          let shown = fabric_is_shown cmp matching total is_built line s sound.order in
+          let shown = fabric_is_shown cmp matching total line s sound.order in
           let here : IsTreeFabric next = tree_unshown cmp matching next (subst IsTreeFabric shown trees.0.0) in
           let head_ : TurnOf line s ≡ asking = heads is in
           let line_is : line ≡ Speak (Interest face id interest.mode made.options interest.expr) = ap (λ (t : Turn K). t.line) head_ ∙ made.line in
           let quiet_ : are_links_empty s ≡ true = ap (λ (t : Turn K). are_links_empty t.before) head_ ∙ quiet in
           let at_ =
-          subst (λ (l : PlainLine K). HasFirstIds l → IsTreeFabric (Next l s) → Everywhere (LiveAt cmp matching (Next l s)) (Next l s) × AnswersIn cmp matching (LiveAt cmp matching (Next l s)) (messages_of (entry_of cmp matching is_built l s))) (sym line_is)
+          subst (λ (l : PlainLine K). HasFirstIds l → IsTreeFabric (Next l s) → Everywhere (LiveAt cmp matching (Next l s)) (Next l s) × AnswersIn cmp matching (LiveAt cmp matching (Next l s)) (messages_of (entry_of cmp matching l s))) (sym line_is)
           (at_ask face id interest.mode made.options interest.expr s sound agree trees_s quiet_) real.0 here in
           let after_ : as_shown next ≡ asking.after = sym shown ∙ ap (λ (t : Turn K). t.after) head_ in
           let was : (e : K) → LiveAt cmp matching next e → Q e = λ e live. let l = subst (λ (u : Fabric K). LiveAt cmp matching u e) after_ (shown_live next e live) in (asking, l.0, Here between, l.1) in
-          let sound_next = sound_after_line cmp matching total equal_is_same is_built line s real.0 sound in
-          let agree_next = trees_after_each cmp matching total equal_is_same is_built s sound.order agree line real.0 (not_spent cmp matching total equal_is_same (entry_of cmp matching is_built line s) trees.0.1) here in (
-            subst (Answers Q) head_ (answers_weaker (LiveAt cmp matching next) Q was (messages_of (entry_of cmp matching is_built line s)) at_.1),
+          let sound_next = sound_after_line cmp matching total equal_is_same line s real.0 sound in
+          let agree_next = trees_after_each cmp matching total equal_is_same s sound.order agree line real.0 (not_spent cmp matching total equal_is_same (entry_of cmp matching line s) trees.0.1) here in (
+            subst (Answers Q) head_ (answers_weaker (LiveAt cmp matching next) Q was (messages_of (entry_of cmp matching line s)) at_.1),
             goes lines next real.1 sound_next agree_next here Q (everywhere_weaker (LiveAt cmp matching next) Q was next at_.0) between ending later (subst (λ (u : Fabric K). TurnsOf lines next u ≡ between ++ option_to_list ending ++ later) shown (tails is)) (subst (λ (u : Fabric K). Each (IsTreeTurn cmp matching) (TurnsOf lines next u)) shown trees.1)
                 (each_of_members (Closed Q) between (λ t member e live. (t, live.0, There asking between member, live.1))) calm,
           )
       asked (line ∷ lines) s real sound agree trees_s (t ∷ ts) asking between ending later = λ is trees made quiet calm.
           let next = Next line s in
-          let shown = fabric_is_shown cmp matching total is_built line s sound.order in
+          let shown = fabric_is_shown cmp matching total line s sound.order in
           let here : IsTreeFabric next = tree_unshown cmp matching next (subst IsTreeFabric shown trees.0.0) in
-          let sound_next = sound_after_line cmp matching total equal_is_same is_built line s real.0 sound in
-          let agree_next = trees_after_each cmp matching total equal_is_same is_built s sound.order agree line real.0 (not_spent cmp matching total equal_is_same (entry_of cmp matching is_built line s) trees.0.1) here in
+          let sound_next = sound_after_line cmp matching total equal_is_same line s real.0 sound in
+          let agree_next = trees_after_each cmp matching total equal_is_same s sound.order agree line real.0 (not_spent cmp matching total equal_is_same (entry_of cmp matching line s) trees.0.1) here in
           asked lines next real.1 sound_next agree_next here ts asking between ending later (subst (λ (u : Fabric K). TurnsOf lines next u ≡ ts ++ asking ∷ between ++ option_to_list ending ++ later) shown (tails is)) (subst (λ (u : Fabric K). Each (IsTreeTurn cmp matching) (TurnsOf lines next u)) shown trees.1) made quiet calm
 
     -- An ask is answered only what was live at a plain face since.
-    pub gets_only : (is_built : PlainLine K → Bool) (lines : List (PlainLine K)) (s : Fabric K) → Each HasFirstIds lines → SoundFabric cmp matching total equal_is_same s → TreesAgree cmp matching s → IsTreeFabric s
-        → (let turns = turns_from cmp matching lines (entries_from cmp matching is_built lines s) (as_shown s) in Each (IsTreeTurn cmp matching) turns → GetsOnlyWhatWas cmp matching turns)
-    gets_only is_built lines s real sound agree trees_s = λ trees a e answered.
-        let Q = Was is_built a.face a.id a.interest (a.asking ∷ a.between) in
+    pub gets_only : (lines : List (PlainLine K)) (s : Fabric K) → Each HasFirstIds lines → SoundFabric cmp matching total equal_is_same s → TreesAgree cmp matching s → IsTreeFabric s
+        → (let turns = turns_from cmp matching lines (entries_from cmp matching lines s) (as_shown s) in Each (IsTreeTurn cmp matching) turns → GetsOnlyWhatWas cmp matching turns)
+    gets_only lines s real sound agree trees_s = λ trees a e answered.
+        let Q = Was a.face a.id a.interest (a.asking ∷ a.between) in
         let calm = none_each (disturbs cmp matching a.face a.id a.interest) (a.asking ∷ a.between ++ option_to_list a.ending) a.undisturbed in
-        let all = asked is_built a.face a.id a.interest lines s real sound agree trees_s a.earlier a.asking a.between a.ending a.later a.turns_are trees a.made a.quiet calm.1 in
+        let all = asked a.face a.id a.interest lines s real sound agree trees_s a.earlier a.asking a.between a.ending a.later a.turns_are trees a.made a.quiet calm.1 in
         any_member (λ t. AnswersIn cmp matching Q (printed t)) (λ t. is_among cmp e (answers_of_turn cmp matching a.face a.id t)) (a.asking ∷ a.between ++ option_to_list a.ending) all answered
         (λ t own among.
         any_member Q (same cmp e) (answers_of_turn cmp matching a.face a.id t) (answers_each Q a.face a.id (printed t) own) among

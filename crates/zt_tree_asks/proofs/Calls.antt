@@ -17,7 +17,7 @@ use Rattle.zt_protocol.specs.declared.entries.Sent.{Sent}
 use Rattle.zt_protocol.specs.declared.errors.Refusal.{Refusal}
 use Rattle.zt_protocol.specs.declared.messages.Message.{Message}
 use Rattle.zt_protocol.specs.declared.messages.Message.TheVariants as message
-use Rattle.zt_model.specs.Fabric.{CallAt, Fabric, Node, Place, after_hearing, after_refusal, altered_by_line, at_nth, built_causes, call_of, entry_by, entry_of, fabric_after, is_linked_face, line_causes, line_spends_ids, new_rows, number_of_place, opened_at, printed_message, said_at, said_by_line, sorted_by_face, with_gateway, with_place, with_rows, with_session, with_waiting}
+use Rattle.zt_model.specs.Fabric.{CallAt, Fabric, Node, Place, after_hearing, after_refusal, altered_by_line, at_nth, line_causes, call_of, entry_by, entry_of, fabric_after, is_linked_face, line_causes, line_spends_ids, new_rows, number_of_place, opened_at, printed_message, said_at, said_by_line, sorted_by_face, with_gateway, with_place, with_rows, with_session, with_waiting}
 use Rattle.zt_model.specs.Hearing.{heard_all, messages_for}
 use Rattle.zt_model.specs.Linking.{is_end_of}
 use Rattle.zt_model.specs.Lists.{is_some_and, nth, same}
@@ -231,9 +231,9 @@ module _ {K : Type 0} (cmp : K → K → Ordering) (matching : K → K → Bool)
         token_then spent j node at_j (SetEntities n subscribers queryables) accepted comes w = tt
 
     -- A call or a step: answers of the kind, and tokens of it or live.
-    call_leaves : (is_built : PlainLine K → Bool) (line : PlainLine K) → LineSaid cmp matching total equal_is_same s fine agree Comes line → is_call_or_step line ≡ true → Leaves (messages_of (entry_of cmp matching is_built line s)) (fabric_after cmp matching line (entry_of cmp matching is_built line s) s)
-    call_leaves is_built line comes leaves =
-        stand_after cmp matching total equal_is_same s fine agree Comes Leaves (everywhere_weaker Q (OrLive Q s) (λ e own. inl own) s all, tt) (λ w waits less. waiting_less w less) calls_leave is_built line comes leaves
+    call_leaves : (line : PlainLine K) → LineSaid cmp matching total equal_is_same s fine agree Comes line → is_call_or_step line ≡ true → Leaves (messages_of (entry_of cmp matching line s)) (fabric_after cmp matching line (entry_of cmp matching line s) s)
+    call_leaves line comes leaves =
+        stand_after cmp matching total equal_is_same s fine agree Comes Leaves (everywhere_weaker Q (OrLive Q s) (λ e own. inl own) s all, tt) (λ w waits less. waiting_less w less) calls_leave line comes leaves
 
     -- the calls of a line are so
     comes_by_message : (m : Message K) → TokenIn Q m → MessageSaid cmp matching total equal_is_same s fine agree Comes m
@@ -307,8 +307,8 @@ module _ {K : Type 0} (cmp : K → K → Ordering) (matching : K → K → Bool)
         subst (Leaves ms) (sym (opened_is cmp matching total s fine agree n node at_n c opens ms prints))
         (made_in ms (after_opened cmp matching total s fine agree n node at_n c opens ms prints) (record { gateways = turned_in cmp matching Q n node c s at_n (opening_in node.rows c opens) all; waiting = added_in Q ms s.waiting in_ all.waiting }) in_)
 
-    session_leaves : (spent : Bool) (n first : ℕ) → first_cause (built_causes cmp matching spent (Session n first) s) ≡ None → ThenLeaves (Session n first)
-    unfolding built_causes call_of said_by_line altered_by_line parts_of said_by altered_by sorted_by_face
+    session_leaves : (spent : Bool) (n first : ℕ) → first_cause (line_causes cmp matching spent (Session n first) s) ≡ None → ThenLeaves (Session n first)
+    unfolding line_causes call_of said_by_line altered_by_line parts_of said_by altered_by sorted_by_face
     session_leaves spent n first accepted = cases (nth n s.gateways) refl (no_cause _ _ _ accepted).0
       where
         G : Option (CallAt K) → Type 0
@@ -351,37 +351,37 @@ module _ {K : Type 0} (cmp : K → K → Ordering) (matching : K → K → Bool)
 
     -- ---- every line but an unlinking
 
-    abbrev After : (PlainLine K → Bool) → PlainLine K → Fabric K
-    After is_built line = fabric_after cmp matching line (entry_of cmp matching is_built line s) s
+    abbrev After : PlainLine K → Fabric K
+    After line = fabric_after cmp matching line (entry_of cmp matching line s) s
 
     itself : Leaves [] s
     itself = (everywhere_weaker Q (OrLive Q s) (λ e own. inl own) s all, tt)
 
-    by_entry : (is_built : PlainLine K → Bool) (line : PlainLine K) → ((r : Refusal) → after_refusal cmp matching line r s ≡ s) → (first_cause (built_causes cmp matching (line_spends_ids cmp matching line s) line s) ≡ None → IsTreeFabric (Then line) → ThenLeaves line)
-        → IsTreeFabric (After is_built line) → Leaves (messages_of (entry_of cmp matching is_built line s)) (After is_built line)
+    by_entry : (line : PlainLine K) → ((r : Refusal) → after_refusal cmp matching line r s ≡ s) → (first_cause (line_causes cmp matching (line_spends_ids cmp matching line s) line s) ≡ None → IsTreeFabric (Then line) → ThenLeaves line)
+        → IsTreeFabric (After line) → Leaves (messages_of (entry_of cmp matching line s)) (After line)
     unfolding fabric_after entry_of
-    by_entry is_built line still accepted_ trees_ = cases (first_cause (line_causes cmp matching is_built (line_spends_ids cmp matching line s) line s)) refl trees_
+    by_entry line still accepted_ trees_ = cases (first_cause (line_causes cmp matching (line_spends_ids cmp matching line s) line s)) refl trees_
       where
         entry : Option Refusal → PlainEntry K
         entry o = entry_by cmp matching o (sorted_by_face (said_by_line cmp matching line s))
 
-        cases : (o : Option Refusal) → first_cause (line_causes cmp matching is_built (line_spends_ids cmp matching line s) line s) ≡ o → IsTreeFabric (fabric_after cmp matching line (entry o) s) → Leaves (messages_of (entry o)) (fabric_after cmp matching line (entry o) s)
-        cases None accepted now_ = accepted_ (no_cause _ _ _ accepted).1 now_
+        cases : (o : Option Refusal) → first_cause (line_causes cmp matching (line_spends_ids cmp matching line s) line s) ≡ o → IsTreeFabric (fabric_after cmp matching line (entry o) s) → Leaves (messages_of (entry o)) (fabric_after cmp matching line (entry o) s)
+        cases None accepted now_ = accepted_ accepted now_
         cases (Some r) refused now_ = subst (Leaves []) (sym (still r)) itself
 
     abbrev pub is_no_unlink : PlainLine K → Bool
     is_no_unlink (Unlink n) = false
     is_no_unlink _ = true
 
-    pub line_leaves : (is_built : PlainLine K → Bool) (line : PlainLine K) → is_no_unlink line ≡ true → HasFirstIds line → IsTreeFabric (After is_built line) → Leaves (messages_of (entry_of cmp matching is_built line s)) (After is_built line)
-    line_leaves is_built (Step n back) no_ real now_ = call_leaves is_built (Step n back) (comes_by_line (Step n back)) refl
-    line_leaves is_built (Speak call) no_ real now_ = call_leaves is_built (Speak call) (comes_by_line (Speak call)) refl
-    line_leaves is_built (Moment n now) no_ real now_ = call_leaves is_built (Moment n now) tt refl
-    line_leaves is_built (SetTreesAt n region t) no_ real now_ = call_leaves is_built (SetTreesAt n region t) tt refl
-    line_leaves is_built (Gateway mode zid regions south name timeout refused) no_ real now_ = by_entry is_built (Gateway mode zid regions south name timeout refused) (λ r. refl) (λ accepted _. gateway_leaves mode zid regions south name timeout refused) now_
-    line_leaves is_built (Session n first) no_ real now_ = by_entry is_built (Session n first) (λ r. refl) (λ accepted _. session_leaves (line_spends_ids cmp matching (Session n first) s) n first accepted) now_
-    line_leaves is_built (FaceLine n mode zid region bound first) no_ real now_ = by_entry is_built (FaceLine n mode zid region bound first) (λ r. refl) (λ accepted _. face_leaves n mode zid region bound first) now_
-    line_leaves is_built (LinkLine one two first back) no_ real now_ =
-        by_entry is_built (LinkLine one two first back) (λ r. refl)
+    pub line_leaves : (line : PlainLine K) → is_no_unlink line ≡ true → HasFirstIds line → IsTreeFabric (After line) → Leaves (messages_of (entry_of cmp matching line s)) (After line)
+    line_leaves (Step n back) no_ real now_ = call_leaves (Step n back) (comes_by_line (Step n back)) refl
+    line_leaves (Speak call) no_ real now_ = call_leaves (Speak call) (comes_by_line (Speak call)) refl
+    line_leaves (Moment n now) no_ real now_ = call_leaves (Moment n now) tt refl
+    line_leaves (SetTreesAt n region t) no_ real now_ = call_leaves (SetTreesAt n region t) tt refl
+    line_leaves (Gateway mode zid regions south name timeout refused) no_ real now_ = by_entry (Gateway mode zid regions south name timeout refused) (λ r. refl) (λ accepted _. gateway_leaves mode zid regions south name timeout refused) now_
+    line_leaves (Session n first) no_ real now_ = by_entry (Session n first) (λ r. refl) (λ accepted _. session_leaves (line_spends_ids cmp matching (Session n first) s) n first accepted) now_
+    line_leaves (FaceLine n mode zid region bound first) no_ real now_ = by_entry (FaceLine n mode zid region bound first) (λ r. refl) (λ accepted _. face_leaves n mode zid region bound first) now_
+    line_leaves (LinkLine one two first back) no_ real now_ =
+        by_entry (LinkLine one two first back) (λ r. refl)
         (λ accepted then_. link_leaves (LinkLine one two first back) (link_comes_to cmp matching total equal_is_same s fine agree one two first back real.0 real.1 (line_spends_ids cmp matching (LinkLine one two first back) s) accepted then_)) now_
-    line_leaves is_built (Unlink n) no_ real now_ = never no_ refl
+    line_leaves (Unlink n) no_ real now_ = never no_ refl

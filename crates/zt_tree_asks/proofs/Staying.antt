@@ -161,7 +161,7 @@ module _ {K : Type 0} (cmp : K → K → Ordering) (matching : K → K → Bool)
   unfolding face_numbered
   waiting_stays w e live = live
 
-  pub asks_stay : (is_built : PlainLine K → Bool) (n id : ℕ) (mode : InterestMode) (options : InterestOptions) (ex : Option K) (e : K) → LiveAt cmp matching s e
-      → (let line : PlainLine K = Speak (Interest n id mode options ex) in LiveAt cmp matching (fabric_after cmp matching line (entry_of cmp matching is_built line s) s) e)
-  asks_stay is_built n id mode options ex =
-      stand_after cmp matching total equal_is_same s fine agree Asks Stays (λ e live. live) (λ w waits less. waiting_stays w) calls_stay is_built (Speak (Interest n id mode options ex)) (λ place k is at_ plain. (k, at_, plain)) refl
+  pub asks_stay : (n id : ℕ) (mode : InterestMode) (options : InterestOptions) (ex : Option K) (e : K) → LiveAt cmp matching s e
+      → (let line : PlainLine K = Speak (Interest n id mode options ex) in LiveAt cmp matching (fabric_after cmp matching line (entry_of cmp matching line s) s) e)
+  asks_stay n id mode options ex =
+      stand_after cmp matching total equal_is_same s fine agree Asks Stays (λ e live. live) (λ w waits less. waiting_stays w) calls_stay (Speak (Interest n id mode options ex)) (λ place k is at_ plain. (k, at_, plain)) refl

@@ -4,13 +4,12 @@
 
 ghost use Rattle.std.specs.Prelude.{◌≡◌, Bool, true, List};
 ghost use Rattle.zt_protocol.specs.Plain.{PlainCall, PlainLine};
-ghost use Rattle.zt_model.specs.Fabric.{Fabric, empty_fabric, entries_from};
-ghost use Rattle.zt_model.specs.Promises.{turns_from};
+ghost use Rattle.zt_model.specs.Fabric.{Fabric, empty_fabric};
 ghost use Rattle.zt_model.specs.Transcript.{Each};
 ghost use Rattle.zt_model.specs.TreePromises.{GetsOnlyWhatWas, IsTreeFabric, IsTreeTurn};
 ghost use Rattle.zt_model.specs.Rows.{Rows};
 ghost use Rattle.zt_model.specs.Says.{said};
-ghost use Rattle.zt_laws.specs.Shown.{as_shown};
+ghost use Rattle.zt_laws.specs.Shown.{turns_of};
 ghost use Rattle.zt_laws.specs.Sound.{HasFirstIds, rows_after_call};
 ghost use Rattle.zt_kept.specs.Lines.{EachGatewayIs};
 ghost use Rattle.zt_kept.specs.Sound.{IsSound};
@@ -23,9 +22,11 @@ use zt_keys::Key;
 /// call too, each token that the call declares to a face is of that kind, and so are all rows that it leaves. A table that is
 /// set is to be of a region without faces.
 pub fn calls_declare_what_was_declared<K: Key>()
-    ensures said { (test : K → Bool) (c : PlainCall K) (g : Rows K) → CallIn (λ (e : K). test e ≡ true) g c → IsIn (λ (e : K). test e ≡ true) g
+    ensures said { (test : K → Bool) (c : PlainCall K) (g : Rows K)
+        → CallIn (λ (e : K). test e ≡ true) g c → IsIn (λ (e : K). test e ≡ true) g
         → SaysIn (λ (e : K). test e ≡ true) (said K.cmp K.matching c g) }
-    ensures rows { (test : K → Bool) (c : PlainCall K) (g : Rows K) → CallIn (λ (e : K). test e ≡ true) g c → IsIn (λ (e : K). test e ≡ true) g
+    ensures rows { (test : K → Bool) (c : PlainCall K) (g : Rows K)
+        → CallIn (λ (e : K). test e ≡ true) g c → IsIn (λ (e : K). test e ≡ true) g
         → IsIn (λ (e : K). test e ≡ true) (rows_after_call K.cmp K.matching c g) }
 {}
 
@@ -34,11 +35,12 @@ pub fn calls_declare_what_was_declared<K: Key>()
 /// expressions that were live at some plain face since the asking. So it is from the empty fabric on, and from each that is
 /// sound and of trees that agree.
 pub fn asks_get_only_what_was<K: Key>()
-    ensures start { (is_built : PlainLine K → Bool) (lines : List (PlainLine K)) → Each HasFirstIds lines
-        → (let turns = turns_from K.cmp K.matching lines (entries_from K.cmp K.matching is_built lines empty_fabric) empty_fabric in
+    ensures start { (lines : List (PlainLine K)) → Each HasFirstIds lines
+        → (let turns = turns_of K.cmp K.matching lines empty_fabric in
         Each (IsTreeTurn K.cmp K.matching) turns → GetsOnlyWhatWas K.cmp K.matching turns) }
-    ensures later { (is_built : PlainLine K → Bool) (lines : List (PlainLine K)) (s : Fabric K) → Each HasFirstIds lines
-        → EachGatewayIs K.cmp K.matching (IsSound K.cmp K.matching) s → TreesAgree K.cmp K.matching s → IsTreeFabric s
-        → (let turns = turns_from K.cmp K.matching lines (entries_from K.cmp K.matching is_built lines s) (as_shown s) in
+    ensures later { (lines : List (PlainLine K)) (s : Fabric K) → Each HasFirstIds lines
+        → EachGatewayIs K.cmp K.matching (IsSound K.cmp K.matching) s
+        → TreesAgree K.cmp K.matching s → IsTreeFabric s
+        → (let turns = turns_of K.cmp K.matching lines s in
         Each (IsTreeTurn K.cmp K.matching) turns → GetsOnlyWhatWas K.cmp K.matching turns) }
 {}

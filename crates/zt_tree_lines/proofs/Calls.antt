@@ -46,10 +46,10 @@ module _ {K : Type 0} (cmp : K → K → Ordering) (matching : K → K → Bool)
       agree.gateways
 
   -- A call or a step keeps all of it.
-  pub trees_after_call : (is_built : PlainLine K → Bool) (line : PlainLine K) → is_call_or_step line ≡ true → entry_of cmp matching is_built line s ≢ Err refusal.IdsSpent → TreesAgree cmp matching (fabric_after cmp matching line (entry_of cmp matching is_built line s) s)
-  trees_after_call is_built line leaves other =
-      trees_after_line cmp matching total equal_is_same s fine agree is_built line leaves other
-      (stand_after cmp matching total equal_is_same s fine agree (AnyCall cmp matching total equal_is_same s fine agree) (λ ms t. Gateways t) agree.gateways (λ w waits _. agree.gateways) gateways_calls is_built line (any_line cmp matching total equal_is_same s fine agree line) leaves)
+  pub trees_after_call : (line : PlainLine K) → is_call_or_step line ≡ true → entry_of cmp matching line s ≢ Err refusal.IdsSpent → TreesAgree cmp matching (fabric_after cmp matching line (entry_of cmp matching line s) s)
+  trees_after_call line leaves other =
+      trees_after_line cmp matching total equal_is_same s fine agree line leaves other
+      (stand_after cmp matching total equal_is_same s fine agree (AnyCall cmp matching total equal_is_same s fine agree) (λ ms t. Gateways t) agree.gateways (λ w waits _. agree.gateways) gateways_calls line (any_line cmp matching total equal_is_same s fine agree line) leaves)
 
   module _ (j k : ℕ) (node : Node K) (f : Face K) (at_j : nth j s.gateways ≡ Some node) (found : find_face k node.rows ≡ Some f) (apart : (a b : ℕ) (z : FaceAt K) → face_numbered s a ≡ Some z → are_joined s a b ≡ true → z.gateway ≡ j → k ≢ z.face.number) where
     abbrev closing : PlainCall K

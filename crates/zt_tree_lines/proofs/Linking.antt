@@ -17,7 +17,7 @@ use Rattle.zt_region.specs.South.{transient_region}
 use Rattle.zt_region.specs.Tables.{RegionAnswer, agreed_after}
 use Rattle.zt_protocol.specs.Plain.{NewTransport, PlainLine, Link as LinkLine}
 use Rattle.zt_protocol.specs.declared.errors.Refusal.TheVariants as refusal
-use Rattle.zt_model.specs.Fabric.{Fabric, Node, after_hearing, altered_by_line, built_causes, is_full, is_unknown_gateway, said_by_line, sorted_by_face, with_waiting}
+use Rattle.zt_model.specs.Fabric.{Fabric, Node, after_hearing, altered_by_line, line_causes, is_full, is_unknown_gateway, said_by_line, sorted_by_face, with_waiting}
 use Rattle.zt_model.specs.Linking.{LinkEnd, climbs_to, closes_loop, end_region, is_answer, is_end, is_refused_end, link_ends, peer_of}
 use Rattle.zt_model.specs.Lists.{nth}
 use Rattle.zt_model.specs.Refusals.{GREATEST_NUMBER, first_cause, is_north_taken}
@@ -223,8 +223,8 @@ module _ {K : Type 0} (cmp : K → K → Ordering) (matching : K → K → Bool)
         cases (Err e) given1 o2 given2 listed refused_ fitting free apart_ = never (ap refused given1) refused_.0
         cases (Ok x1) given1 (Err e) given2 listed refused_ fitting free apart_ = never (ap refused given2) refused_.1
 
-  both_after : (spent : Bool) → first_cause (built_causes cmp matching spent line s) ≡ None → IsTreeFabric Then → TreesAgree cmp matching Then × LinkIs cmp matching s Then (said_by_line cmp matching line s)
-  unfolding built_causes
+  both_after : (spent : Bool) → first_cause (line_causes cmp matching spent line s) ≡ None → IsTreeFabric Then → TreesAgree cmp matching Then × LinkIs cmp matching s Then (said_by_line cmp matching line s)
+  unfolding line_causes
   both_after spent accepted trees = cases (nth one s.gateways) refl (nth two s.gateways) refl
     where
       accepts : Accepts spent (link_ends s one two first back)
@@ -240,8 +240,8 @@ module _ {K : Type 0} (cmp : K → K → Ordering) (matching : K → K → Bool)
           accepted_link a b at_one at_two spent (subst (Accepts spent) ends_are accepts) trees
 
   -- An accepted link of a script of trees keeps all that is true of trees.
-  pub after_link : (spent : Bool) → first_cause (built_causes cmp matching spent line s) ≡ None → IsTreeFabric Then → TreesAgree cmp matching Then
+  pub after_link : (spent : Bool) → first_cause (line_causes cmp matching spent line s) ≡ None → IsTreeFabric Then → TreesAgree cmp matching Then
   after_link spent accepted trees = (both_after spent accepted trees).0
 
-  pub link_comes_to : (spent : Bool) → first_cause (built_causes cmp matching spent line s) ≡ None → IsTreeFabric Then → LinkIs cmp matching s Then (said_by_line cmp matching line s)
+  pub link_comes_to : (spent : Bool) → first_cause (line_causes cmp matching spent line s) ≡ None → IsTreeFabric Then → LinkIs cmp matching s Then (said_by_line cmp matching line s)
   link_comes_to spent accepted trees = (both_after spent accepted trees).1

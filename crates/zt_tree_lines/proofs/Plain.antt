@@ -17,7 +17,7 @@ use Rattle.zt_protocol.specs.Plain.{PlainCall, NewSession, NewTransport, PlainLi
 use Rattle.zt_protocol.specs.declared.entries.Sent.{Sent}
 use Rattle.zt_protocol.specs.declared.errors.Refusal.TheVariants as refusal
 use Rattle.zt_protocol.specs.declared.messages.Message.{Message}
-use Rattle.zt_model.specs.Fabric.{CallAt, Fabric, Node, Place, after_hearing, altered_by_line, built_causes, call_of, causes_of_call, is_full, new_rows, next_face, number_from, number_of_place, opened_at, said_at, said_by_line, sorted_by_face, with_gateway, with_place, with_session, with_waiting}
+use Rattle.zt_model.specs.Fabric.{CallAt, Fabric, Node, Place, after_hearing, altered_by_line, line_causes, call_of, causes_of_call, is_full, new_rows, next_face, number_from, number_of_place, opened_at, said_at, said_by_line, sorted_by_face, with_gateway, with_place, with_session, with_waiting}
 use Rattle.zt_model.specs.Hearing.{heard_all, messages_for, rows_heard}
 use Rattle.zt_model.specs.Linking.{is_end_of}
 use Rattle.zt_model.specs.Lists.{nth}
@@ -149,8 +149,8 @@ module _ {K : Type 0} (cmp : K → K → Ordering) (matching : K → K → Bool)
       subst (TreesAgree cmp matching) (sym (nothing_said (with_gateway node s)))
       (trees_after_gateway cmp matching total s fine agree node refl (record { faces = tt; one_north = omega arith; own_rows = tt; dictionary = omega arith; drawn = tt; asks_above = tt }))
 
-  pub after_session : (spent : Bool) (n first : ℕ) → first_cause (built_causes cmp matching spent (Session n first) s) ≡ None → TreesAgree cmp matching (Then (Session n first))
-  unfolding built_causes call_of said_by_line altered_by_line parts_of said_by altered_by sorted_by_face
+  pub after_session : (spent : Bool) (n first : ℕ) → first_cause (line_causes cmp matching spent (Session n first) s) ≡ None → TreesAgree cmp matching (Then (Session n first))
+  unfolding line_causes call_of said_by_line altered_by_line parts_of said_by altered_by sorted_by_face
   after_session spent n first accepted = cases (nth n s.gateways) refl (no_cause _ _ _ accepted).0
     where
       G : Option (CallAt K) → Type 0
@@ -165,8 +165,8 @@ module _ {K : Type 0} (cmp : K → K → Ordering) (matching : K → K → Bool)
           (trees_after_opened cmp matching total s fine agree n node at_ c refl [] prints
           (tree_after_session cmp matching total equal_is_same first node.rows (gateway_in_order cmp matching s n node at_ fine).rows (each_nth (λ (x : Node K). IsTreeGateway cmp matching x.rows) n s.gateways node agree.gateways at_)))
 
-  pub after_face : (spent : Bool) (n : ℕ) (mode : WhatAmI) (zid : Zid) (region : Region) (bound : Bound) (first : ℕ) → first_cause (built_causes cmp matching spent (FaceLine n mode zid region bound first) s) ≡ None → IsTreeFabric (Then (FaceLine n mode zid region bound first)) → TreesAgree cmp matching (Then (FaceLine n mode zid region bound first))
-  unfolding built_causes call_causes call_of said_by_line altered_by_line parts_of altered_by rows_heard
+  pub after_face : (spent : Bool) (n : ℕ) (mode : WhatAmI) (zid : Zid) (region : Region) (bound : Bound) (first : ℕ) → first_cause (line_causes cmp matching spent (FaceLine n mode zid region bound first) s) ≡ None → IsTreeFabric (Then (FaceLine n mode zid region bound first)) → TreesAgree cmp matching (Then (FaceLine n mode zid region bound first))
+  unfolding line_causes call_causes call_of said_by_line altered_by_line parts_of altered_by rows_heard
   after_face spent n mode zid region bound first accepted trees = cases (nth n s.gateways) refl accepted trees
     where
       c : PlainCall K

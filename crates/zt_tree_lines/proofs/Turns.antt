@@ -140,18 +140,18 @@ module _ {K : Type 0} (cmp : K → K → Ordering) (matching : K → K → Bool)
     not_spent e fails is = never (ap (λ (x : PlainEntry K). (let b : Bool = elim x [ Ok ms ↦ false | Err r ↦ number_of r == 24 ] in b)) is) fails
 
     -- Knowledge after each turn, from a sound fabric of trees that agree.
-    pub turns_know : (is_built : PlainLine K → Bool) (lines : List (PlainLine K)) (s : Fabric K) → Each HasFirstIds lines → SoundFabric s → TreesAgree cmp matching s
-        → (let turns = turns_from cmp matching lines (entries_from cmp matching is_built lines s) (as_shown s) in Each (IsTreeTurn cmp matching) turns → Each (KnowsTrees cmp matching) turns)
+    pub turns_know : (lines : List (PlainLine K)) (s : Fabric K) → Each HasFirstIds lines → SoundFabric s → TreesAgree cmp matching s
+        → (let turns = turns_from cmp matching lines (entries_from cmp matching lines s) (as_shown s) in Each (IsTreeTurn cmp matching) turns → Each (KnowsTrees cmp matching) turns)
     unfolding turns_from entries_from
-    turns_know is_built [] s real sound agree = λ trees. tt
-    turns_know is_built (line ∷ lines) s real sound agree =
-        let entry = entry_of cmp matching is_built line s in
+    turns_know [] s real sound agree = λ trees. tt
+    turns_know (line ∷ lines) s real sound agree =
+        let entry = entry_of cmp matching line s in
         let next = fabric_after cmp matching line entry s in
-        let is = fabric_is_shown cmp matching total is_built line s sound.order in
+        let is = fabric_is_shown cmp matching total line s sound.order in
         λ trees.
         let here : IsTreeFabric next = tree_unshown next (subst IsTreeFabric is trees.0.0) in
-        let sound_next = sound_after_line cmp matching total equal_is_same is_built line s real.0 sound in
-        let agree_next = trees_after_each cmp matching total equal_is_same is_built s sound.order agree line real.0 (not_spent entry trees.0.1) here in (
+        let sound_next = sound_after_line cmp matching total equal_is_same line s real.0 sound in
+        let agree_next = trees_after_each cmp matching total equal_is_same s sound.order agree line real.0 (not_spent entry trees.0.1) here in (
           turn_knows next (record { line = line; entry = entry; before = as_shown s; after = fabric_shown cmp matching line entry (as_shown s) }) is sound_next agree_next here,
-          subst (λ (after : Fabric K). (let turns = turns_from cmp matching lines (entries_from cmp matching is_built lines next) after in Each (IsTreeTurn cmp matching) turns → Each (KnowsTrees cmp matching) turns)) (sym is) (turns_know is_built lines next real.1 sound_next agree_next) trees.1,
+          subst (λ (after : Fabric K). (let turns = turns_from cmp matching lines (entries_from cmp matching lines next) after in Each (IsTreeTurn cmp matching) turns → Each (KnowsTrees cmp matching) turns)) (sym is) (turns_know lines next real.1 sound_next agree_next) trees.1,
         )

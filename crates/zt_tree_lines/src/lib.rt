@@ -3,15 +3,14 @@
 //! `zt_tree_calls`, what calls leave of single gateways.
 #![tactic(auto)]
 
-ghost use Rattle.std.specs.Prelude.{◌≡◌, ◌≢◌, Bool, List, Err};
+ghost use Rattle.std.specs.Prelude.{◌≡◌, ◌≢◌, List, Err};
 ghost use Rattle.zt_protocol.specs.Plain.{PlainLine};
 ghost use Rattle.zt_protocol.specs.declared.errors.Refusal.TheVariants.{IdsSpent};
-ghost use Rattle.zt_model.specs.Fabric.{Fabric, empty_fabric, entries_from, entry_of, fabric_after};
-ghost use Rattle.zt_model.specs.Promises.{turns_from};
+ghost use Rattle.zt_model.specs.Fabric.{Fabric, empty_fabric, entry_of, fabric_after};
 ghost use Rattle.zt_model.specs.Transcript.{Each};
 ghost use Rattle.zt_model.specs.TreePromises.{IsTreeFabric, IsTreeTurn, KnowsTrees};
 ghost use Rattle.zt_laws.specs.Order.{FabricIsInOrder};
-ghost use Rattle.zt_laws.specs.Shown.{as_shown};
+ghost use Rattle.zt_laws.specs.Shown.{turns_of};
 ghost use Rattle.zt_laws.specs.Sound.{HasFirstIds};
 ghost use Rattle.zt_kept.specs.Lines.{EachGatewayIs};
 ghost use Rattle.zt_kept.specs.Sound.{IsSound};
@@ -23,9 +22,10 @@ use zt_keys::Key;
 /// fabric after it is still one of trees and it wasn't refused for want of ids. Opening a link is opening two faces and
 /// joining them; closing it is taking it out and closing two faces.
 pub fn lines_keep_trees<K: Key>()
-    ensures { (is_built : PlainLine K → Bool) (line : PlainLine K) (s : Fabric K) → HasFirstIds line → FabricIsInOrder K.cmp K.matching s
-        → TreesAgree K.cmp K.matching s → entry_of K.cmp K.matching is_built line s ≢ Err IdsSpent
-        → (let after = fabric_after K.cmp K.matching line (entry_of K.cmp K.matching is_built line s) s in
+    ensures { (line : PlainLine K) (s : Fabric K) → HasFirstIds line
+        → FabricIsInOrder K.cmp K.matching s → TreesAgree K.cmp K.matching s
+        → entry_of K.cmp K.matching line s ≢ Err IdsSpent
+        → (let after = fabric_after K.cmp K.matching line (entry_of K.cmp K.matching line s) s in
         IsTreeFabric after → TreesAgree K.cmp K.matching after) }
 {}
 
@@ -34,11 +34,12 @@ pub fn lines_keep_trees<K: Key>()
 /// at plain faces of its gateway's tree. So it is from the empty fabric on, and from each that is sound and of trees that
 /// agree.
 pub fn turns_know_their_trees<K: Key>()
-    ensures start { (is_built : PlainLine K → Bool) (lines : List (PlainLine K)) → Each HasFirstIds lines
-        → (let turns = turns_from K.cmp K.matching lines (entries_from K.cmp K.matching is_built lines empty_fabric) empty_fabric in
+    ensures start { (lines : List (PlainLine K)) → Each HasFirstIds lines
+        → (let turns = turns_of K.cmp K.matching lines empty_fabric in
         Each (IsTreeTurn K.cmp K.matching) turns → Each (KnowsTrees K.cmp K.matching) turns) }
-    ensures later { (is_built : PlainLine K → Bool) (lines : List (PlainLine K)) (s : Fabric K) → Each HasFirstIds lines
-        → EachGatewayIs K.cmp K.matching (IsSound K.cmp K.matching) s → TreesAgree K.cmp K.matching s
-        → (let turns = turns_from K.cmp K.matching lines (entries_from K.cmp K.matching is_built lines s) (as_shown s) in
+    ensures later { (lines : List (PlainLine K)) (s : Fabric K) → Each HasFirstIds lines
+        → EachGatewayIs K.cmp K.matching (IsSound K.cmp K.matching) s
+        → TreesAgree K.cmp K.matching s
+        → (let turns = turns_of K.cmp K.matching lines s in
         Each (IsTreeTurn K.cmp K.matching) turns → Each (KnowsTrees K.cmp K.matching) turns) }
 {}

@@ -184,28 +184,28 @@ module _ {K : Type 0} (cmp : K → K → Ordering) (matching : K → K → Bool)
       first_step (Moment gateway now) is P h = never is refl
       first_step (SetTreesAt gateway region table) is P h = never is refl
 
-      pub steps_lessen : (is_built : PlainLine K → Bool) (lines : List (PlainLine K)) (now : Fabric K) → Since cmp matching tokens s now → StepsFollow cmp matching is_built lines now
-          → (steps_left cmp tokens s (fabric_after_all cmp matching is_built lines now) + length lines ≤ steps_left cmp tokens s now) × Since cmp matching tokens s (fabric_after_all cmp matching is_built lines now)
+      pub steps_lessen : (lines : List (PlainLine K)) (now : Fabric K) → Since cmp matching tokens s now → StepsFollow cmp matching lines now
+          → (steps_left cmp tokens s (fabric_after_all cmp matching lines now) + length lines ≤ steps_left cmp tokens s now) × Since cmp matching tokens s (fabric_after_all cmp matching lines now)
       unfolding entries_from
-      steps_lessen is_built [] now since follow = (omega arith, since)
-      steps_lessen is_built (line ∷ lines) now since follow =
+      steps_lessen [] now since follow = (omega arith, since)
+      steps_lessen (line ∷ lines) now since follow =
           let steps = and_parts (is_step line) (list_all is_step lines) follow.steps in
-          let entry = entry_of cmp matching is_built line now in
+          let entry = entry_of cmp matching line now in
           let next = fabric_after cmp matching line entry now in
-          let taken = and_parts (takes_message entry) (list_all takes_message (entries_from cmp matching is_built lines next)) follow.taken in
-          let one = first_step line steps.0 (λ l. takes_message (entry_of cmp matching is_built l now) ≡ true → entry_of cmp matching is_built l now ≢ Err refusal.IdsSpent → (steps_left cmp tokens s (fabric_after cmp matching l (entry_of cmp matching is_built l now) now) + 1 ≤ steps_left cmp tokens s now) × Since cmp matching tokens s (fabric_after cmp matching l (entry_of cmp matching is_built l now) now))
-          (λ n back takes other. ((step_lessens cmp matching total_order equal_is_same tokens s fine agree now since is_built n back takes).fewer, since_step cmp matching total_order equal_is_same tokens s fine agree now since is_built n back takes other))
+          let taken = and_parts (takes_message entry) (list_all takes_message (entries_from cmp matching lines next)) follow.taken in
+          let one = first_step line steps.0 (λ l. takes_message (entry_of cmp matching l now) ≡ true → entry_of cmp matching l now ≢ Err refusal.IdsSpent → (steps_left cmp tokens s (fabric_after cmp matching l (entry_of cmp matching l now) now) + 1 ≤ steps_left cmp tokens s now) × Since cmp matching tokens s (fabric_after cmp matching l (entry_of cmp matching l now) now))
+          (λ n back takes other. ((step_lessens cmp matching total_order equal_is_same tokens s fine agree now since n back takes).fewer, since_step cmp matching total_order equal_is_same tokens s fine agree now since n back takes other))
           taken.0 follow.ids.0 in
-          let rest = steps_lessen is_built lines next one.1 (record { steps = steps.1; taken = taken.1; ids = follow.ids.1 }) in
+          let rest = steps_lessen lines next one.1 (record { steps = steps.1; taken = taken.1; ids = follow.ids.1 }) in
           let less = one.0 in
           let more = rest.0 in
           (omega arith, rest.1)
 
   -- Steps that follow one another are at most so many, and as many fewer as still wait.
-  pub steps_end : (is_built : PlainLine K → Bool) (lines : List (PlainLine K)) (s : Fabric K) → TreesStand cmp matching s → StepsFollow cmp matching is_built lines s → messages_waiting (fabric_after_all cmp matching is_built lines s) + length lines ≤ most_steps cmp s
-  steps_end is_built lines s stand follow =
+  pub steps_end : (lines : List (PlainLine K)) (s : Fabric K) → TreesStand cmp matching s → StepsFollow cmp matching lines s → messages_waiting (fabric_after_all cmp matching lines s) + length lines ≤ most_steps cmp s
+  steps_end lines s stand follow =
       let tokens = tokens_of cmp s in
-      let end_ = steps_lessen s stand tokens is_built lines s (since_start s stand) follow in
-      let few = few_wait s stand tokens (fabric_after_all cmp matching is_built lines s) end_.1 in
+      let end_ = steps_lessen s stand tokens lines s (since_start s stand) follow in
+      let few = few_wait s stand tokens (fabric_after_all cmp matching lines s) end_.1 in
       let less = end_.0 in
       omega arith

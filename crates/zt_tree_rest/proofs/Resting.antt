@@ -12,7 +12,7 @@ use Rattle.zt_protocol.specs.Refusal.{number_of}
 use Rattle.zt_protocol.specs.declared.errors.Refusal.{Refusal}
 use Rattle.zt_protocol.specs.declared.errors.Refusal.TheVariants as refusal
 use Rattle.zt_protocol.specs.declared.messages.Message.{Message}
-use Rattle.zt_model.specs.Fabric.{CallAt, Fabric, Link, Node, built_causes, call_of, causes_of_call, empty_fabric, entries_from, entry_by, entry_of, fabric_after, is_linked_face, is_open_link, line_causes, line_spends_ids, number_of_place, said_by_line, sorted_by_face}
+use Rattle.zt_model.specs.Fabric.{CallAt, Fabric, Link, Node, line_causes, call_of, causes_of_call, empty_fabric, entries_from, entry_by, entry_of, fabric_after, is_linked_face, is_open_link, line_causes, line_spends_ids, number_of_place, said_by_line, sorted_by_face}
 use Rattle.zt_model.specs.Linking.{is_end_of, oldest, sending_end, waiting_of}
 use Rattle.zt_model.specs.Lists.{at_id, first_of, is_some_and, nth}
 use Rattle.zt_model.specs.Promises.{turns_from}
@@ -81,12 +81,12 @@ module _ {K : Type 0} (cmp : K → K → Ordering) (matching : K → K → Bool)
   far_of_call spent (Some at) r is = far_cause (call_causes cmp matching spent at.call at.rows) r (far_causes spent at.call at.rows) is
 
   -- a step of an open link on which something waits takes a message
-  step_takes : (is_built : PlainLine K → Bool) (n : ℕ) (back : Bool) (s : Fabric K) → is_built (Step n back) ≡ true → is_open_link s n ≡ true → is_some_and (nth n s.links) (λ l. is_some (oldest s l back)) ≡ true → takes_message (entry_of cmp matching is_built (Step n back) s) ≡ true
-  unfolding entry_of built_causes first_cause
-  step_takes is_built n back s built opens there =
+  step_takes : (n : ℕ) (back : Bool) (s : Fabric K) → is_open_link s n ≡ true → is_some_and (nth n s.links) (λ l. is_some (oldest s l back)) ≡ true → takes_message (entry_of cmp matching (Step n back) s) ≡ true
+  unfolding entry_of line_causes first_cause
+  step_takes n back s opens there =
       let spent = line_spends_ids cmp matching (Step n back) s in
       let causes = causes_of_call cmp matching spent (call_of (Step n back) s) in
-      rw (built, opens, there) (cases (first_cause causes) refl)
+      rw (opens, there) (cases (first_cause causes) refl)
     where
       cases : (o : Option Refusal) → first_cause (causes_of_call cmp matching (line_spends_ids cmp matching (Step n back) s) (call_of (Step n back) s)) ≡ o → takes_message (entry_by cmp matching o (sorted_by_face (said_by_line cmp matching (Step n back) s))) ≡ true
       cases None is = refl
@@ -125,8 +125,8 @@ module _ {K : Type 0} (cmp : K → K → Ordering) (matching : K → K → Bool)
               go (r ∷ rows) above there = by_test (k == r.0) (λ here. let is : k ≡ r.0 = eqb-true k r.0 here in let le = above.0 in omega arith) (λ here. go rows above.1 (rw here at there))
       by_queue (m ∷ ms) is more = record { face = row.0; oldest_one = m; others = ms; is = rw (eq-eqb row.0 row.0 refl) (ap Some is); own = all.0 }
 
-  pub goes_on : (is_built : PlainLine K → Bool) (s : Fabric K) → ((link : ℕ) (back : Bool) → is_built (Step link back) ≡ true) → QueuesStand s → are_links_empty s ≡ false → (link : ℕ) × (back : Bool) × (takes_message (entry_of cmp matching is_built (Step link back) s) ≡ true)
-  goes_on is_built s built stand some =
+  pub goes_on : (s : Fabric K) → QueuesStand s → are_links_empty s ≡ false → (link : ℕ) × (back : Bool) × (takes_message (entry_of cmp matching (Step link back) s) ≡ true)
+  goes_on s stand some =
       let found = some_waits (λ k. is_linked_face s (Some k) ≡ true) 0 s.waiting stand.rise stand.ends some in
       let k = found.face in
       let at_ = some_nth (λ (link : Link). link.is_open && (k == link.one || k == link.two)) s.links found.own in
@@ -137,7 +137,7 @@ module _ {K : Type 0} (cmp : K → K → Ordering) (matching : K → K → Bool)
       let waits : waiting_of s k ≡ found.oldest_one ∷ found.others = ap (λ (o : Option (List (Message K))). (let ms : List (Message K) = elim o [ None ↦ [] | Some ms ↦ ms ] in ms)) found.is in
       let oldest_ : is_some (first_of (waiting_of s k)) ≡ true = ap (λ (ms : List (Message K)). is_some (first_of ms)) waits in
       let takes = λ (back : Bool) (end_ : sending_end link back ≡ k).
-      step_takes is_built n back s (built n back) opens (ap (λ (o : Option Link). is_some_and o (λ l. is_some (oldest s l back))) at_.2 ∙ ap (λ q. is_some (first_of (waiting_of s q))) end_ ∙ oldest_) in
+      step_takes n back s opens (ap (λ (o : Option Link). is_some_and o (λ l. is_some (oldest s l back))) at_.2 ∙ ap (λ q. is_some (first_of (waiting_of s q))) end_ ∙ oldest_) in
       ⊎_elim (λ one. (n, false, takes false (sym (eqb-true k link.one one)))) (λ two. (n, true, takes true (sym (eqb-true k link.two two)))) (or_cases (k == link.one) (k == link.two) parts.1)
 
   -- ---- rest
@@ -153,9 +153,9 @@ module _ {K : Type 0} (cmp : K → K → Ordering) (matching : K → K → Bool)
   pub empty_where_none : (s : Fabric K) → messages_waiting s ≡ 0 → are_links_empty s ≡ true
   empty_where_none s none_ = nothing_left s.waiting (sym (total_is (λ row. length row.1) s.waiting) ∙ none_)
 
-  pub empty_where_none_follows : (is_built : PlainLine K → Bool) (s : Fabric K) → ((link : ℕ) (back : Bool) → is_built (Step link back) ≡ true) → QueuesStand s → NoneFollows cmp matching is_built s → are_links_empty s ≡ true
-  empty_where_none_follows is_built s built stand none_ =
-      by_test (are_links_empty s) (λ here. here) (λ some. let next = goes_on is_built s built stand some in never next.2 (none_ next.0 next.1))
+  pub empty_where_none_follows : (s : Fabric K) → QueuesStand s → NoneFollows cmp matching s → are_links_empty s ≡ true
+  empty_where_none_follows s stand none_ =
+      by_test (are_links_empty s) (λ here. here) (λ some. let next = goes_on s stand some in never next.2 (none_ next.0 next.1))
 
   -- ---- steps keep fabrics of trees
 
@@ -201,15 +201,15 @@ module _ {K : Type 0} (cmp : K → K → Ordering) (matching : K → K → Bool)
     stand_then tokens s now since = record { sound = since.sound; agree = since.agree; queues = since.queued }
 
     -- Where no step follows any more, or so many have followed, all is at rest.
-    pub at_rest : (is_built : PlainLine K → Bool) (lines : List (PlainLine K)) (s : Fabric K) → ((link : ℕ) (back : Bool) → is_built (Step link back) ≡ true) → TreesStand cmp matching s → IsTreeFabric s → StepsFollow cmp matching is_built lines s
-        → (NoneFollows cmp matching is_built (fabric_after_all cmp matching is_built lines s) ⊎ (most_steps cmp s ≤ length lines)) → IsAtRest cmp matching (fabric_after_all cmp matching is_built lines s)
-    at_rest is_built lines s built stand trees follow ends =
+    pub at_rest : (lines : List (PlainLine K)) (s : Fabric K) → TreesStand cmp matching s → IsTreeFabric s → StepsFollow cmp matching lines s
+        → (NoneFollows cmp matching (fabric_after_all cmp matching lines s) ⊎ (most_steps cmp s ≤ length lines)) → IsAtRest cmp matching (fabric_after_all cmp matching lines s)
+    at_rest lines s stand trees follow ends =
         let tokens = tokens_of cmp s in
-        let after = fabric_after_all cmp matching is_built lines s in
-        let lessen = steps_lessen cmp matching total_order equal_is_same s stand tokens is_built lines s (since_start cmp matching total_order equal_is_same s stand) follow in
+        let after = fabric_after_all cmp matching lines s in
+        let lessen = steps_lessen cmp matching total_order equal_is_same s stand tokens lines s (since_start cmp matching total_order equal_is_same s stand) follow in
         let now_ = stand_then tokens s after lessen.1 in
-        let most = steps_end cmp matching total_order equal_is_same is_built lines s stand follow in
-        let quiet : are_links_empty after ≡ true = ⊎_elim (λ none_. empty_where_none_follows is_built after built now_.queues none_) (λ many. empty_where_none after (omega arith)) ends in
+        let most = steps_end cmp matching total_order equal_is_same lines s stand follow in
+        let quiet : are_links_empty after ≡ true = ⊎_elim (λ none_. empty_where_none_follows after now_.queues none_) (λ many. empty_where_none after (omega arith)) ends in
         record { empty_links = quiet; know = all_know after now_ (tree_then tokens s after lessen.1 trees) quiet }
 
     -- ---- scripts
@@ -217,31 +217,31 @@ module _ {K : Type 0} (cmp : K → K → Ordering) (matching : K → K → Bool)
     pub stand_start : TreesStand cmp matching empty_fabric
     stand_start = record { sound = sound_start cmp matching; agree = agree_at_first cmp matching; queues = record { rise = tt; ends = tt } }
 
-    pub stand_after_line : (is_built : PlainLine K → Bool) (line : PlainLine K) (s : Fabric K) → HasFirstIds line → TreesStand cmp matching s → (let entry = entry_of cmp matching is_built line s in entry ≢ Err refusal.IdsSpent → IsTreeFabric (fabric_after cmp matching line entry s) → TreesStand cmp matching (fabric_after cmp matching line entry s))
-    stand_after_line is_built line s real stand = λ other trees. record {
-      sound = sound_after_line cmp matching total_order equal_is_same is_built line s real stand.sound;
-      agree = trees_after_each cmp matching total_order equal_is_same is_built s stand.sound.order stand.agree line real other trees;
-      queues = queues_after cmp matching line (entry_of cmp matching is_built line s) s stand.agree.links.rows stand.queues;
+    pub stand_after_line : (line : PlainLine K) (s : Fabric K) → HasFirstIds line → TreesStand cmp matching s → (let entry = entry_of cmp matching line s in entry ≢ Err refusal.IdsSpent → IsTreeFabric (fabric_after cmp matching line entry s) → TreesStand cmp matching (fabric_after cmp matching line entry s))
+    stand_after_line line s real stand = λ other trees. record {
+      sound = sound_after_line cmp matching total_order equal_is_same line s real stand.sound;
+      agree = trees_after_each cmp matching total_order equal_is_same s stand.sound.order stand.agree line real other trees;
+      queues = queues_after cmp matching line (entry_of cmp matching line s) s stand.agree.links.rows stand.queues;
     }
 
     -- what stands after the lines of a transcript of trees
-    pub stand_after_all : (is_built : PlainLine K → Bool) (lines : List (PlainLine K)) (s : Fabric K) → Each HasFirstIds lines → TreesStand cmp matching s → IsTreeFabric s
-        → (let turns = turns_from cmp matching lines (entries_from cmp matching is_built lines s) (as_shown s) in Each (IsTreeTurn cmp matching) turns → TreesStand cmp matching (fabric_after_all cmp matching is_built lines s) × IsTreeFabric (fabric_after_all cmp matching is_built lines s))
+    pub stand_after_all : (lines : List (PlainLine K)) (s : Fabric K) → Each HasFirstIds lines → TreesStand cmp matching s → IsTreeFabric s
+        → (let turns = turns_from cmp matching lines (entries_from cmp matching lines s) (as_shown s) in Each (IsTreeTurn cmp matching) turns → TreesStand cmp matching (fabric_after_all cmp matching lines s) × IsTreeFabric (fabric_after_all cmp matching lines s))
     unfolding turns_from entries_from
-    stand_after_all is_built [] s real stand trees = λ turns. (stand, trees)
-    stand_after_all is_built (line ∷ lines) s real stand trees =
-        let entry = entry_of cmp matching is_built line s in
+    stand_after_all [] s real stand trees = λ turns. (stand, trees)
+    stand_after_all (line ∷ lines) s real stand trees =
+        let entry = entry_of cmp matching line s in
         let next = fabric_after cmp matching line entry s in
-        let is = fabric_is_shown cmp matching total_order is_built line s stand.sound.order in
+        let is = fabric_is_shown cmp matching total_order line s stand.sound.order in
         λ turns.
         let here : IsTreeFabric next = tree_unshown cmp matching next (subst IsTreeFabric is turns.0.0) in
-        let now_ = stand_after_line is_built line s real.0 stand (not_spent cmp matching total_order equal_is_same entry turns.0.1) here in
-        subst (λ (after : Fabric K). (let more = turns_from cmp matching lines (entries_from cmp matching is_built lines next) after in Each (IsTreeTurn cmp matching) more → TreesStand cmp matching (fabric_after_all cmp matching is_built lines next) × IsTreeFabric (fabric_after_all cmp matching is_built lines next))) (sym is) (stand_after_all is_built lines next real.1 now_ here) turns.1
+        let now_ = stand_after_line line s real.0 stand (not_spent cmp matching total_order equal_is_same entry turns.0.1) here in
+        subst (λ (after : Fabric K). (let more = turns_from cmp matching lines (entries_from cmp matching lines next) after in Each (IsTreeTurn cmp matching) more → TreesStand cmp matching (fabric_after_all cmp matching lines next) × IsTreeFabric (fabric_after_all cmp matching lines next))) (sym is) (stand_after_all lines next real.1 now_ here) turns.1
 
   -- a step that takes no message changes nothing
-  pub takes_nothing : (is_built : PlainLine K → Bool) (link : ℕ) (back : Bool) (s : Fabric K) → (let entry = entry_of cmp matching is_built (Step link back) s in takes_message entry ≡ false → fabric_after cmp matching (Step link back) entry s ≡ s)
+  pub takes_nothing : (link : ℕ) (back : Bool) (s : Fabric K) → (let entry = entry_of cmp matching (Step link back) s in takes_message entry ≡ false → fabric_after cmp matching (Step link back) entry s ≡ s)
   unfolding entry_of fabric_after
-  takes_nothing is_built link back s = cases (first_cause (line_causes cmp matching is_built (line_spends_ids cmp matching (Step link back) s) (Step link back) s))
+  takes_nothing link back s = cases (first_cause (line_causes cmp matching (line_spends_ids cmp matching (Step link back) s) (Step link back) s))
     where
       cases : (o : Option Refusal) → (let entry = entry_by cmp matching o (sorted_by_face (said_by_line cmp matching (Step link back) s)) in takes_message entry ≡ false → fabric_after cmp matching (Step link back) entry s ≡ s)
       cases None = λ none_. never refl none_

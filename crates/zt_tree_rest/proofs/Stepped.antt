@@ -10,7 +10,7 @@ use Rattle.zt_protocol.specs.declared.errors.Refusal.{Refusal}
 use Rattle.zt_protocol.specs.declared.errors.Refusal.TheVariants as refusal
 use Rattle.zt_protocol.specs.declared.messages.Message.{Message}
 use Rattle.zt_protocol.specs.declared.messages.Message.TheVariants as message
-use Rattle.zt_model.specs.Fabric.{CallAt, Fabric, Link, Node, altered_by_line, built_causes, call_of, call_of_step, entry_by, entry_of, fabric_after, line_causes, line_spends_ids, printed_message, said_by_line, sorted_by_face, with_call_face, with_waiting, without_message}
+use Rattle.zt_model.specs.Fabric.{CallAt, Fabric, Link, Node, altered_by_line, line_causes, call_of, call_of_step, entry_by, entry_of, fabric_after, line_causes, line_spends_ids, printed_message, said_by_line, sorted_by_face, with_call_face, with_waiting, without_message}
 use Rattle.zt_model.specs.Linking.{call_of_message, oldest, sending_end, speaking_end, waiting_of}
 use Rattle.zt_model.specs.Lists.{is_among, is_some_and, nth}
 use Rattle.zt_model.specs.Parts.{find_face}
@@ -144,28 +144,25 @@ module _ {K : Type 0} (cmp : K → K → Ordering) (matching : K → K → Bool)
   skip_to false cause causes r h = inr (refl, h)
 
   -- A step that takes a message lessens the steps that are left.
-  pub step_lessens : (is_built : PlainLine K → Bool) (n : ℕ) (back : Bool) → (let entry = entry_of cmp matching is_built (Step n back) s in takes_message entry ≡ true → Less (fabric_after cmp matching (Step n back) entry s))
-  unfolding fabric_after entry_of built_causes said_by_line altered_by_line call_of
-  step_lessens is_built n back = cases (first_cause (line_causes cmp matching is_built spent (Step n back) s)) refl
+  pub step_lessens : (n : ℕ) (back : Bool) → (let entry = entry_of cmp matching (Step n back) s in takes_message entry ≡ true → Less (fabric_after cmp matching (Step n back) entry s))
+  unfolding fabric_after entry_of line_causes said_by_line altered_by_line call_of
+  step_lessens n back = cases (first_cause (line_causes cmp matching spent (Step n back) s)) refl
     where
       spent : Bool
       spent = line_spends_ids cmp matching (Step n back) s
 
-      far : (r : Refusal) → nat_lt 3 (number_of r) ≡ true → first_cause (line_causes cmp matching is_built spent (Step n back) s) ≡ Some r → Less (without_message n back s)
+      far : (r : Refusal) → nat_lt 3 (number_of r) ≡ true → first_cause (line_causes cmp matching spent (Step n back) s) ≡ Some r → Less (without_message n back s)
       far r more refused =
-          ⊎_elim (λ first. never (ap (λ x. nat_lt 3 (number_of x)) (sym first.1) ∙ more) refl)
-          (λ one.
           ⊎_elim (λ first. never (ap (λ x. nat_lt 3 (number_of x)) (sym first.1) ∙ more) refl)
           (λ two.
           ⊎_elim (λ first. never (ap (λ x. nat_lt 3 (number_of x)) (sym first.1) ∙ more) refl)
           (λ three. refused_step n back (nth n s.links) refl (not_not two.0) (not_not three.0))
           (skip_to _ refusal.EmptyLink _ r two.1))
-          (skip_to _ refusal.UnknownLink _ r one.1))
-          (skip_to _ refusal.NotBuilt _ r refused)
+          (skip_to _ refusal.UnknownLink _ r refused)
 
-      cases : (o : Option Refusal) → first_cause (line_causes cmp matching is_built spent (Step n back) s) ≡ o → (let entry = entry_by cmp matching o (sorted_by_face (said_by_line cmp matching (Step n back) s)) in takes_message entry ≡ true → Less (fabric_after cmp matching (Step n back) entry s))
+      cases : (o : Option Refusal) → first_cause (line_causes cmp matching spent (Step n back) s) ≡ o → (let entry = entry_by cmp matching o (sorted_by_face (said_by_line cmp matching (Step n back) s)) in takes_message entry ≡ true → Less (fabric_after cmp matching (Step n back) entry s))
       cases None accepted = λ takes.
-          let one = no_cause _ _ _ (no_cause _ _ _ accepted).1 in
+          let one = no_cause _ _ _ accepted in
           let two = no_cause _ _ _ one.1 in
           accepted_step n back (nth n s.links) refl (not_not one.0) (not_not two.0)
       cases (Some r) refused = λ takes. rw takes (far r takes refused)
@@ -211,22 +208,22 @@ module _ {K : Type 0} (cmp : K → K → Ordering) (matching : K → K → Bool)
       let prints = sorted_in IsToken (map (printed_message s j) ss) (sends_in IsToken (printed_message s j) (λ m. refl) ss (says_in cmp matching IsToken j node c s at_j own since.everywhere)) in
       record { gateways = turned_in cmp matching IsToken j node c s at_j own since.everywhere; waiting = added_in IsToken ms w prints (less_in w less) }
 
-  tokens_stay : (is_built : PlainLine K → Bool) (n : ℕ) (back : Bool) → Everywhere IsToken (fabric_after cmp matching (Step n back) (entry_of cmp matching is_built (Step n back) s) s)
-  tokens_stay is_built n back =
+  tokens_stay : (n : ℕ) (back : Bool) → Everywhere IsToken (fabric_after cmp matching (Step n back) (entry_of cmp matching (Step n back) s) s)
+  tokens_stay n back =
       stand_after cmp matching total_order equal_is_same s fine agree Comes (λ ms t. Everywhere IsToken t) since.everywhere
-      (λ w waits less. record { gateways = since.everywhere.gateways; waiting = less_in w less }) calls_in is_built (Step n back)
+      (λ w waits less. record { gateways = since.everywhere.gateways; waiting = less_in w less }) calls_in (Step n back)
       (λ q m rest is. comes_by_message m (oldest_in IsToken s q m rest since.everywhere.waiting is)) refl
 
   -- A step that takes a message, and isn't refused for want of ids, leaves what steps need.
-  pub since_step : (is_built : PlainLine K → Bool) (n : ℕ) (back : Bool) → (let entry = entry_of cmp matching is_built (Step n back) s in takes_message entry ≡ true → entry ≢ Err refusal.IdsSpent → Since cmp matching tokens s0 (fabric_after cmp matching (Step n back) entry s))
-  since_step is_built n back = λ takes other.
-      let less = step_lessens is_built n back takes in
+  pub since_step : (n : ℕ) (back : Bool) → (let entry = entry_of cmp matching (Step n back) s in takes_message entry ≡ true → entry ≢ Err refusal.IdsSpent → Since cmp matching tokens s0 (fabric_after cmp matching (Step n back) entry s))
+  since_step n back = λ takes other.
+      let less = step_lessens n back takes in
       record {
         links = less.links ∙ since.links;
         places = less.places ∙ since.places;
         framed = less.framed ∙ since.framed;
-        sound = sound_after_line cmp matching total_order equal_is_same is_built (Step n back) s tt since.sound;
-        agree = trees_after_call cmp matching total_order equal_is_same s fine agree is_built (Step n back) refl other;
-        everywhere = tokens_stay is_built n back;
-        queued = stand_by (fabric_after cmp matching (Step n back) (entry_of cmp matching is_built (Step n back) s) s) s less.links less.numbers since.queued;
+        sound = sound_after_line cmp matching total_order equal_is_same (Step n back) s tt since.sound;
+        agree = trees_after_call cmp matching total_order equal_is_same s fine agree (Step n back) refl other;
+        everywhere = tokens_stay n back;
+        queued = stand_by (fabric_after cmp matching (Step n back) (entry_of cmp matching (Step n back) s) s) s less.links less.numbers since.queued;
       }

@@ -12,25 +12,21 @@ use Rattle.zt_kept.specs.Sound.{IsSound}
 use Rattle.zt_trees.specs.Facts.{TreesAgree}
 use Rattle.zt_tree_rest.specs.Steps.{QueuesStand, is_step, takes_message}
 
--- steps are built lines
-abbrev pub AreBuilt : {K : Type 0} → (PlainLine K → Bool) → Type 0
-AreBuilt is_built = (link : ℕ) (back : Bool) → is_built (Step link back) ≡ true
-
 module _ {K : Type 0} (cmp : K → K → Ordering) (matching : K → K → Bool) where
   -- the fabric after the lines of a script
-  abbrev pub fabric_after_all : (PlainLine K → Bool) → List (PlainLine K) → Fabric K → Fabric K
-  fabric_after_all is_built [] s = s
-  fabric_after_all is_built (line ∷ lines) s = fabric_after_all is_built lines (fabric_after cmp matching line (entry_of cmp matching is_built line s) s)
+  abbrev pub fabric_after_all : List (PlainLine K) → Fabric K → Fabric K
+  fabric_after_all [] s = s
+  fabric_after_all (line ∷ lines) s = fabric_after_all lines (fabric_after cmp matching line (entry_of cmp matching line s) s)
 
   -- The lines are steps, each takes a message, accepted or refused, and none is refused for want of ids.
-  pub record StepsFollow (is_built : PlainLine K → Bool) (lines : List (PlainLine K)) (s : Fabric K) : Type 0 where
+  pub record StepsFollow (lines : List (PlainLine K)) (s : Fabric K) : Type 0 where
     pub steps : list_all is_step lines ≡ true
-    pub taken : list_all takes_message (entries_from cmp matching is_built lines s) ≡ true
-    pub ids : Each (λ entry. entry ≢ Err IdsSpent) (entries_from cmp matching is_built lines s)
+    pub taken : list_all takes_message (entries_from cmp matching lines s) ≡ true
+    pub ids : Each (λ entry. entry ≢ Err IdsSpent) (entries_from cmp matching lines s)
 
   -- no step takes a message any more
-  abbrev pub NoneFollows : (PlainLine K → Bool) → Fabric K → Type 0
-  NoneFollows is_built s = (link : ℕ) (back : Bool) → takes_message (entry_of cmp matching is_built (Step link back) s) ≡ false
+  abbrev pub NoneFollows : Fabric K → Type 0
+  NoneFollows s = (link : ℕ) (back : Bool) → takes_message (entry_of cmp matching (Step link back) s) ≡ false
 
   -- What a fabric of trees has after each line: its gateways are sound, its trees agree, and messages wait for ends of
   -- open links alone.

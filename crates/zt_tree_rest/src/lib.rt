@@ -18,7 +18,7 @@ ghost use Rattle.zt_model.specs.TreePromises.{IsTreeFabric, IsTreeTurn, are_link
 ghost use Rattle.zt_laws.specs.Sound.{HasFirstIds};
 ghost use Rattle.zt_kept.specs.Sound.{IsSound};
 ghost use Rattle.zt_trees.specs.Facts.{IsTreeGateway};
-ghost use Rattle.zt_tree_rest.specs.Rest.{AreBuilt, IsAtRest, NoneFollows, StepsFollow, TreesStand, fabric_after_all};
+ghost use Rattle.zt_tree_rest.specs.Rest.{IsAtRest, NoneFollows, StepsFollow, TreesStand, fabric_after_all};
 ghost use Rattle.zt_tree_rest.specs.Steps.{QueuesStand, messages_waiting, most_steps, plain_most, takes_message};
 ghost use Rattle.zt_tree_rest.specs.Ways.{ComesFromAbove, ComesFromBelow, going_up, is_for_above};
 
@@ -41,9 +41,9 @@ pub fn messages_go_on_away<K: Key>()
 /// one of trees and the line wasn't refused for want of ids.
 pub fn trees_stand_after_every_line<K: Key>()
     ensures start { TreesStand K.cmp K.matching empty_fabric }
-    ensures step { (is_built : PlainLine K → Bool) (line : PlainLine K) (s : Fabric K)
+    ensures step { (line : PlainLine K) (s : Fabric K)
         → HasFirstIds line → TreesStand K.cmp K.matching s
-        → (let entry = entry_of K.cmp K.matching is_built line s in
+        → (let entry = entry_of K.cmp K.matching line s in
         let after = fabric_after K.cmp K.matching line entry s in
         entry ≢ Err IdsSpent → IsTreeFabric after → TreesStand K.cmp K.matching after) }
 {}
@@ -53,17 +53,18 @@ pub fn trees_stand_after_every_line<K: Key>()
 /// message's call is accepted or refused. `plainly` has a bound in plain numbers. Where a message waits, a step takes
 /// one: `goes_on`. A step that takes none changes nothing: `still`.
 pub fn steps_come_to_an_end<K: Key>()
-    ensures bounded { (is_built : PlainLine K → Bool) (lines : List (PlainLine K)) (s : Fabric K)
-        → TreesStand K.cmp K.matching s → StepsFollow K.cmp K.matching is_built lines s
-        → (let after = fabric_after_all K.cmp K.matching is_built lines s in
+    ensures bounded { (lines : List (PlainLine K)) (s : Fabric K)
+        → TreesStand K.cmp K.matching s → StepsFollow K.cmp K.matching lines s
+        → (let after = fabric_after_all K.cmp K.matching lines s in
         messages_waiting after + length lines ≤ most_steps K.cmp s) }
-    ensures plainly { (s : Fabric K) → TreesStand K.cmp K.matching s → most_steps K.cmp s ≤ plain_most K.cmp s }
-    ensures goes_on { (is_built : PlainLine K → Bool) (s : Fabric K)
-        → AreBuilt is_built → QueuesStand s → are_links_empty s ≡ false
+    ensures plainly { (s : Fabric K) → TreesStand K.cmp K.matching s
+        → most_steps K.cmp s ≤ plain_most K.cmp s }
+    ensures goes_on { (s : Fabric K)
+        → QueuesStand s → are_links_empty s ≡ false
         → (link : ℕ) × (back : Bool)
-        × (takes_message (entry_of K.cmp K.matching is_built (Step link back) s) ≡ true) }
-    ensures still { (is_built : PlainLine K → Bool) (link : ℕ) (back : Bool) (s : Fabric K)
-        → (let entry = entry_of K.cmp K.matching is_built (Step link back) s in
+        × (takes_message (entry_of K.cmp K.matching (Step link back) s) ≡ true) }
+    ensures still { (link : ℕ) (back : Bool) (s : Fabric K)
+        → (let entry = entry_of K.cmp K.matching (Step link back) s in
         takes_message entry ≡ false → fabric_after K.cmp K.matching (Step link back) entry s ≡ s) }
 {}
 
@@ -71,32 +72,32 @@ pub fn steps_come_to_an_end<K: Key>()
 /// many as `most_steps` says, nothing waits, and each open plain face keeps, of what it covers, exactly what is live at
 /// plain faces of its gateway's tree.
 pub fn trees_come_to_rest<K: Key>()
-    ensures { (is_built : PlainLine K → Bool) (lines : List (PlainLine K)) (s : Fabric K)
-        → AreBuilt is_built → TreesStand K.cmp K.matching s → IsTreeFabric s
-        → StepsFollow K.cmp K.matching is_built lines s
-        → (let after = fabric_after_all K.cmp K.matching is_built lines s in
-        NoneFollows K.cmp K.matching is_built after ⊎ (most_steps K.cmp s ≤ length lines)
+    ensures { (lines : List (PlainLine K)) (s : Fabric K)
+        → TreesStand K.cmp K.matching s → IsTreeFabric s
+        → StepsFollow K.cmp K.matching lines s
+        → (let after = fabric_after_all K.cmp K.matching lines s in
+        NoneFollows K.cmp K.matching after ⊎ (most_steps K.cmp s ≤ length lines)
         → IsAtRest K.cmp K.matching after) }
 {}
 
 /// The same of scripts, from the empty fabric on. Where a transcript of trees refuses no line for want of ids, at most so
 /// many steps follow its last line, and after them all is at rest.
 pub fn scripts_come_to_rest<K: Key>()
-    ensures bounded { (is_built : PlainLine K → Bool) (lines steps : List (PlainLine K))
+    ensures bounded { (lines steps : List (PlainLine K))
         → Each HasFirstIds lines
-        → (let entries = entries_from K.cmp K.matching is_built lines empty_fabric in
-        let last = fabric_after_all K.cmp K.matching is_built lines empty_fabric in
-        let after = fabric_after_all K.cmp K.matching is_built steps last in
+        → (let entries = entries_from K.cmp K.matching lines empty_fabric in
+        let last = fabric_after_all K.cmp K.matching lines empty_fabric in
+        let after = fabric_after_all K.cmp K.matching steps last in
         Each (IsTreeTurn K.cmp K.matching) (turns_from K.cmp K.matching lines entries empty_fabric)
-        → StepsFollow K.cmp K.matching is_built steps last
+        → StepsFollow K.cmp K.matching steps last
         → messages_waiting after + length steps ≤ most_steps K.cmp last) }
-    ensures rests { (is_built : PlainLine K → Bool) (lines steps : List (PlainLine K))
-        → AreBuilt is_built → Each HasFirstIds lines
-        → (let entries = entries_from K.cmp K.matching is_built lines empty_fabric in
-        let last = fabric_after_all K.cmp K.matching is_built lines empty_fabric in
-        let after = fabric_after_all K.cmp K.matching is_built steps last in
+    ensures rests { (lines steps : List (PlainLine K))
+        → Each HasFirstIds lines
+        → (let entries = entries_from K.cmp K.matching lines empty_fabric in
+        let last = fabric_after_all K.cmp K.matching lines empty_fabric in
+        let after = fabric_after_all K.cmp K.matching steps last in
         Each (IsTreeTurn K.cmp K.matching) (turns_from K.cmp K.matching lines entries empty_fabric)
-        → StepsFollow K.cmp K.matching is_built steps last
-        → NoneFollows K.cmp K.matching is_built after ⊎ (most_steps K.cmp last ≤ length steps)
+        → StepsFollow K.cmp K.matching steps last
+        → NoneFollows K.cmp K.matching after ⊎ (most_steps K.cmp last ≤ length steps)
         → IsAtRest K.cmp K.matching after) }
 {}

@@ -13,7 +13,7 @@ use Rattle.zt_protocol.specs.declared.errors.Refusal.{Refusal}
 use Rattle.zt_protocol.specs.declared.errors.Refusal.TheVariants as refusal
 use Rattle.zt_protocol.specs.declared.messages.Message.{Message}
 use Rattle.zt_protocol.specs.declared.messages.Message.TheVariants as message
-use Rattle.zt_model.specs.Fabric.{CallAt, Fabric, Link, Node, Place, after_hearing, after_refusal, altered_at, altered_by_line, built_causes, call_at, call_at_place, call_face, call_of, call_of_face, call_of_step, causes_of_call, entry_by, entry_of, fabric_after, is_linked_face, line_causes, line_spends_ids, printed_for, said_at, said_by_line, sorted_by_face, table_at, with_call_face, with_waiting, without_message}
+use Rattle.zt_model.specs.Fabric.{CallAt, Fabric, Link, Node, Place, after_hearing, after_refusal, altered_at, altered_by_line, line_causes, call_at, call_at_place, call_face, call_of, call_of_face, call_of_step, causes_of_call, entry_by, entry_of, fabric_after, is_linked_face, line_causes, line_spends_ids, printed_for, said_at, said_by_line, sorted_by_face, table_at, with_call_face, with_waiting, without_message}
 use Rattle.zt_model.specs.Linking.{call_of_message, oldest, sending_end, speaking_end, waiting_of}
 use Rattle.zt_model.specs.Lists.{first_of, is_some_and, nth}
 use Rattle.zt_model.specs.Parts.{find_face}
@@ -96,8 +96,8 @@ module _ {K : Type 0} (cmp : K → K → Ordering) (matching : K → K → Bool)
       never (subst (λ i. is_linked_face s (Some i) ≡ true) same_ (is_linked cmp matching total s fine agree a b link_)) plain))
       accepted
 
-  after_speech : (spent : Bool) (call : PlainCall K) → first_cause (built_causes cmp matching spent (Speak call) s) ≡ None → AllAgree (after_call s (call_of_face s call (call_face call)))
-  unfolding built_causes call_of
+  after_speech : (spent : Bool) (call : PlainCall K) → first_cause (line_causes cmp matching spent (Speak call) s) ≡ None → AllAgree (after_call s (call_of_face s call (call_face call)))
+  unfolding line_causes call_of
   after_speech spent (NewSession first) accepted = never refl (no_cause _ _ _ accepted).0
   after_speech spent (NewTransport zid whatami region bound first) accepted = never refl (no_cause _ _ _ accepted).0
   after_speech spent (Expire now) accepted = never refl (no_cause _ _ _ accepted).0
@@ -313,25 +313,22 @@ module _ {K : Type 0} (cmp : K → K → Ordering) (matching : K → K → Bool)
   skip_to true cause causes r h = let is : cause ≡ r = cc in inl (refl, sym is)
   skip_to false cause causes r h = inr (refl, h)
 
-  refused_step : (is_built : PlainLine K → Bool) (spent : Bool) (n : ℕ) (back : Bool) (r : Refusal) → first_cause (line_causes cmp matching is_built spent (Step n back) s) ≡ Some r → r ≢ refusal.IdsSpent → AllAgree (after_refusal cmp matching (Step n back) r s)
-  unfolding built_causes call_of
-  refused_step is_built spent n back r refused other =
+  refused_step : (spent : Bool) (n : ℕ) (back : Bool) (r : Refusal) → first_cause (line_causes cmp matching spent (Step n back) s) ≡ Some r → r ≢ refusal.IdsSpent → AllAgree (after_refusal cmp matching (Step n back) r s)
+  unfolding line_causes call_of
+  refused_step spent n back r refused other =
       of_cond AllAgree (nat_lt 3 (number_of r)) (without_message n back s) s
       (λ far.
-      ⊎_elim (λ first. never (ap (λ x. nat_lt 3 (number_of x)) (sym first.1) ∙ far) refl)
-      (λ one.
       ⊎_elim (λ first. never (ap (λ x. nat_lt 3 (number_of x)) (sym first.1) ∙ far) refl)
       (λ two.
       ⊎_elim (λ first. never (ap (λ x. nat_lt 3 (number_of x)) (sym first.1) ∙ far) refl)
       (λ three. after_dropped spent n back r (nth n s.links) refl (not_not two.0) (not_not three.0) three.1 other)
       (skip_to _ refusal.EmptyLink _ r two.1))
-      (skip_to _ refusal.UnknownLink _ r one.1))
-      (skip_to _ refusal.NotBuilt _ r refused))
+      (skip_to _ refusal.UnknownLink _ r refused))
       (λ _. agree.joints)
 
-  accepted_line : (spent : Bool) (line : PlainLine K) → is_call_or_step line ≡ true → first_cause (built_causes cmp matching spent line s) ≡ None
+  accepted_line : (spent : Bool) (line : PlainLine K) → is_call_or_step line ≡ true → first_cause (line_causes cmp matching spent line s) ≡ None
       → AllAgree (with_waiting (sorted_by_face (said_by_line cmp matching line s)) (after_hearing cmp (sorted_by_face (said_by_line cmp matching line s)) (altered_by_line cmp matching line s)))
-  unfolding built_causes call_of said_by_line altered_by_line
+  unfolding line_causes call_of said_by_line altered_by_line
   accepted_line spent (Step n back) leaves accepted =
       let one = no_cause _ _ _ accepted in
       let two = no_cause _ _ _ one.1 in
@@ -345,25 +342,25 @@ module _ {K : Type 0} (cmp : K → K → Ordering) (matching : K → K → Bool)
   accepted_line spent (LinkLine one two first back) leaves accepted = never leaves refl
   accepted_line spent (Unlink link) leaves accepted = never leaves refl
 
-  refused_line : (is_built : PlainLine K → Bool) (spent : Bool) (line : PlainLine K) (r : Refusal) → is_call_or_step line ≡ true → first_cause (line_causes cmp matching is_built spent line s) ≡ Some r → r ≢ refusal.IdsSpent → AllAgree (after_refusal cmp matching line r s)
-  refused_line is_built spent (Step n back) r leaves refused other = refused_step is_built spent n back r refused other
-  refused_line is_built spent (Speak call) r leaves refused other = agree.joints
-  refused_line is_built spent (Moment n now) r leaves refused other = agree.joints
-  refused_line is_built spent (SetTreesAt n region t) r leaves refused other = agree.joints
-  refused_line is_built spent (Gateway mode zid regions south name timeout pairs) r leaves refused other = agree.joints
-  refused_line is_built spent (Session n first) r leaves refused other = agree.joints
-  refused_line is_built spent (FaceLine n mode zid region bound first) r leaves refused other = agree.joints
-  refused_line is_built spent (LinkLine one two first back) r leaves refused other = agree.joints
-  refused_line is_built spent (Unlink link) r leaves refused other = agree.joints
+  refused_line : (spent : Bool) (line : PlainLine K) (r : Refusal) → is_call_or_step line ≡ true → first_cause (line_causes cmp matching spent line s) ≡ Some r → r ≢ refusal.IdsSpent → AllAgree (after_refusal cmp matching line r s)
+  refused_line spent (Step n back) r leaves refused other = refused_step spent n back r refused other
+  refused_line spent (Speak call) r leaves refused other = agree.joints
+  refused_line spent (Moment n now) r leaves refused other = agree.joints
+  refused_line spent (SetTreesAt n region t) r leaves refused other = agree.joints
+  refused_line spent (Gateway mode zid regions south name timeout pairs) r leaves refused other = agree.joints
+  refused_line spent (Session n first) r leaves refused other = agree.joints
+  refused_line spent (FaceLine n mode zid region bound first) r leaves refused other = agree.joints
+  refused_line spent (LinkLine one two first back) r leaves refused other = agree.joints
+  refused_line spent (Unlink link) r leaves refused other = agree.joints
 
   -- A line that opens and closes no link, no gateway and no face but a plain one's closing, leaves joints that agree.
-  pub agree_after_line : (is_built : PlainLine K → Bool) (line : PlainLine K) → is_call_or_step line ≡ true → entry_of cmp matching is_built line s ≢ Err refusal.IdsSpent → AllAgree (fabric_after cmp matching line (entry_of cmp matching is_built line s) s)
+  pub agree_after_line : (line : PlainLine K) → is_call_or_step line ≡ true → entry_of cmp matching line s ≢ Err refusal.IdsSpent → AllAgree (fabric_after cmp matching line (entry_of cmp matching line s) s)
   unfolding fabric_after entry_of
-  agree_after_line is_built line leaves other = cases (first_cause (line_causes cmp matching is_built (line_spends_ids cmp matching line s) line s)) refl other
+  agree_after_line line leaves other = cases (first_cause (line_causes cmp matching (line_spends_ids cmp matching line s) line s)) refl other
     where
       spent : Bool
       spent = line_spends_ids cmp matching line s
 
-      cases : (o : Option Refusal) → first_cause (line_causes cmp matching is_built spent line s) ≡ o → entry_by cmp matching o (sorted_by_face (said_by_line cmp matching line s)) ≢ Err refusal.IdsSpent → AllAgree (fabric_after cmp matching line (entry_by cmp matching o (sorted_by_face (said_by_line cmp matching line s))) s)
-      cases None accepted other_ = accepted_line spent line leaves (no_cause _ _ _ accepted).1
-      cases (Some r) refused other_ = refused_line is_built spent line r leaves refused (λ is. other_ (ap (λ (x : Refusal). (let e : PlainEntry K = Err x in e)) is))
+      cases : (o : Option Refusal) → first_cause (line_causes cmp matching spent line s) ≡ o → entry_by cmp matching o (sorted_by_face (said_by_line cmp matching line s)) ≢ Err refusal.IdsSpent → AllAgree (fabric_after cmp matching line (entry_by cmp matching o (sorted_by_face (said_by_line cmp matching line s))) s)
+      cases None accepted other_ = accepted_line spent line leaves accepted
+      cases (Some r) refused other_ = refused_line spent line r leaves refused (λ is. other_ (ap (λ (x : Refusal). (let e : PlainEntry K = Err x in e)) is))

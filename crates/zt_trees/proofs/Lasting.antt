@@ -10,7 +10,7 @@ use Rattle.zt_protocol.specs.declared.errors.Refusal.{Refusal}
 use Rattle.zt_protocol.specs.declared.errors.Refusal.TheVariants as refusal
 use Rattle.zt_protocol.specs.declared.messages.Message.{Message}
 use Rattle.zt_protocol.specs.declared.messages.Message.TheVariants as message
-use Rattle.zt_model.specs.Fabric.{CallAt, Fabric, Link, Node, Place, after_hearing, after_refusal, altered_by_line, built_causes, call_at, call_at_place, call_face, call_of, call_of_face, call_of_step, causes_of_call, entry_by, entry_of, fabric_after, is_linked_face, line_causes, line_spends_ids, said_at, said_by_line, sorted_by_face, table_at, with_call_face, with_waiting, without_message}
+use Rattle.zt_model.specs.Fabric.{CallAt, Fabric, Link, Node, Place, after_hearing, after_refusal, altered_by_line, line_causes, call_at, call_at_place, call_face, call_of, call_of_face, call_of_step, causes_of_call, entry_by, entry_of, fabric_after, is_linked_face, line_causes, line_spends_ids, said_at, said_by_line, sorted_by_face, table_at, with_call_face, with_waiting, without_message}
 use Rattle.zt_model.specs.Linking.{call_of_message, oldest, sending_end, waiting_of}
 use Rattle.zt_model.specs.Lists.{has_id, is_some_and, nth, rest_of}
 use Rattle.zt_model.specs.Refusals.{call_causes, first_cause}
@@ -136,8 +136,8 @@ module _ {K : Type 0} (cmp : K → K → Ordering) (matching : K → K → Bool)
         accepted_)
         accepted
 
-    stand_speech : (spent : Bool) (call : PlainCall K) → LineSaid Said (Speak call) → first_cause (built_causes cmp matching spent (Speak call) s) ≡ None → Follows s (call_of_face s call (call_face call))
-    unfolding built_causes call_of
+    stand_speech : (spent : Bool) (call : PlainCall K) → LineSaid Said (Speak call) → first_cause (line_causes cmp matching spent (Speak call) s) ≡ None → Follows s (call_of_face s call (call_face call))
+    unfolding line_causes call_of
     stand_speech spent (NewSession first) said_ accepted = never refl (no_cause _ _ _ accepted).0
     stand_speech spent (NewTransport zid whatami region bound first) said_ accepted = never refl (no_cause _ _ _ accepted).0
     stand_speech spent (Expire now) said_ accepted = never refl (no_cause _ _ _ accepted).0
@@ -182,9 +182,9 @@ module _ {K : Type 0} (cmp : K → K → Ordering) (matching : K → K → Bool)
 
     -- ---- lines
 
-    stand_accepted : (spent : Bool) (line : PlainLine K) → LineSaid Said line → is_call_or_step line ≡ true → first_cause (built_causes cmp matching spent line s) ≡ None
+    stand_accepted : (spent : Bool) (line : PlainLine K) → LineSaid Said line → is_call_or_step line ≡ true → first_cause (line_causes cmp matching spent line s) ≡ None
         → P (sorted_by_face (said_by_line cmp matching line s)) (with_waiting (sorted_by_face (said_by_line cmp matching line s)) (after_hearing cmp (sorted_by_face (said_by_line cmp matching line s)) (altered_by_line cmp matching line s)))
-    unfolding built_causes call_of said_by_line altered_by_line
+    unfolding line_causes call_of said_by_line altered_by_line
     stand_accepted spent (Step n back) said_ leaves accepted =
         let one = no_cause _ _ _ accepted in
         let two = no_cause _ _ _ one.1 in
@@ -209,15 +209,15 @@ module _ {K : Type 0} (cmp : K → K → Ordering) (matching : K → K → Bool)
     stand_refused (LinkLine one two first back) r = itself
     stand_refused (Unlink link) r = itself
 
-    pub stand_after : (is_built : PlainLine K → Bool) (line : PlainLine K) → LineSaid Said line → is_call_or_step line ≡ true → P (messages_of (entry_of cmp matching is_built line s)) (fabric_after cmp matching line (entry_of cmp matching is_built line s) s)
+    pub stand_after : (line : PlainLine K) → LineSaid Said line → is_call_or_step line ≡ true → P (messages_of (entry_of cmp matching line s)) (fabric_after cmp matching line (entry_of cmp matching line s) s)
     unfolding fabric_after entry_of
-    stand_after is_built line said_ leaves = cases (first_cause (line_causes cmp matching is_built (line_spends_ids cmp matching line s) line s)) refl
+    stand_after line said_ leaves = cases (first_cause (line_causes cmp matching (line_spends_ids cmp matching line s) line s)) refl
       where
         spent : Bool
         spent = line_spends_ids cmp matching line s
 
-        cases : (o : Option Refusal) → first_cause (line_causes cmp matching is_built spent line s) ≡ o → P (messages_of (entry_by cmp matching o (sorted_by_face (said_by_line cmp matching line s)))) (fabric_after cmp matching line (entry_by cmp matching o (sorted_by_face (said_by_line cmp matching line s))) s)
-        cases None accepted = stand_accepted spent line said_ leaves (no_cause _ _ _ accepted).1
+        cases : (o : Option Refusal) → first_cause (line_causes cmp matching spent line s) ≡ o → P (messages_of (entry_by cmp matching o (sorted_by_face (said_by_line cmp matching line s)))) (fabric_after cmp matching line (entry_by cmp matching o (sorted_by_face (said_by_line cmp matching line s))) s)
+        cases None accepted = stand_accepted spent line said_ leaves accepted
         cases (Some r) refused = stand_refused line r
 
   -- where nothing is asked of calls
@@ -253,8 +253,8 @@ module _ {K : Type 0} (cmp : K → K → Ordering) (matching : K → K → Bool)
       )
 
   -- A call or a step leaves trees that agree, where it leaves gateways of trees.
-  pub trees_after_line : (is_built : PlainLine K → Bool) (line : PlainLine K) → is_call_or_step line ≡ true → entry_of cmp matching is_built line s ≢ Err refusal.IdsSpent
-      → Each (λ (node : Node K). IsTreeGateway cmp matching node.rows) (fabric_after cmp matching line (entry_of cmp matching is_built line s) s).gateways → TreesAgree cmp matching (fabric_after cmp matching line (entry_of cmp matching is_built line s) s)
-  trees_after_line is_built line leaves other gateways =
-      let stand = stand_after AnyCall (λ ms t. Stand t) (agree.links, agree.forest) (λ w waits _. links_waiting w waits) stand_calls is_built line (any_line line) leaves in
-      record { gateways = gateways; joints = agree_after_line cmp matching total equal_is_same s fine agree is_built line leaves other; links = stand.0; forest = stand.1 }
+  pub trees_after_line : (line : PlainLine K) → is_call_or_step line ≡ true → entry_of cmp matching line s ≢ Err refusal.IdsSpent
+      → Each (λ (node : Node K). IsTreeGateway cmp matching node.rows) (fabric_after cmp matching line (entry_of cmp matching line s) s).gateways → TreesAgree cmp matching (fabric_after cmp matching line (entry_of cmp matching line s) s)
+  trees_after_line line leaves other gateways =
+      let stand = stand_after AnyCall (λ ms t. Stand t) (agree.links, agree.forest) (λ w waits _. links_waiting w waits) stand_calls line (any_line line) leaves in
+      record { gateways = gateways; joints = agree_after_line cmp matching total equal_is_same s fine agree line leaves other; links = stand.0; forest = stand.1 }

@@ -11,7 +11,7 @@ use Rattle.zt_region.specs.South.{PlainSouth}
 use Rattle.zt_protocol.specs.Plain.{PlainCall, NewSession, NewTransport, DeclareToken, UndeclareToken, Interest, InterestFinal, DeclareFinal, CloseFace, Expire, SetTrees, SetEntities, PlainLine, Gateway, Session, Face as FaceLine}
 use Rattle.zt_protocol.specs.declared.entries.Sent.{Sent}
 use Rattle.zt_protocol.specs.declared.messages.Message.{Message}
-use Rattle.zt_model.specs.Fabric.{CallAt, Fabric, Node, Place, after_hearing, altered_by_line, built_causes, call_of, new_rows, next_face, number_from, opened_at, printed_for, said_at, said_by_line, sorted_by_face, with_gateway, with_place, with_rows, with_session, with_waiting}
+use Rattle.zt_model.specs.Fabric.{CallAt, Fabric, Node, Place, after_hearing, altered_by_line, line_causes, call_of, new_rows, next_face, number_from, opened_at, printed_for, said_at, said_by_line, sorted_by_face, with_gateway, with_place, with_rows, with_session, with_waiting}
 use Rattle.zt_model.specs.Hearing.{heard_all, messages_for, rows_heard}
 use Rattle.zt_model.specs.Linking.{waiting_of}
 use Rattle.zt_model.specs.Lists.{first_where, nth}
@@ -216,8 +216,8 @@ module _ {K : Type 0} (cmp : K → K → Ordering) (matching : K → K → Bool)
   unfolding call_of said_by_line altered_by_line
   gateway_agrees spent mode zid regions south name timeout refused = after_nothing (with_gateway (record { rows = new_rows mode zid regions timeout refused; south = south; name = name }) s) (gateway_made (record { rows = new_rows mode zid regions timeout refused; south = south; name = name }))
 
-  pub session_agrees : (spent : Bool) (n first : ℕ) → (let line : PlainLine K = Session n first in first_cause (built_causes cmp matching spent line s) ≡ None → EachJoint (JointAgrees cmp) (with_waiting (sorted_by_face (said_by_line cmp matching line s)) (after_hearing cmp (sorted_by_face (said_by_line cmp matching line s)) (altered_by_line cmp matching line s))))
-  unfolding built_causes call_of said_by_line altered_by_line parts_of said_by altered_by sorted_by_face
+  pub session_agrees : (spent : Bool) (n first : ℕ) → (let line : PlainLine K = Session n first in first_cause (line_causes cmp matching spent line s) ≡ None → EachJoint (JointAgrees cmp) (with_waiting (sorted_by_face (said_by_line cmp matching line s)) (after_hearing cmp (sorted_by_face (said_by_line cmp matching line s)) (altered_by_line cmp matching line s))))
+  unfolding line_causes call_of said_by_line altered_by_line parts_of said_by altered_by sorted_by_face
   session_agrees spent n first accepted = cases (nth n s.gateways) refl (no_cause _ _ _ accepted).0
     where
       G : Option (CallAt K) → Type 0

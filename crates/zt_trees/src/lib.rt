@@ -42,17 +42,17 @@ pub fn plain_faces_know_their_trees<K: Key>()
 /// link still makes of the one end's rows what the other end was told. Only where a line was refused for want of ids a row
 /// may be lost.
 pub fn lines_between_links_keep_joints<K: Key>()
-    ensures { (is_built : PlainLine K → Bool) (line : PlainLine K) (s : Fabric K) → changes_no_link line ≡ true
-        → FabricIsInOrder K.cmp K.matching s → TreesAgree K.cmp K.matching s → entry_of K.cmp K.matching is_built line s ≢ Err IdsSpent
-        → EachJoint (JointAgrees K.cmp) (fabric_after K.cmp K.matching line (entry_of K.cmp K.matching is_built line s) s) }
+    ensures { (line : PlainLine K) (s : Fabric K) → changes_no_link line ≡ true
+        → FabricIsInOrder K.cmp K.matching s → TreesAgree K.cmp K.matching s → entry_of K.cmp K.matching line s ≢ Err IdsSpent
+        → EachJoint (JointAgrees K.cmp) (fabric_after K.cmp K.matching line (entry_of K.cmp K.matching line s) s) }
 {}
 
 /// A call or a step keeps all of `TreesAgree`, where it leaves gateways of trees: links stay as they were made, and no
 /// gateway comes to lie above itself. It may close a plain face.
 pub fn calls_and_steps_keep_trees<K: Key>()
-    ensures { (is_built : PlainLine K → Bool) (line : PlainLine K) (s : Fabric K) → is_call_or_step line ≡ true
-        → FabricIsInOrder K.cmp K.matching s → TreesAgree K.cmp K.matching s → entry_of K.cmp K.matching is_built line s ≢ Err IdsSpent
-        → (let after = fabric_after K.cmp K.matching line (entry_of K.cmp K.matching is_built line s) s in
+    ensures { (line : PlainLine K) (s : Fabric K) → is_call_or_step line ≡ true
+        → FabricIsInOrder K.cmp K.matching s → TreesAgree K.cmp K.matching s → entry_of K.cmp K.matching line s ≢ Err IdsSpent
+        → (let after = fabric_after K.cmp K.matching line (entry_of K.cmp K.matching line s) s in
         Each (λ (node : Node K). IsTreeGateway K.cmp K.matching node.rows) after.gateways → TreesAgree K.cmp K.matching after) }
 {}
 

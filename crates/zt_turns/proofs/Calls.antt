@@ -14,7 +14,7 @@ use Rattle.zt_protocol.specs.Refusal.{number_of}
 use Rattle.zt_protocol.specs.declared.entries.Sent.{Sent}
 use Rattle.zt_protocol.specs.declared.errors.Refusal.{Refusal}
 use Rattle.zt_protocol.specs.declared.messages.Message.{Message}
-use Rattle.zt_model.specs.Fabric.{CallAt, Fabric, Node, Place, after_hearing, after_refusal, altered_at, altered_by_line, at_nth, both_ends, built_causes, call_at, call_face, call_of, call_of_face, call_of_step, causes_of_call, closed_ends, closing_call, entries_from, entry_by, entry_of, fabric_after, gateways_after_hearing, line_causes, line_spends_ids, new_rows, next_face, opened_at, opened_ends, said_at, said_by_line, said_closing, said_opening, sorted_by_face, table_at, with_gateway, with_place, with_rows, with_session, with_waiting, without_message}
+use Rattle.zt_model.specs.Fabric.{CallAt, Fabric, Node, Place, after_hearing, after_refusal, altered_at, altered_by_line, at_nth, both_ends, line_causes, call_at, call_face, call_of, call_of_face, call_of_step, causes_of_call, closed_ends, closing_call, entries_from, entry_by, entry_of, fabric_after, gateways_after_hearing, line_causes, line_spends_ids, new_rows, next_face, opened_at, opened_ends, said_at, said_by_line, said_closing, said_opening, sorted_by_face, table_at, with_gateway, with_place, with_rows, with_session, with_waiting, without_message}
 use Rattle.zt_model.specs.Linking.{link_ends, with_link, without_link}
 use Rattle.zt_model.specs.Lists.{nth, without_id}
 use Rattle.zt_model.specs.Places.{Link}
@@ -60,7 +60,7 @@ module _ {K : Type 0} (cmp : K → K → Ordering) (matching : K → K → Bool)
     pub transport : (spent : Bool) (n : ℕ) (node : Node K) (zid : Zid) (whatami : WhatAmI) (region : Region) (bound : Bound) (first : ℕ) (s : Fabric K) → nth n s.gateways ≡ Some node → 1 ≤ first
         → (let c : PlainCall K = NewTransport zid whatami region bound first in first_cause (call_causes cmp matching spent c node.rows) ≡ None → FabricIsInOrder cmp matching s → Holds s
         → P s (Shown n node c ∷ []) (messages_at (with_place n s).faces n c node) (with_place n s).faces (with_rows n (altered cmp matching c) s).gateways (with_rows n (rows_after_call cmp matching c) s).gateways)
-    pub link : (spent : Bool) (one two first back : ℕ) (s : Fabric K) → 1 ≤ first → 1 ≤ back → first_cause (built_causes cmp matching spent (LinkLine one two first back) s) ≡ None → FabricIsInOrder cmp matching s → Holds s
+    pub link : (spent : Bool) (one two first back : ℕ) (s : Fabric K) → 1 ≤ first → 1 ≤ back → first_cause (line_causes cmp matching spent (LinkLine one two first back) s) ≡ None → FabricIsInOrder cmp matching s → Holds s
         → (let ends = link_ends s one two first back in
         let X = opened_ends cmp matching ends s in
         let ms = sorted_by_face (said_opening cmp matching ends s) in
@@ -132,10 +132,10 @@ module _ {K : Type 0} (cmp : K → K → Ordering) (matching : K → K → Bool)
         cases None = comes
         cases (Some link) = comes_elsewhere s calls ms (at_nth n (λ l. record l { is_open = false }) X.links) (without_id link.one (without_id link.two X.waiting)) X comes
 
-    line_comes : (spent : Bool) (line : PlainLine K) (s : Fabric K) (after : Fabric K) → HasFirstIds line → first_cause (built_causes cmp matching spent line s) ≡ None → FabricIsInOrder cmp matching s → Holds s
+    line_comes : (spent : Bool) (line : PlainLine K) (s : Fabric K) (after : Fabric K) → HasFirstIds line → first_cause (line_causes cmp matching spent line s) ≡ None → FabricIsInOrder cmp matching s → Holds s
         → (let ms = sorted_by_face (said_by_line cmp matching line s) in
         Comes s (calls_in cmp matching (record { line = line; entry = Ok ms; before = as_shown s; after = after })) ms (altered_by_line cmp matching line s))
-    unfolding calls_in altered_by_line said_by_line built_causes call_of sorted_by_face parts_of said_by altered_by
+    unfolding calls_in altered_by_line said_by_line line_causes call_of sorted_by_face parts_of said_by altered_by
     line_comes spent (Gateway mode zid regions south name timeout refused) s after real accepted fine holds =
         let node : Node K = record { rows = new_rows mode zid regions timeout refused; south = south; name = name } in
         comes_nothing s [] (with_gateway node s) (is.gateway mode zid regions timeout refused node s refl fine holds)
@@ -224,10 +224,10 @@ module _ {K : Type 0} (cmp : K → K → Ordering) (matching : K → K → Bool)
       pub after_order : FabricIsInOrder cmp matching (after_hearing cmp (printed t) changed)
       pub comes : P s (calls_in cmp matching t) (printed t) changed.faces changed.gateways (after_hearing cmp (printed t) changed).gateways
 
-    pub turn_is_shown : (is_built : PlainLine K → Bool) (line : PlainLine K) (s : Fabric K) → HasFirstIds line → FabricIsInOrder cmp matching s → Holds s
-        → (let entry = entry_of cmp matching is_built line s in IsShownTurn s (record { line = line; entry = entry; before = as_shown s; after = as_shown (fabric_after cmp matching line entry s) }))
+    pub turn_is_shown : (line : PlainLine K) (s : Fabric K) → HasFirstIds line → FabricIsInOrder cmp matching s → Holds s
+        → (let entry = entry_of cmp matching line s in IsShownTurn s (record { line = line; entry = entry; before = as_shown s; after = as_shown (fabric_after cmp matching line entry s) }))
     unfolding entry_of fabric_after calls_in
-    turn_is_shown is_built line s real fine holds = cases (first_cause (line_causes cmp matching is_built spent line s)) refl (in_order_after_line cmp matching total is_built line s real fine)
+    turn_is_shown line s real fine holds = cases (first_cause (line_causes cmp matching spent line s)) refl (in_order_after_line cmp matching total line s real fine)
       where
         spent : Bool
         spent = line_spends_ids cmp matching line s
@@ -238,7 +238,7 @@ module _ {K : Type 0} (cmp : K → K → Ordering) (matching : K → K → Bool)
         X : Fabric K
         X = altered_by_line cmp matching line s
 
-        cases : (o : Option Refusal) → first_cause (line_causes cmp matching is_built spent line s) ≡ o → FabricIsInOrder cmp matching (fabric_after cmp matching line (entry_by cmp matching o ms) s)
+        cases : (o : Option Refusal) → first_cause (line_causes cmp matching spent line s) ≡ o → FabricIsInOrder cmp matching (fabric_after cmp matching line (entry_by cmp matching o ms) s)
             → (let entry = entry_by cmp matching o ms in IsShownTurn s (record { line = line; entry = entry; before = as_shown s; after = as_shown (fabric_after cmp matching line entry s) }))
         cases None accepted ordered = record {
           changed = X;
@@ -247,7 +247,7 @@ module _ {K : Type 0} (cmp : K → K → Ordering) (matching : K → K → Bool)
           after_places = refl;
           after_gateways = refl;
           after_order = record { gateways = ordered.gateways; places_exist = ordered.places_exist };
-          comes = line_comes spent line s (as_shown (with_waiting ms (after_hearing cmp ms X))) real (no_cause _ _ _ accepted).1 fine holds;
+          comes = line_comes spent line s (as_shown (with_waiting ms (after_hearing cmp ms X))) real accepted fine holds;
         }
         cases (Some r) refused ordered = record {
           changed = s;
@@ -261,10 +261,9 @@ module _ {K : Type 0} (cmp : K → K → Ordering) (matching : K → K → Bool)
 
     -- What lines bring about by their calls, the turns of a transcript show.
     pub turns_show : (Q : Turn K → Type 0) → ((s : Fabric K) (t : Turn K) → FabricIsInOrder cmp matching s → Holds s → IsShownTurn s t → Q t)
-        → (is_built : PlainLine K → Bool)
-        → ((line : PlainLine K) (s : Fabric K) → HasFirstIds line → FabricIsInOrder cmp matching s → Holds s → Holds (fabric_after cmp matching line (entry_of cmp matching is_built line s) s))
+        → ((line : PlainLine K) (s : Fabric K) → HasFirstIds line → FabricIsInOrder cmp matching s → Holds s → Holds (fabric_after cmp matching line (entry_of cmp matching line s) s))
         → (lines : List (PlainLine K)) (s : Fabric K) → Each HasFirstIds lines → FabricIsInOrder cmp matching s → Holds s
-        → Each Q (turns_from cmp matching lines (entries_from cmp matching is_built lines s) (as_shown s))
-    turns_show Q shows is_built next lines s real fine holds =
-        turns_have cmp matching total is_built Q Holds
-        (λ line x first ordered held. (shows x _ ordered held (turn_is_shown is_built line x first ordered held), next line x first ordered held)) lines s real fine holds
+        → Each Q (turns_from cmp matching lines (entries_from cmp matching lines s) (as_shown s))
+    turns_show Q shows next lines s real fine holds =
+        turns_have cmp matching total Q Holds
+        (λ line x first ordered held. (shows x _ ordered held (turn_is_shown line x first ordered held), next line x first ordered held)) lines s real fine holds

@@ -76,17 +76,17 @@ module _ {K : Type 0} (cmp : K → K → Ordering) (matching : K → K → Bool)
     abbrev SoundFabric : Fabric K → Type 0
     SoundFabric s = EachGatewayIs cmp matching (IsSound cmp matching) s
 
-    pub turns_keep : (is_built : PlainLine K → Bool) (lines : List (PlainLine K)) (s : Fabric K) → Each HasFirstIds lines → SoundFabric s
-        → Each (λ t. AllKeepWhatTheyShould cmp matching t.after) (turns_from cmp matching lines (entries_from cmp matching is_built lines s) (as_shown s))
-    turns_keep is_built lines s real sound =
-        turns_have cmp matching total is_built (λ t. AllKeepWhatTheyShould cmp matching t.after) SoundFabric
+    pub turns_keep : (lines : List (PlainLine K)) (s : Fabric K) → Each HasFirstIds lines → SoundFabric s
+        → Each (λ t. AllKeepWhatTheyShould cmp matching t.after) (turns_from cmp matching lines (entries_from cmp matching lines s) (as_shown s))
+    turns_keep lines s real sound =
+        turns_have cmp matching total (λ t. AllKeepWhatTheyShould cmp matching t.after) SoundFabric
         (λ line x first fine holds.
-        let after = sound_after_line cmp matching total equal_is_same is_built line x first holds in
+        let after = sound_after_line cmp matching total equal_is_same line x first holds in
         (shown_keep _ after, after))
         lines s real sound.order sound
 
-    pub turns_exact : (is_built : PlainLine K → Bool) (lines : List (PlainLine K)) (s : Fabric K) → Each HasFirstIds lines → SoundFabric s
-        → Each (KeepsExactly cmp matching) (turns_from cmp matching lines (entries_from cmp matching is_built lines s) (as_shown s))
-    turns_exact is_built lines s real sound =
-        let ts = turns_from cmp matching lines (entries_from cmp matching is_built lines s) (as_shown s) in
-        each_weaker (λ (t : Turn K). AllKeepWhatTheyShould cmp matching t.after) (KeepsExactly cmp matching) (λ t right. exactly t right) ts (turns_keep is_built lines s real sound)
+    pub turns_exact : (lines : List (PlainLine K)) (s : Fabric K) → Each HasFirstIds lines → SoundFabric s
+        → Each (KeepsExactly cmp matching) (turns_from cmp matching lines (entries_from cmp matching lines s) (as_shown s))
+    turns_exact lines s real sound =
+        let ts = turns_from cmp matching lines (entries_from cmp matching lines s) (as_shown s) in
+        each_weaker (λ (t : Turn K). AllKeepWhatTheyShould cmp matching t.after) (KeepsExactly cmp matching) (λ t right. exactly t right) ts (turns_keep lines s real sound)

@@ -9,7 +9,7 @@ use Rattle.zt_protocol.specs.Plain.{PlainCall, NewSession, NewTransport, Declare
 use Rattle.zt_protocol.specs.declared.entries.Sent.{Sent}
 use Rattle.zt_protocol.specs.declared.errors.Refusal.{Refusal}
 use Rattle.zt_protocol.specs.declared.messages.Message.{Message}
-use Rattle.zt_model.specs.Fabric.{CallAt, Fabric, Node, Place, after_hearing, altered_at, altered_by_line, at_nth, both_ends, built_causes, call_at, call_at_place, call_face, call_of, call_of_face, call_of_step, causes_of_call, closing_call, entries_from, entry_by, entry_of, fabric_after, gateways_after_hearing, line_causes, line_spends_ids, opening_at, said_at, said_by_line, sorted_by_face, table_at, with_call_face, with_rows, with_waiting, without_message}
+use Rattle.zt_model.specs.Fabric.{CallAt, Fabric, Node, Place, after_hearing, altered_at, altered_by_line, at_nth, both_ends, line_causes, call_at, call_at_place, call_face, call_of, call_of_face, call_of_step, causes_of_call, closing_call, entries_from, entry_by, entry_of, fabric_after, gateways_after_hearing, line_causes, line_spends_ids, opening_at, said_at, said_by_line, sorted_by_face, table_at, with_call_face, with_rows, with_waiting, without_message}
 use Rattle.zt_model.specs.Linking.{LinkEnd, call_of_message, link_ends, oldest, speaking_end}
 use Rattle.zt_model.specs.Lists.{nth}
 use Rattle.zt_model.specs.Places.{Link}
@@ -160,11 +160,11 @@ module _ {K : Type 0} (cmp : K → K → Ordering) (matching : K → K → Bool)
         (λ zid whatami region bound. called_at (λ o. Each (TellsAfter cmp matching test after) (option_to_list o)) X end.gateway (NewTransport zid whatami region bound end.first) tt (λ node at_. (tt, tt))))
         (openings_tell after ends (with_opening cmp matching at X))
 
-    line_tells : (spent : Bool) (line : PlainLine K) (s : Fabric K) → first_cause (built_causes cmp matching spent line s) ≡ None → FabricIsInOrder cmp matching s
+    line_tells : (spent : Bool) (line : PlainLine K) (s : Fabric K) → first_cause (line_causes cmp matching spent line s) ≡ None → FabricIsInOrder cmp matching s
         → (let ms = sorted_by_face (said_by_line cmp matching line s) in
         let after = as_shown (with_waiting ms (after_hearing cmp ms (altered_by_line cmp matching line s))) in
         Each (TellsAfter cmp matching test after) (calls_in cmp matching (record { line = line; entry = Ok ms; before = as_shown s; after = after })))
-    unfolding calls_in call_of altered_by_line said_by_line built_causes
+    unfolding calls_in call_of altered_by_line said_by_line line_causes
     line_tells spent (Gateway mode zid regions south name timeout refused) s accepted fine = tt
     line_tells spent (Session n first) s accepted fine =
         let ms = sorted_by_face (said_by_line cmp matching (Session n first) s) in
@@ -212,12 +212,12 @@ module _ {K : Type 0} (cmp : K → K → Ordering) (matching : K → K → Bool)
         let after = as_shown (with_waiting ms (after_hearing cmp ms (altered_by_line cmp matching line s))) in
         called_at (λ o. Each (TellsAfter cmp matching test after) (option_to_list o)) (as_shown s) n (SetTrees region (table_at (as_shown s) n t)) tt (λ node at_. (tt, tt))
 
-    turn_tells : (is_built : PlainLine K → Bool) (line : PlainLine K) (s : Fabric K) → FabricIsInOrder cmp matching s
-        → (let entry = entry_of cmp matching is_built line s in
+    turn_tells : (line : PlainLine K) (s : Fabric K) → FabricIsInOrder cmp matching s
+        → (let entry = entry_of cmp matching line s in
         let after = as_shown (fabric_after cmp matching line entry s) in
         Each (TellsAfter cmp matching test after) (calls_in cmp matching (record { line = line; entry = entry; before = as_shown s; after = after })))
     unfolding entry_of fabric_after calls_in
-    turn_tells is_built line s fine = cases (first_cause (line_causes cmp matching is_built spent line s)) refl
+    turn_tells line s fine = cases (first_cause (line_causes cmp matching spent line s)) refl
       where
         spent : Bool
         spent = line_spends_ids cmp matching line s
@@ -225,22 +225,22 @@ module _ {K : Type 0} (cmp : K → K → Ordering) (matching : K → K → Bool)
         ms : List (Sent K)
         ms = sorted_by_face (said_by_line cmp matching line s)
 
-        cases : (o : Option Refusal) → first_cause (line_causes cmp matching is_built spent line s) ≡ o
+        cases : (o : Option Refusal) → first_cause (line_causes cmp matching spent line s) ≡ o
             → (let entry = entry_by cmp matching o ms in
             let after = as_shown (fabric_after cmp matching line entry s) in
             Each (TellsAfter cmp matching test after) (calls_in cmp matching (record { line = line; entry = entry; before = as_shown s; after = after })))
-        cases None accepted = line_tells spent line s (no_cause _ _ _ accepted).1 fine
+        cases None accepted = line_tells spent line s accepted fine
         cases (Some r) refused = tt
 
-    turns_tell : (is_built : PlainLine K → Bool) (lines : List (PlainLine K)) (s : Fabric K) → Each HasFirstIds lines → FabricIsInOrder cmp matching s
-        → Each (λ t. Each (TellsAfter cmp matching test t.after) (calls_in cmp matching t)) (turns_from cmp matching lines (entries_from cmp matching is_built lines s) (as_shown s))
-    turns_tell is_built lines s real fine =
-        turns_have cmp matching total is_built (λ t. Each (TellsAfter cmp matching test t.after) (calls_in cmp matching t)) (λ x. Unit {0})
-        (λ line x first ordered _. (turn_tells is_built line x ordered, tt)) lines s real fine tt
+    turns_tell : (lines : List (PlainLine K)) (s : Fabric K) → Each HasFirstIds lines → FabricIsInOrder cmp matching s
+        → Each (λ t. Each (TellsAfter cmp matching test t.after) (calls_in cmp matching t)) (turns_from cmp matching lines (entries_from cmp matching lines s) (as_shown s))
+    turns_tell lines s real fine =
+        turns_have cmp matching total (λ t. Each (TellsAfter cmp matching test t.after) (calls_in cmp matching t)) (λ x. Unit {0})
+        (λ line x first ordered _. (turn_tells line x ordered, tt)) lines s real fine tt
 
-  pub future_told : (is_built : PlainLine K → Bool) (lines : List (PlainLine K)) (s : Fabric K) → Each HasFirstIds lines → FabricIsInOrder cmp matching s
-      → Each (TellsTheFuture cmp matching) (turns_from cmp matching lines (entries_from cmp matching is_built lines s) (as_shown s))
-  future_told is_built lines s real fine =
+  pub future_told : (lines : List (PlainLine K)) (s : Fabric K) → Each HasFirstIds lines → FabricIsInOrder cmp matching s
+      → Each (TellsTheFuture cmp matching) (turns_from cmp matching lines (entries_from cmp matching lines s) (as_shown s))
+  future_told lines s real fine =
       turns_tell (λ g f interest. not (is_routed g f) && registers f interest)
       (record {
         aside = λ g f interest. refl;
@@ -248,14 +248,14 @@ module _ {K : Type 0} (cmp : K → K → Ordering) (matching : K → K → Bool)
             let parts = and_parts (not (is_routed g f)) (registers f interest) passes in
             plain_reach cmp matching total n id node e interest f g ordered found (not-true (is_routed g f) parts.0) parts.1;
       })
-      is_built lines s real fine
+      lines s real fine
 
-  pub routers_told : (is_built : PlainLine K → Bool) (lines : List (PlainLine K)) (s : Fabric K) → Each HasFirstIds lines → FabricIsInOrder cmp matching s
-      → Each (TellsOfRouters cmp matching) (turns_from cmp matching lines (entries_from cmp matching is_built lines s) (as_shown s))
-  routers_told is_built lines s real fine =
+  pub routers_told : (lines : List (PlainLine K)) (s : Fabric K) → Each HasFirstIds lines → FabricIsInOrder cmp matching s
+      → Each (TellsOfRouters cmp matching) (turns_from cmp matching lines (entries_from cmp matching lines s) (as_shown s))
+  routers_told lines s real fine =
       turns_tell (λ g f interest. is_routed g f)
       (record {
         aside = λ g f interest. refl;
         reaches = λ spent n id node e interest f g ordered accepted found passes. routed_reach cmp matching total spent n id node e interest f g ordered accepted found passes;
       })
-      is_built lines s real fine
+      lines s real fine

@@ -4,6 +4,6 @@ use Rattle.zt_faithful.proofs.entries_stand_in_order.Goals as goal
 
 pub returns : goal.returns
 returns g c = record {
-  keeps = λ is_built lines s real sound. turns_keep g.K.Ord.cmp g.K.Key.matching g.met.K.Ord.total g.met.K.Key.laws.equal_is_same is_built lines s real sound;
-  in_order = λ is_built lines s real sound. entries_in_order g.K.Ord.cmp g.K.Key.matching g.met.K.Ord.total is_built lines s real sound.order;
+  keeps = λ lines s real sound. turns_keep g.K.Ord.cmp g.K.Key.matching g.met.K.Ord.total g.met.K.Key.laws.equal_is_same lines s real sound;
+  in_order = λ lines s real sound. entries_in_order g.K.Ord.cmp g.K.Key.matching g.met.K.Ord.total lines s real sound.order;
 }

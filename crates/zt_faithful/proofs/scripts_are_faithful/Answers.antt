@@ -10,8 +10,8 @@ returns g c =
     let total = g.met.K.Ord.total in
     let equal_is_same = g.met.K.Key.laws.equal_is_same in
     record {
-      faithful = λ is_built lines real named. faithful_from cmp matching total equal_is_same is_built lines empty_fabric real named (sound_start cmp matching) (record { gateways = tt; waiting = tt });
-      strict = λ is_built lines real. strict_from cmp matching total equal_is_same is_built lines empty_fabric real (sound_start cmp matching);
-      faithful_from = λ is_built lines s real named sound all. faithful_from cmp matching total equal_is_same is_built lines s real named sound all;
-      strict_from = λ is_built lines s real sound. strict_from cmp matching total equal_is_same is_built lines s real sound;
+      faithful = λ lines real named. faithful_from cmp matching total equal_is_same lines empty_fabric real named (sound_start cmp matching) (record { gateways = tt; waiting = tt });
+      strict = λ lines real. strict_from cmp matching total equal_is_same lines empty_fabric real (sound_start cmp matching);
+      faithful_from = λ lines s real named sound all. faithful_from cmp matching total equal_is_same lines s real named sound all;
+      strict_from = λ lines s real sound. strict_from cmp matching total equal_is_same lines s real sound;
     }

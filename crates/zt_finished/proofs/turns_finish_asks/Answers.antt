@@ -3,6 +3,6 @@ use Rattle.zt_finished.proofs.turns_finish_asks.Goals as goal
 
 pub returns : goal.returns
 returns g c = record {
-  any = λ is_built lines s real is. turns_finish g.K.Ord.cmp g.K.Key.matching g.met.K.Ord.total g.met.K.Key.laws.equal_is_same is_built lines s real is;
-  start = λ is_built lines real. turns_finish_first g.K.Ord.cmp g.K.Key.matching g.met.K.Ord.total g.met.K.Key.laws.equal_is_same is_built lines real;
+  any = λ lines s real is. turns_finish g.K.Ord.cmp g.K.Key.matching g.met.K.Ord.total g.met.K.Key.laws.equal_is_same lines s real is;
+  start = λ lines real. turns_finish_first g.K.Ord.cmp g.K.Key.matching g.met.K.Ord.total g.met.K.Key.laws.equal_is_same lines real;
 }

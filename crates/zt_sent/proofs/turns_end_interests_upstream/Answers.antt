@@ -4,4 +4,4 @@ use Rattle.zt_sent.proofs.Lasting.{turns_end}
 use Rattle.zt_sent.proofs.turns_end_interests_upstream.Goals as goal
 
 pub returns : goal.returns
-returns g c = λ is_built lines real. turns_end g.K.Ord.cmp g.K.Key.matching g.met.K.Ord.total is_built lines empty_fabric real (in_order_empty g.K.Ord.cmp g.K.Key.matching) tt
+returns g c = λ lines real. turns_end g.K.Ord.cmp g.K.Key.matching g.met.K.Ord.total lines empty_fabric real (in_order_empty g.K.Ord.cmp g.K.Key.matching) tt

@@ -6,7 +6,7 @@ use Rattle.zt_tree_answers.proofs.asks_get_what_stays.Goals as goal
 
 pub returns : goal.returns
 returns g c = record {
-  start = λ is_built lines real trees.
-      gets_what_stays g.K.Ord.cmp g.K.Key.matching g.met.K.Ord.total g.met.K.Key.laws.equal_is_same is_built lines empty_fabric real (sound_start g.K.Ord.cmp g.K.Key.matching) (agree_at_first g.K.Ord.cmp g.K.Key.matching) (record { north = tt; clients = tt }) trees;
-  later = λ is_built lines s real sound agree trees_s trees. gets_what_stays g.K.Ord.cmp g.K.Key.matching g.met.K.Ord.total g.met.K.Key.laws.equal_is_same is_built lines s real sound agree trees_s trees;
+  start = λ lines real trees.
+      gets_what_stays g.K.Ord.cmp g.K.Key.matching g.met.K.Ord.total g.met.K.Key.laws.equal_is_same lines empty_fabric real (sound_start g.K.Ord.cmp g.K.Key.matching) (agree_at_first g.K.Ord.cmp g.K.Key.matching) (record { north = tt; clients = tt }) trees;
+  later = λ lines s real sound agree trees_s trees. gets_what_stays g.K.Ord.cmp g.K.Key.matching g.met.K.Ord.total g.met.K.Key.laws.equal_is_same lines s real sound agree trees_s trees;
 }

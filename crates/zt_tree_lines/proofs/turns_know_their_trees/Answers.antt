@@ -6,6 +6,6 @@ use Rattle.zt_tree_lines.proofs.turns_know_their_trees.Goals as goal
 
 pub returns : goal.returns
 returns g c = record {
-  start = λ is_built lines real trees. turns_know g.K.Ord.cmp g.K.Key.matching g.met.K.Ord.total g.met.K.Key.laws.equal_is_same is_built lines empty_fabric real (sound_start g.K.Ord.cmp g.K.Key.matching) (agree_at_first g.K.Ord.cmp g.K.Key.matching) trees;
-  later = λ is_built lines s real sound agree trees. turns_know g.K.Ord.cmp g.K.Key.matching g.met.K.Ord.total g.met.K.Key.laws.equal_is_same is_built lines s real sound agree trees;
+  start = λ lines real trees. turns_know g.K.Ord.cmp g.K.Key.matching g.met.K.Ord.total g.met.K.Key.laws.equal_is_same lines empty_fabric real (sound_start g.K.Ord.cmp g.K.Key.matching) (agree_at_first g.K.Ord.cmp g.K.Key.matching) trees;
+  later = λ lines s real sound agree trees. turns_know g.K.Ord.cmp g.K.Key.matching g.met.K.Ord.total g.met.K.Key.laws.equal_is_same lines s real sound agree trees;
 }

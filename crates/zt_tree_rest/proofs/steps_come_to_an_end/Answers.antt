@@ -5,8 +5,8 @@ use Rattle.zt_tree_rest.proofs.steps_come_to_an_end.Goals as goal
 
 pub returns : goal.returns
 returns g c = record {
-  bounded = λ is_built lines s stand follow. steps_end g.K.Ord.cmp g.K.Key.matching g.met.K.Ord.total g.met.K.Key.laws.equal_is_same is_built lines s stand follow;
+  bounded = λ lines s stand follow. steps_end g.K.Ord.cmp g.K.Key.matching g.met.K.Ord.total g.met.K.Key.laws.equal_is_same lines s stand follow;
   plainly = λ s stand. plainly g.K.Ord.cmp g.K.Key.matching s stand.sound.order stand.agree;
-  goes_on = λ is_built s built stand some. goes_on g.K.Ord.cmp g.K.Key.matching is_built s built stand some;
-  still = λ is_built link back s. takes_nothing g.K.Ord.cmp g.K.Key.matching is_built link back s;
+  goes_on = λ s stand some. goes_on g.K.Ord.cmp g.K.Key.matching s stand some;
+  still = λ link back s. takes_nothing g.K.Ord.cmp g.K.Key.matching link back s;
 }

@@ -5,7 +5,7 @@ use Rattle.zt_turns.proofs.turns_keep_what_is_visible.Goals as goal
 
 pub returns : goal.returns
 returns g c = record {
-  keeps = λ is_built lines s real sound. turns_keep g.K.Ord.cmp g.K.Key.matching g.met.K.Ord.total g.met.K.Key.laws.equal_is_same is_built lines s real sound;
-  exact = λ is_built lines s real sound. turns_exact g.K.Ord.cmp g.K.Key.matching g.met.K.Ord.total g.met.K.Key.laws.equal_is_same is_built lines s real sound;
-  start = λ is_built lines real. turns_exact g.K.Ord.cmp g.K.Key.matching g.met.K.Ord.total g.met.K.Key.laws.equal_is_same is_built lines empty_fabric real (sound_start g.K.Ord.cmp g.K.Key.matching);
+  keeps = λ lines s real sound. turns_keep g.K.Ord.cmp g.K.Key.matching g.met.K.Ord.total g.met.K.Key.laws.equal_is_same lines s real sound;
+  exact = λ lines s real sound. turns_exact g.K.Ord.cmp g.K.Key.matching g.met.K.Ord.total g.met.K.Key.laws.equal_is_same lines s real sound;
+  start = λ lines real. turns_exact g.K.Ord.cmp g.K.Key.matching g.met.K.Ord.total g.met.K.Key.laws.equal_is_same lines empty_fabric real (sound_start g.K.Ord.cmp g.K.Key.matching);
 }

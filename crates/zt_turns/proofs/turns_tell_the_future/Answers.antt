@@ -3,6 +3,6 @@ use Rattle.zt_turns.proofs.turns_tell_the_future.Goals as goal
 
 pub returns : goal.returns
 returns g c = record {
-  future = λ is_built lines s real fine. future_told g.K.Ord.cmp g.K.Key.matching g.met.K.Ord.total is_built lines s real fine;
-  routers = λ is_built lines s real fine. routers_told g.K.Ord.cmp g.K.Key.matching g.met.K.Ord.total is_built lines s real fine;
+  future = λ lines s real fine. future_told g.K.Ord.cmp g.K.Key.matching g.met.K.Ord.total lines s real fine;
+  routers = λ lines s real fine. routers_told g.K.Ord.cmp g.K.Key.matching g.met.K.Ord.total lines s real fine;
 }

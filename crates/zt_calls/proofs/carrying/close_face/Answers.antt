@@ -11,7 +11,7 @@ use Rattle.zt_calls.proofs.carrying.close_face.Goals as goal
 
 pub returns-in_default : goal.returns-in_default
 returns-in_default g c =
-    let none = sym c.find.ensures ∙ ap option_copied c.in_default.is in
+    let none = sym c.find_face.ensures ∙ ap option_copied c.in_default.is in
     subst (λ (parts : List (Part g.row.K.Denot)). Does g.K.Ord.cmp g.K.Key.matching parts c.args.g.now c.args.g.now c.args.speech.now c.args.speech.now) (sym (close_nobody g.K.Ord.cmp g.K.Key.matching c.args.face c.args.g.now none))
     (does-nothing g.K.Ord.cmp g.K.Key.matching c.args.g.now c.args.speech.now)
 
@@ -23,7 +23,7 @@ returns g c =
     let rows = c.args.g.now in
     let f = c.in-Some.f.now in
     let r = c.close_open.result in
-    let is = sym c.find.ensures ∙ ap option_copied c.in-Some.is in
+    let is = sym c.find_face.ensures ∙ ap option_copied c.in-Some.is in
     let comes = λ (parts : List (Part g.row.K.Denot)). OnOk r (Does cmp matching parts rows c.close_open.new.g c.args.speech.now c.close_open.new.speech) in
     let at_copy = subst (λ (x : Face g.row.K.Denot). comes (closing_if cmp matching c.is_routed-is_routed.result x.number x)) c.in_ok-f.ensures c.close_open.ensures in
     let at_test = subst (λ (b : Bool). comes (closing_if cmp matching b f.number f)) c.is_routed-is_routed.ensures at_copy in

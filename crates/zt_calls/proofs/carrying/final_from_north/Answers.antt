@@ -10,7 +10,7 @@ use Rattle.zt_calls.proofs.carrying.final_from_north.Goals as goal
 
 pub returns-in_default : goal.returns-in_default
 returns-in_default g c =
-    let none = sym c.find.ensures ∙ ap option_copied c.in_default.is in
+    let none = sym c.find_face.ensures ∙ ap option_copied c.in_default.is in
     subst (λ (parts : List (Part g.row.K.Denot)). Does g.K.Ord.cmp g.K.Key.matching parts c.args.g.now c.args.g.now c.args.speech.now c.args.speech.now) (sym (final_nobody g.K.Ord.cmp g.K.Key.matching c.args.face c.args.id c.args.g.now none))
     (does-nothing g.K.Ord.cmp g.K.Key.matching c.args.g.now c.args.speech.now)
 
@@ -22,6 +22,6 @@ returns g c =
     let id = c.args.id in
     let f = c.in-Some.f.now in
     let r = c.declare_final.result in
-    let is = sym c.find.ensures ∙ ap option_copied c.in-Some.is in
+    let is = sym c.find_face.ensures ∙ ap option_copied c.in-Some.is in
     let done = subst (λ (waits : Bool). OnOk r (Does cmp matching (Alter (with_face n (initial_finalised id)) ∷ (if waits then ending n id else [])) c.args.g.now c.declare_final.new.g c.args.speech.now c.declare_final.new.speech)) (c.has-waits.ensures ∙ ap (has_id id) c.pendings.ensures) c.declare_final.ensures in
     subst (λ (ps : List (Part g.row.K.Denot)). OnOk r (Does cmp matching ps c.args.g.now c.declare_final.new.g c.args.speech.now c.declare_final.new.speech)) (sym (final_at_face cmp matching n id c.args.g.now f is)) done

@@ -11,7 +11,7 @@ use Rattle.zt_calls.proofs.carrying.interest.Goals as goal
 
 pub returns-in_default : goal.returns-in_default
 returns-in_default g c =
-    let none = sym c.find.ensures ∙ ap option_copied c.in_default.is in
+    let none = sym c.find_face.ensures ∙ ap option_copied c.in_default.is in
     subst (λ (parts : List (Part g.row.K.Denot)). Does g.K.Ord.cmp g.K.Key.matching parts c.args.g.now c.args.g.now c.args.speech.now c.args.speech.now) (sym (interest_nobody g.K.Ord.cmp g.K.Key.matching c.args.face c.args.id c.args.mode c.args.options c.args.expr.now c.args.g.now none))
     (does-nothing g.K.Ord.cmp g.K.Key.matching c.args.g.now c.args.speech.now)
 
@@ -21,7 +21,7 @@ returns g c =
     let matching = g.K.Key.matching in
     let rows = c.args.g.now in
     let f = c.in-Some.f.now in
-    let is = sym c.find.ensures ∙ ap option_copied c.in-Some.is in
+    let is = sym c.find_face.ensures ∙ ap option_copied c.in-Some.is in
     let n = c.args.face in
     let id = c.args.id in
     let r = c.ask.result in

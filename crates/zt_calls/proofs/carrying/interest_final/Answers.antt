@@ -11,7 +11,7 @@ use Rattle.zt_calls.proofs.carrying.interest_final.Goals as goal
 
 pub returns-in_default : goal.returns-in_default
 returns-in_default g c =
-    let none = sym c.find.ensures ∙ ap option_copied c.in_default.is in
+    let none = sym c.find_face.ensures ∙ ap option_copied c.in_default.is in
     subst (λ (parts : List (Part g.row.K.Denot)). Does g.K.Ord.cmp g.K.Key.matching parts c.args.g.now c.args.g.now c.args.speech.now c.args.speech.now) (sym (interest_final_nobody g.K.Ord.cmp g.K.Key.matching c.args.face c.args.id c.args.g.now none))
     (does-nothing g.K.Ord.cmp g.K.Key.matching c.args.g.now c.args.speech.now)
 
@@ -22,7 +22,7 @@ returns-in_default-at g c =
     let n = c.args.face in
     let id = c.args.id in
     let f = c.in-Some.f.now in
-    let is = sym c.find.ensures ∙ ap option_copied c.in-Some.is in
+    let is = sym c.find_face.ensures ∙ ap option_copied c.in-Some.is in
     let none = sym (c.at.ensures ∙ ap (at_id id) c.held.ensures) ∙ ap option_copied c.in_default-at.is in
     let parts = interest_final_at_face cmp matching n id c.args.g.now f is ∙ nobody (λ (interest : InterestRow g.row.K.Denot). finalising cmp matching n id interest) (at_id id f.held) none in
     subst (λ (ps : List (Part g.row.K.Denot)). Does cmp matching ps c.args.g.now c.args.g.now c.args.speech.now c.args.speech.now) (sym parts)
@@ -36,7 +36,7 @@ returns g c =
     let id = c.args.id in
     let f = c.in-Some.f.now in
     let r = c.finalise.result in
-    let is = sym c.find.ensures ∙ ap option_copied c.in-Some.is in
+    let is = sym c.find_face.ensures ∙ ap option_copied c.in-Some.is in
     let held = sym (c.at.ensures ∙ ap (at_id id) c.held.ensures) ∙ ap option_copied c.in-Some-at.is in
     let done = subst (λ (interest : InterestRow g.row.K.Denot). OnOk r (Does cmp matching (finalising cmp matching n id interest) c.args.g.now c.finalise.new.g c.args.speech.now c.finalise.new.speech)) c.in_ok-interest.ensures c.finalise.ensures in
     let parts = interest_final_at_face cmp matching n id c.args.g.now f is ∙ somebody (λ (interest : InterestRow g.row.K.Denot). finalising cmp matching n id interest) (at_id id f.held) c.in-Some-at.held.now held in

@@ -14,7 +14,7 @@ use Rattle.zt_calls.proofs.speaking.declare_token.Goals as goal
 
 pub returns-in_default : goal.returns-in_default
 returns-in_default g c =
-    let none = sym c.find.ensures ∙ ap option_copied c.in_default.is in
+    let none = sym c.find_face.ensures ∙ ap option_copied c.in_default.is in
     subst (λ (parts : List (Part g.row.K.Denot)). Does g.K.Ord.cmp g.K.Key.matching parts c.args.g.now c.args.g.now c.args.speech.now c.args.speech.now) (sym (declare_nobody g.K.Ord.cmp g.K.Key.matching c.args.face c.args.id c.args.node_id c.args.expr.now c.args.interest c.args.g.now none))
     (does-nothing g.K.Ord.cmp g.K.Key.matching c.args.g.now c.args.speech.now)
 
@@ -29,7 +29,7 @@ returns-then-is_routed g c =
     let i = c.args.interest in
     let rows = c.args.g.now in
     let f = c.in-Some.f.now in
-    let is = sym c.find.ensures ∙ ap option_copied c.in-Some.is in
+    let is = sym c.find_face.ensures ∙ ap option_copied c.in-Some.is in
     let routed = sym c.is_routed.ensures ∙ c.if-is_routed.true in
     let comes = λ (parts : List (Part g.row.K.Denot)). OnOk c.declare_from.result (Does cmp matching parts rows c.declare_from.new.g c.args.speech.now c.declare_from.new.speech) in
     let at_region = subst (λ (r : Region). comes (declaring_from cmp matching n r c.in_ok-source.source e)) c.region-region.ensures c.declare_from.ensures in
@@ -47,7 +47,7 @@ returns g c =
     let i = c.args.interest in
     let rows = c.args.g.now in
     let f = c.in-Some.f.now in
-    let is = sym c.find.ensures ∙ ap option_copied c.in-Some.is in
+    let is = sym c.find_face.ensures ∙ ap option_copied c.in-Some.is in
     let plain = sym c.is_routed.ensures ∙ c.if-is_routed.false in
     let comes = λ (parts : List (Part g.row.K.Denot)). OnOk c.declare_plain.result (Does cmp matching parts rows c.declare_plain.new.g c.args.speech.now c.declare_plain.new.speech) in
     let at_region = subst (λ (r : Region). comes (answering_asked cmp matching n c.asked_by-asked.result e ++ declaring_if cmp matching c.registers-registers.result n r id e)) c.region-region.ensures c.declare_plain.ensures in

@@ -1,18 +1,26 @@
-use Rattle.std.proofs.Common.{◌≡◌, ◌∷◌, ◌++◌, [], Bool, List, None, Option, OnOk, Some, ap, if◌then◌else◌, refl, subst, sym, ◌∙◌}
-use Rattle.std.specs.Option.{option_copied}
+use Rattle.std.proofs.Common.{◌≡◌, ◌∷◌, [], Option, OnOk, subst, sym}
+use Rattle.zt_calls.proofs.Doing.{does-nothing, does-then}
 use Rattle.zt_calls.specs.Does.{Does}
-use Rattle.zt_model.specs.Parts.{Alter, Part, Say, with_face}
-use Rattle.zt_calls.proofs.Doing.{does-then}
-use Rattle.zt_model.specs.Says.{hiding_undeclared}
-use Rattle.zt_model.specs.Telling.{undeclaring}
+use Rattle.zt_calls.specs.Speaking.{undeclaring_plain}
+use Rattle.zt_model.specs.Parts.{Alter, Say, with_face}
+use Rattle.zt_model.specs.Telling.{forget, unregistered}
+use Rattle.zt_model.specs.Trees.{hiding}
 use Rattle.zt_calls.proofs.speaking.undeclare_plain.Goals as goal
+
+pub returns-in_default : goal.returns-in_default
+returns-in_default g c =
+    let cmp = g.K.Ord.cmp in
+    let matching = g.K.Key.matching in
+    subst (λ (o : Option g.row.K.Denot). Does cmp matching (undeclaring_plain cmp matching c.args.face c.args.region c.args.id o) c.args.g.now c.args.g.now c.args.speech.now c.args.speech.now) (sym c.in_default.is)
+    (does-nothing cmp matching c.args.g.now c.args.speech.now)
 
 pub returns : goal.returns
 returns g c =
     let cmp = g.K.Ord.cmp in
     let matching = g.K.Key.matching in
-    let f = c.args.f.now in
-    let given = c.args.given.now in
-    does-then cmp matching c.hide_undeclared.result (undeclaring cmp matching f.number c.args.id given f) (hiding_undeclared cmp matching c.args.id given f)
-    c.args.g.now c.undeclare_found.new.g c.hide_undeclared.new.g c.args.speech.now c.undeclare_found.new.speech c.hide_undeclared.new.speech
-    c.in_ok-undeclare_found.ensures c.hide_undeclared.ensures
+    let e = c.in-Some.expr in
+    let r = c.hide_token.result in
+    let gone = Alter (with_face c.args.face (unregistered c.args.id)) ∷ Say (forget cmp matching c.args.region e) ∷ [] in
+    subst (λ (o : Option g.row.K.Denot). OnOk r (Does cmp matching (undeclaring_plain cmp matching c.args.face c.args.region c.args.id o) c.args.g.now c.hide_token.new.g c.args.speech.now c.hide_token.new.speech)) (sym c.in-Some.is)
+    (does-then cmp matching r gone (hiding cmp c.args.region e) c.args.g.now c.undeclare.new.g c.hide_token.new.g c.args.speech.now c.undeclare.new.speech c.hide_token.new.speech
+    c.in_ok-undeclare.ensures c.hide_token.ensures)

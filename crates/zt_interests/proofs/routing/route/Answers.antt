@@ -1,19 +1,19 @@
-use Rattle.std.proofs.Common.{◌≤◌, ◌<◌, ap, length, arith, ◌∙◌}
-use Rattle.zt_model.specs.Parts.{to_each}
+use Rattle.std.proofs.Common.{ap, flat_map, ◌∙◌}
+use Rattle.std.proofs.lemmas.Result.{IfOk-weaker}
+use Rattle.zt_region.specs.Region.{is_north}
 use Rattle.zt_model.specs.Routing.{route_to}
-use Rattle.zt_state.proofs.Walks.{to_each_done, to_each_more}
+use Rattle.zt_tokens.specs.Walks.{given_at, sent_to}
+use Rattle.zt_tokens.proofs.Chosen.{chosen_each}
+use Rattle.zt_interests.proofs.North.{south-unrouted}
 use Rattle.zt_interests.proofs.routing.route.Goals as goal
-
-pub loop-f-preserved : goal.loop-f-preserved
-loop-f-preserved g c =
-    let rule = route_to c.args.g.now c.args.asker c.args.interest.now in
-    let faces = c.faces-f-items.result.now in
-    let within : c.loop-f.f-index < length faces = omega arith in
-    to_each_more rule faces c.loop-f.f-index c.f-item.result c.loop-f.sends.items _ _ within c.f-item.is c.loop-f.invariant c.in_ok-route_to.ensures
 
 pub returns : goal.returns
 returns g c =
-    let rule = route_to c.args.g.now c.args.asker c.args.interest.now in
-    let faces = c.faces-f-items.result.now in
-    let past : length faces ≤ c.loop-f.f-index = omega arith in
-    to_each_done rule faces c.loop-f.f-index c.loop-f.sends.items _ past c.loop-f.invariant ∙ ap (to_each rule) c.faces-f-items.ensures
+    let rows = c.args.g.now in
+    let rule = route_to rows c.args.asker c.args.interest.now in
+    IfOk-weaker c.say_at.result _ _
+    (λ sends given.
+    given
+    ∙ ap (flat_map (given_at (sent_to rule) rows.faces)) c.north.ensures.north
+    ∙ chosen_each rule rows.faces (λ f. is_north f.region) c.north.ensures.rising (south-unrouted rows c.args.asker c.args.interest.now))
+    c.say_at.ensures

@@ -1,18 +1,25 @@
-use Rattle.std.proofs.Common.{ap, ◌∙◌}
+use Rattle.std.proofs.Common.{◌++◌, ap, flat_map, sym, ◌∙◌}
+use Rattle.std.proofs.lemmas.List.{append-nil, drop_all}
+use Rattle.zt_region.specs.Region.{is_north}
 use Rattle.zt_model.specs.Routing.{is_target, sent_as}
-use Rattle.zt_interests.specs.Chosen.{all_chosen}
-use Rattle.zt_interests.proofs.ChosenRows.{chosen_done, chosen_more}
+use Rattle.zt_model.specs.Rows.{Face}
+use Rattle.zt_interests.specs.Chosen.{chosen}
+use Rattle.zt_tokens.specs.Walks.{given_at}
+use Rattle.zt_tokens.proofs.Chosen.{chosen_numbers}
+use Rattle.zt_interests.proofs.North.{chosen-all, south-unchosen}
 use Rattle.zt_interests.proofs.routing.sent_as.Goals as goal
-
-pub loop-f-preserved : goal.loop-f-preserved
-loop-f-preserved g c =
-    let asked = is_target c.args.g.now c.args.asker c.args.mode in
-    let faces = c.faces-f-items.result.now in
-    chosen_more asked (λ f. (f.number, f.next)) faces c.loop-f.f-index c.f-item.result c.loop-f.targets.items _ _ c.loop-f-test.true c.f-item.is c.loop-f.invariant c.in_ok-add_target.ensures
 
 pub returns : goal.returns
 unfolding sent_as
 returns g c =
-    let asked = is_target c.args.g.now c.args.asker c.args.mode in
-    let faces = c.faces-f-items.result.now in
-    chosen_done asked (λ f. (f.number, f.next)) faces c.loop-f.f-index c.loop-f.targets.items _ c.loop-f-test.false c.loop-f.invariant ∙ ap (all_chosen asked (λ f. (f.number, f.next))) c.faces-f-items.ensures
+    let rows = c.args.g.now in
+    let asked = is_target rows c.args.asker c.args.mode in
+    let give = chosen asked (λ (f : Face g.row.K.Denot). (f.number, f.next)) in
+    let given = given_at give rows.faces in
+    let items = c.north-number-items.result.now in
+    sym (append-nil c.loop-number.targets.items)
+    ∙ ap (λ ns. c.loop-number.targets.items ++ flat_map given ns) (sym (drop_all c.loop-number.number-index items c.loop-number-test.false))
+    ∙ c.loop-number.invariant
+    ∙ ap (flat_map given) c.north-number-items.ensures.north
+    ∙ chosen_numbers give rows.faces (λ f. is_north f.region) c.north-number-items.ensures.rising (south-unchosen (λ f. (f.number, f.next)) rows c.args.asker c.args.mode)
+    ∙ chosen-all asked (λ f. (f.number, f.next)) rows.faces

@@ -1,17 +1,19 @@
-use Rattle.std.proofs.Common.{ap, ◌∙◌}
-use Rattle.zt_model.specs.Parts.{to_each}
+use Rattle.std.proofs.Common.{ap, flat_map, ◌∙◌}
+use Rattle.std.proofs.lemmas.Result.{IfOk-weaker}
+use Rattle.zt_region.specs.Region.{is_north}
 use Rattle.zt_model.specs.Routing.{end_upstream_to}
-use Rattle.zt_state.proofs.Walks.{to_each_done, to_each_more}
+use Rattle.zt_tokens.specs.Walks.{given_at, sent_to}
+use Rattle.zt_tokens.proofs.Chosen.{chosen_each}
+use Rattle.zt_interests.proofs.North.{south-unended}
 use Rattle.zt_interests.proofs.upstream.end_upstream.Goals as goal
-
-pub loop-f-preserved : goal.loop-f-preserved
-loop-f-preserved g c =
-    let rule = end_upstream_to g.K.Ord.cmp g.K.Key.matching c.args.g.now c.args.interest.now in
-    let faces = c.faces-f-items.result.now in
-    to_each_more rule faces c.loop-f.f-index c.f-item.result c.loop-f.sends.items c.end_upstream_to.new.sends.items (to_each rule faces) c.loop-f-test.true c.f-item.is c.loop-f.invariant c.in_ok-end_upstream_to.ensures
 
 pub returns : goal.returns
 returns g c =
-    let rule = end_upstream_to g.K.Ord.cmp g.K.Key.matching c.args.g.now c.args.interest.now in
-    let faces = c.faces-f-items.result.now in
-    to_each_done rule faces c.loop-f.f-index c.loop-f.sends.items (to_each rule faces) c.loop-f-test.false c.loop-f.invariant ∙ ap (to_each rule) c.faces-f-items.ensures
+    let rows = c.args.g.now in
+    let rule = end_upstream_to g.K.Ord.cmp g.K.Key.matching rows c.args.interest.now in
+    IfOk-weaker c.say_at.result _ _
+    (λ sends given.
+    given
+    ∙ ap (flat_map (given_at (sent_to rule) rows.faces)) c.north.ensures.north
+    ∙ chosen_each rule rows.faces (λ f. is_north f.region) c.north.ensures.rising (south-unended g.K.Ord.cmp g.K.Key.matching rows c.args.interest.now))
+    c.say_at.ensures

@@ -5,5 +5,5 @@ use Rattle.zt_laws.proofs.order.lines_keep_order.Goals as goal
 pub returns : goal.returns
 returns g c = record {
   start = in_order_empty g.K.Ord.cmp g.K.Key.matching;
-  step = λ is_built line s real fine. in_order_after_line g.K.Ord.cmp g.K.Key.matching g.met.K.Ord.total is_built line s real fine;
+  step = λ line s real fine. in_order_after_line g.K.Ord.cmp g.K.Key.matching g.met.K.Ord.total line s real fine;
 }

@@ -12,5 +12,5 @@ returns g c =
       call = λ c g rows. call_shown_is cmp matching total c g rows.lists;
       start = refl;
       line = λ line s fine. line_is_shown cmp matching total line s fine;
-      entry = λ is_built line s fine. fabric_is_shown cmp matching total is_built line s fine;
+      entry = λ line s fine. fabric_is_shown cmp matching total line s fine;
     }

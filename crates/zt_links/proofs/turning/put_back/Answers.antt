@@ -8,3 +8,6 @@ returns-in-None g c =
     let s = c.args.s.now in
     let none : nth c.args.gateway s.gateways ≡ None = rw c.gateways.ensures at c.in-None.ensures.none in
     ap (λ gateways. record s { gateways = gateways }) (sym (at_nth_none c.args.gateway _ s.gateways none))
+
+pub returns-in-Some : goal.returns-in-Some
+returns-in-Some g c = rw c.in-Some.ensures.counted c.put_rows-former.ensures.put

@@ -10,4 +10,4 @@ loop-place-preserved g c =
     let within : place - 1 < length rows = omega arith in
     let next : place ≡ place - 1 + 1 = omega arith in
     ordered_more g.K.Ord.cmp (λ row. region_eq c.args.region row.region && zid_eq c.args.source row.source) (λ row. row.expr)
-    rows (place - 1) place c.index-rows-place.result c.loop-place.exprs.items _ within next c.index-rows-place.is c.loop-place.invariant c.in_ok-add_routed.ensures
+    rows (place - 1) place c.index-rows-place.result c.loop-place.exprs _ within next c.index-rows-place.is c.loop-place.invariant c.in_ok-add_routed.ensures

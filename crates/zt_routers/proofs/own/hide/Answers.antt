@@ -1,8 +1,14 @@
-use Rattle.std.proofs.Common.{◌≤◌, ◌<◌, ap, length, arith, ◌∙◌}
+use Rattle.std.proofs.Common.{◌≡◌, [], sym, ◌≤◌, ◌<◌, ap, length, arith, ◌∙◌}
 use Rattle.zt_model.specs.Parts.{to_each}
 use Rattle.zt_model.specs.Trees.{hide_to}
 use Rattle.zt_state.proofs.Walks.{to_each_done, to_each_more}
+use Rattle.zt_routers.proofs.Treeless.{empty_of, hides_none}
 use Rattle.zt_routers.proofs.own.hide.Goals as goal
+
+pub returns-then-is_empty : goal.returns-then-is_empty
+returns-then-is_empty g c =
+    let none : c.args.g.now.trees ≡ [] = empty_of c.trees.result.now c.args.g.now.trees c.trees.ensures (sym c.is_empty.ensures ∙ c.if-is_empty.true) in
+    c.new-sends.ensures.items ∙ sym (hides_none g.K.Ord.cmp c.args.g.now none c.args.source c.args.expr.now c.args.g.now.faces)
 
 pub loop-f-preserved : goal.loop-f-preserved
 loop-f-preserved g c =

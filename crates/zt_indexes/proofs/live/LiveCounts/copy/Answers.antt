@@ -3,6 +3,7 @@ use Rattle.std.proofs.lemmas.Map.Keys.{sorted_tail}
 use Rattle.std.proofs.lemmas.Map.Lookups.{btree_map_from_get}
 use Rattle.std.specs.BTreeMap.{is_at}
 use Rattle.std.specs.Map.{lookup}
+use Rattle.zt_indexes.specs.Grouped.{grouped-grown, grouped-more, grouped-none, key-with}
 use Rattle.zt_indexes.proofs.Copied.{one-copied, or-none}
 use Rattle.zt_indexes.proofs.live.LiveCounts.copy.Goals as goal
 
@@ -13,6 +14,7 @@ loop-expr-init g c =
       in_order = rw gives.0 gives.5;
       copied = c.new-keys.ensures.ordered;
       found = λ q. rw (c.new-keys.ensures.empty, gives.0, ← c.self.view_is) (or-none (lookup (is_at (g.K.Ord.cmp q)) c.self.inside.keys.entries));
+      grouped = rw (c.new-keys.ensures.empty, c.new-firsts.ensures, c.new-lasts.ensures) (grouped-none g.K.Ord.cmp g.K.Key.anchored);
     }
 
 pub loop-expr-preserved : goal.loop-expr-preserved
@@ -20,10 +22,19 @@ loop-expr-preserved g c =
     let cmp = g.K.Ord.cmp in
     let step = c.in-Some.ensures.steps in
     let sorted = rw step at c.loop-expr.invariant.in_order in
+    let expr = c.in-Some.expr.now in
+    let before = c.loop-expr.keys.entries in
+    let after = c.put_copy.new.keys.entries in
+    let firsts = c.put_at_anchors.new.firsts in
+    let lasts = c.put_at_anchors.new.lasts in
+    let with = c.in_ok-put_copy.ensures.with in
     record {
       in_order = sorted_tail cmp _ _ sorted;
       copied = c.in_ok-put_copy.ensures.in_order;
-      found = λ q. one-copied cmp g.met.K.Ord.total (c.in-Some.expr.now, c.in-Some.counts.now) c.next.new.self c.loop-expr.keys.entries c.put_copy.new.keys.entries sorted c.in_ok-put_copy.ensures.with q ∙ rw step at (c.loop-expr.invariant.found q);
+      found = λ q. one-copied cmp g.met.K.Ord.total (c.in-Some.expr.now, c.in-Some.counts.now) c.next.new.self before after sorted with q ∙ rw step at (c.loop-expr.invariant.found q);
+      grouped = grouped-more cmp g.K.Key.anchored g.met.K.Key.laws.equal_is_same expr firsts lasts before after
+          (grouped-grown cmp g.K.Key.anchored c.loop-expr.firsts firsts c.loop-expr.lasts lasts before c.loop-expr.invariant.grouped c.put_at_anchors.ensures.first c.put_at_anchors.ensures.last)
+          c.in_ok-put_at_anchors.ensures.at_first c.in_ok-put_at_anchors.ensures.at_last (key-with cmp expr c.in-Some.counts.now before after with);
     }
 
 pub returns : goal.returns

@@ -31,13 +31,13 @@ after g c =
       gateway = gateway;
       entries = inside.entries ++ record { pass = c.args.pass; call = call; made = made; outcome = outcome } ∷ [];
     } in
-    let entry : JournalEntry K = record { pass = c.args.pass; call = c.args.call; made = c.commit-made.result; outcome = Ok c.in_ok-sent.sent } in
+    let entry : JournalEntry K = record { pass = c.args.pass; call = c.args.call; made = c.commit_call-made.result; outcome = Ok c.in_ok-sent.sent } in
     let left : Running K = record { rows = c.args.prepared.after.rows; waiting = [] } in
     ap begun (c.push_within.ensures ∙ ap (λ (es : List (JournalEntry K)). es ++ entry ∷ []) c.reserve.ensures.items)
     ∙ ap behind (map-append journalled c.self.inside.entries.items (entry ∷ []))
-    ∙ ap (λ (gateway : Running K). ended gateway (Ok c.in_ok-sent.sent.items) c.commit-made.result) (c.clear_outbox.ensures ∙ ap (λ (running : Running K). record running { waiting = [] }) c.commit-made.ensures.done)
-    ∙ ap (λ (sent : List (Sent K)). ended left (Ok sent) c.commit-made.result) c.in_ok-sent.ensures
-    ∙ ap (λ (made : Option ℕ). ended left (Ok (map sent_alone (by_face c.args.prepared.said))) made) c.commit-made.ensures.made
+    ∙ ap (λ (gateway : Running K). ended gateway (Ok c.in_ok-sent.sent.items) c.commit_call-made.result) (c.clear_outbox.ensures ∙ ap (λ (running : Running K). record running { waiting = [] }) c.commit_call-made.ensures.done)
+    ∙ ap (λ (sent : List (Sent K)). ended left (Ok sent) c.commit_call-made.result) c.in_ok-sent.ensures
+    ∙ ap (λ (made : Option ℕ). ended left (Ok (map sent_alone (by_face c.args.prepared.said))) made) c.commit_call-made.ensures.made
     ∙ subst
     (λ (j : Recorded K). record { opening = inside.opening; gateway = record { rows = c.args.prepared.after.rows; waiting = [] }; entries = inside.entries ++ record { pass = c.args.pass; call = call; made = c.args.prepared.made; outcome = Ok (map sent_alone (by_face c.args.prepared.said)) } ∷ [] } ≡ entered cmp matching c.args.pass call j)
     c.self.view_is

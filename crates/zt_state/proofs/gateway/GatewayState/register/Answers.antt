@@ -11,8 +11,8 @@ invariant_of-self g c =
     let s = c.self.inside in
     let change = registered c.args.id c.args.expr.now in
     let made = c.in-Ok.ensures in
-    rw made.faces (indexed-changed g.K.Ord.cmp s.zid s.made s.routed.items s.faces s.live c.self.invariant c.args.face change c.register_in.new.live (λ f. refl) (registered-order c.args.id c.args.expr.now) (rw made.faces at made.counts))
+    rw made.faces (indexed-changed g.K.Ord.cmp g.K.Key.anchored s.zid s.made s.routed.items s.faces s.live s.seekers c.self.invariant c.args.face change c.register_in.new.live (λ f. refl) (λ f. refl) (λ f. refl) (registered-order c.args.id c.args.expr.now) (rw made.faces at made.counts))
 
 pub invariant_of-self-in-Err : goal.invariant_of-self-in-Err
 invariant_of-self-in-Err g c =
-    rw (c.empty.ensures.faces, c.empty.ensures.routed, c.empty.ensures.live) (indexed-none g.K.Ord.cmp c.self.inside.zid c.self.inside.made)
+    rw (c.empty.ensures.faces, c.empty.ensures.routed, c.empty.ensures.live, c.empty.ensures.seekers) (indexed-none g.K.Ord.cmp g.K.Key.anchored c.self.inside.zid c.self.inside.made)

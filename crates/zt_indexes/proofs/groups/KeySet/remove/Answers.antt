@@ -1,0 +1,7 @@
+use Rattle.zt_indexes.proofs.Sets.{drop-both}
+use Rattle.zt_indexes.proofs.groups.KeySet.remove.Goals as goal
+
+pub returns : goal.returns
+returns g c q =
+    rw (← c.self.view_is)
+    (drop-both g.K.Ord.cmp g.met.K.Ord.total c.self.inside.one c.drop_one.new.one c.args.key.now c.self.inside.more.keys c.remove.new.self.keys c.drop_one.ensures c.remove.ensures.updates.0 q)

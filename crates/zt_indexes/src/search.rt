@@ -1,0 +1,214 @@
+// The expressions that match a key and have rows in regions that pass.
+ghost use Rattle.std.specs.Prelude.{◌≡◌, ◌&&◌, ◌||◌, ◌∷◌, ◌++◌, [], filter, if◌then◌else◌, true, IfOk, OnOk};
+ghost use Rattle.std.specs.BTreeMap.{is_at};
+ghost use Rattle.std.specs.BTreeSet.{contains};
+ghost use Rattle.std.specs.List.Sorted.{IsStrictlySortedBy};
+ghost use Rattle.zt_indexes.specs.Counted.{is_shown_in};
+ghost use Rattle.zt_indexes.specs.Grouped.{as_list, is_grouped, is_in};
+ghost use Rattle.zt_indexes.specs.Live.{counts_at, shown_keys};
+ghost use Rattle.zt_indexes.specs.Sought.{AreFound, is_found, is_sought};
+
+use crate::groups::{KeyGroups, KeySet};
+use crate::live::RegionTest;
+use crate::regions::RegionCounts;
+use std::alloc::Global;
+use std::collections::{BTreeMap, BTreeSet};
+use zt_keys::{Key, Memory};
+
+/// Whether some row of the expression stands in a region that passes.
+pub fn is_shown_at<K: Key, T: RegionTest>(
+    keys: &BTreeMap<K, RegionCounts>,
+    expr: &K,
+    test: &T,
+) -> bool
+    ensures { result ≡ is_shown_in (T.passes test.now) (counts_at K.cmp expr.now keys.now.entries) }
+{
+    match keys.get(expr) {
+        Some(counts) => counts.is_shown(test),
+        None => false,
+    }
+}
+
+// Adds the expression where it matches the key and some of its rows stand in a region that passes.
+// The only error is want of memory.
+fn push_matching<K: Key, T: RegionTest>(
+    alloc: Global,
+    expr: &K,
+    counts: &RegionCounts,
+    test: &T,
+    key: &K,
+    exprs: &mut Vec<K>,
+) -> Result<(), Memory>
+    ensures { OnOk result (exprs.new.items ≡ exprs.old.items
+        ++ (if K.matching key.now expr.now && is_shown_in (T.passes test.now) counts.now
+        then expr.now ∷ [] else [])) }
+{
+    if key.matches(expr) && counts.is_shown(test) {
+        exprs.push(expr.copy(alloc)?)?;
+    }
+    Ok(())
+}
+
+/// The expressions that match the key, of rows in regions that pass, in key order: each is tried.
+/// The only error is want of memory.
+pub fn try_all<K: Key, T: RegionTest>(
+    alloc: Global,
+    keys: &BTreeMap<K, RegionCounts>,
+    test: &T,
+    key: &K,
+) -> Result<Vec<K>, Memory>
+    ensures { IfOk result (λ exprs. exprs.items
+        ≡ filter (K.matching key.now) (shown_keys (T.passes test.now) keys.now.entries)) }
+{
+    let mut exprs = Vec::new(alloc);
+    for (expr, counts) in keys {
+        push_matching(alloc, expr, counts, test, key, &mut exprs)?;
+    }
+    Ok(exprs)
+}
+
+// Puts a copy of the expression among those found, where it is sought. The only error is want of
+// memory.
+fn add_sought<K: Key, T: RegionTest>(
+    alloc: Global,
+    found: &mut BTreeSet<K>,
+    expr: &K,
+    keys: &BTreeMap<K, RegionCounts>,
+    test: &T,
+    key: &K,
+) -> Result<(), Memory>
+    ensures { OnOk result ((q : K) → contains K.cmp found.new q
+        ≡ (if is_at (K.cmp expr.now) q
+        && is_sought K.cmp (K.matching key.now) (T.passes test.now) keys.now.entries expr.now
+        then true else contains K.cmp found.old q)) }
+{
+    if key.matches(expr) && is_shown_at(keys, expr, test) {
+        found.insert(expr.copy(alloc)?)?;
+    }
+    Ok(())
+}
+
+// Puts a key among those found, if it is there and sought. The only error is want of memory.
+fn gather_one<K: Key, T: RegionTest>(
+    alloc: Global,
+    found: &mut BTreeSet<K>,
+    one: &Option<K>,
+    keys: &BTreeMap<K, RegionCounts>,
+    test: &T,
+    key: &K,
+) -> Result<(), Memory>
+    ensures { OnOk result ((q : K) → contains K.cmp found.new q ≡ (contains K.cmp found.old q
+        || (is_in K.cmp q (as_list one.now)
+        && is_sought K.cmp (K.matching key.now) (T.passes test.now) keys.now.entries q))) }
+{
+    match one {
+        Some(expr) => add_sought(alloc, found, expr, keys, test, key),
+        None => Ok(()),
+    }
+}
+
+// Puts those keys among those found that are sought. The only error is want of memory.
+fn gather_more<K: Key, T: RegionTest>(
+    alloc: Global,
+    found: &mut BTreeSet<K>,
+    more: &BTreeSet<K>,
+    keys: &BTreeMap<K, RegionCounts>,
+    test: &T,
+    key: &K,
+) -> Result<(), Memory>
+    ensures { OnOk result ((q : K) → contains K.cmp found.new q ≡ (contains K.cmp found.old q
+        || (is_in K.cmp q more.now.keys
+        && is_sought K.cmp (K.matching key.now) (T.passes test.now) keys.now.entries q))) }
+{
+    for expr in more {
+        add_sought(alloc, found, expr, keys, test, key)?;
+    }
+    Ok(())
+}
+
+// Puts those of a group among those found that are sought. The only error is want of memory.
+fn gather_in<K: Key, T: RegionTest>(
+    alloc: Global,
+    found: &mut BTreeSet<K>,
+    group: &KeySet<K>,
+    keys: &BTreeMap<K, RegionCounts>,
+    test: &T,
+    key: &K,
+) -> Result<(), Memory>
+    ensures { OnOk result ((q : K) → contains K.cmp found.new q ≡ (contains K.cmp found.old q
+        || (is_in K.cmp q group.now
+        && is_sought K.cmp (K.matching key.now) (T.passes test.now) keys.now.entries q))) }
+{
+    let (one, more) = group.parts();
+    gather_one(alloc, found, one, keys, test, key)?;
+    gather_more(alloc, found, more, keys, test, key)
+}
+
+// Puts those among those found that are sought and stand at a number, or at none. The only error is
+// want of memory.
+fn gather_at<K: Key, T: RegionTest>(
+    alloc: Global,
+    found: &mut BTreeSet<K>,
+    groups: &KeyGroups<K>,
+    number: Option<u64>,
+    keys: &BTreeMap<K, RegionCounts>,
+    test: &T,
+    key: &K,
+) -> Result<(), Memory>
+    ensures { OnOk result ((q : K) → contains K.cmp found.new q ≡ (contains K.cmp found.old q
+        || (is_grouped K.cmp number q groups.now
+        && is_sought K.cmp (K.matching key.now) (T.passes test.now) keys.now.entries q))) }
+{
+    match groups.get(number) {
+        Some(group) => gather_in(alloc, found, group, keys, test, key),
+        None => Ok(()),
+    }
+}
+
+// Those that are sought and stand at the number, or at none. The only error is want of memory.
+fn gather_all<K: Key, T: RegionTest>(
+    alloc: Global,
+    groups: &KeyGroups<K>,
+    number: u64,
+    keys: &BTreeMap<K, RegionCounts>,
+    test: &T,
+    key: &K,
+) -> Result<BTreeSet<K>, Memory>
+    ensures { IfOk result (λ found. (q : K) → contains K.cmp found q
+        ≡ is_found K.cmp groups.now number
+        (is_sought K.cmp (K.matching key.now) (T.passes test.now) keys.now.entries) q) }
+{
+    let mut found = BTreeSet::new(alloc);
+    gather_at(alloc, &mut found, groups, Some(number), keys, test, key)?;
+    gather_at(alloc, &mut found, groups, None, keys, test, key)?;
+    Ok(found)
+}
+
+// The keys of a set, in order. The only error is want of memory.
+fn listed<K: Key>(alloc: Global, found: BTreeSet<K>) -> Result<Vec<K>, Memory>
+    ensures listed { IfOk result (λ exprs. exprs.items ≡ found.keys) }
+    ensures in_order { IsStrictlySortedBy K.cmp found.keys }
+{
+    let mut exprs = Vec::new(alloc);
+    for expr in found {
+        exprs.push(expr)?;
+    }
+    Ok(exprs)
+}
+
+/// The expressions that match the key, of rows in regions that pass, and stand at the number or at
+/// none, in key order. The only error is want of memory.
+pub fn try_at<K: Key, T: RegionTest>(
+    alloc: Global,
+    groups: &KeyGroups<K>,
+    number: u64,
+    keys: &BTreeMap<K, RegionCounts>,
+    test: &T,
+    key: &K,
+) -> Result<Vec<K>, Memory>
+    ensures { IfOk result (λ exprs. AreFound K.cmp groups.now number
+        (is_sought K.cmp (K.matching key.now) (T.passes test.now) keys.now.entries) exprs.items) }
+{
+    let found = gather_all(alloc, groups, number, keys, test, key)?;
+    listed(alloc, found)
+}

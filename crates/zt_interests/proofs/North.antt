@@ -1,0 +1,84 @@
+-- Faces to the south are given nothing that goes north.
+use Rattle.std.proofs.Common.{◌≡◌, ◌<◌, ◌≤◌, ◌+◌, ℕ, ◌==◌, drop, get_or, length, Bool, true, false, ◌&&◌, not, List, [], ◌∷◌, Option, Some, None, ap, filter, flat_map, map, refl, ◌∙◌}
+use Rattle.std.specs.List.{AllByRecursion, list_any}
+use Rattle.std.specs.declared.cmp.Ordering.{Ordering}
+use Rattle.zt_keys.specs.Test.{by_test}
+use Rattle.zt_region.specs.Region.{bound_eq, is_north}
+use Rattle.zt_region.specs.declared.region.Region.{Region}
+use Rattle.zt_region.specs.declared.region.Bound.TheVariants.{South as SouthBound}
+use Rattle.zt_protocol.specs.declared.interests.InterestMode.{InterestMode}
+use Rattle.zt_protocol.specs.declared.messages.Message.TheVariants as message
+use Rattle.std.proofs.lemmas.List.{drop_all, drop_more}
+use Rattle.zt_model.specs.Lists.{first_where, is_some_and}
+use Rattle.zt_model.specs.Parts.{find_face}
+use Rattle.zt_model.specs.Routing.{asks_same, end_upstream_to, is_held_south, is_target, is_target_of, leads_up, route_to}
+use Rattle.zt_model.specs.Rows.{Face, InterestRow, Rows}
+use Rattle.zt_state.specs.Rising.{IsRising}
+use Rattle.zt_interests.specs.Chosen.{all_chosen, chosen}
+use Rattle.zt_tokens.proofs.Chosen.{all-found}
+
+and-second : (a b c : Bool) → b ≡ false → (a && (b && c)) ≡ false
+and-second true b c h = rw h refl
+and-second false b c h = refl
+
+-- where none passes nothing is chosen
+none-chosen : {A B : Type 0} (p : A → Bool) (give : A → B) (xs : List A) → list_any p xs ≡ false → map give (filter p xs) ≡ []
+none-chosen p give [] h = refl
+none-chosen p give (x ∷ xs) h = by_test (p x) (λ t. cc (rw t at h)) (λ t. rw t (none-chosen p give xs (rw t at h)))
+
+module _ {X : Type 0} (p : X → Bool) where
+  pub first-here : (xs : List X) (i : ℕ) (d : X) → i < length xs → p (get_or xs i d) ≡ true → first_where p (drop i xs) ≡ Some (get_or xs i d)
+  first-here xs i d lt t = let left = drop_more xs i d lt in rw (left, t) refl
+
+  pub first-later : (xs : List X) (i : ℕ) (d : X) → i < length xs → p (get_or xs i d) ≡ false → first_where p (drop (i + 1) xs) ≡ first_where p (drop i xs)
+  first-later xs i d lt t = let left = drop_more xs i d lt in rw (left, t) refl
+
+  pub first-none : (xs : List X) (i : ℕ) → length xs ≤ i → first_where p (drop i xs) ≡ None
+  first-none xs i past = ap (first_where p) (drop_all i xs past)
+
+module _ {K : Type 0} where
+  pub south-untargeted : (g : Rows K) (asker : Region) (mode : InterestMode) (f : Face K) → is_north f.region ≡ false → is_target g asker mode f ≡ false
+  unfolding is_target
+  south-untargeted g asker mode f h = and-second (not (is_north asker)) (is_north f.region) (is_target_of g.mode g mode f) h
+
+  pub south-unrouted : (g : Rows K) (asker : Region) (i : InterestRow K) (f : Face K) → is_north f.region ≡ false → route_to g asker i f ≡ []
+  unfolding route_to
+  south-unrouted g asker i f h = let none = south-untargeted g asker i.mode f h in rw none refl
+
+  pub south-unchosen : {B : Type 0} (give : Face K → B) (g : Rows K) (asker : Region) (mode : InterestMode) (f : Face K) → is_north f.region ≡ false → chosen (is_target g asker mode) give f ≡ []
+  south-unchosen give g asker mode f h = let none = south-untargeted g asker mode f h in rw none refl
+
+  pub south-unended : (cmp : K → K → Ordering) (matching : K → K → Bool) (g : Rows K) (i : InterestRow K) (f : Face K) → is_north f.region ≡ false → end_upstream_to cmp matching g i f ≡ []
+  unfolding end_upstream_to
+  south-unended cmp matching g i f h = rw h refl
+
+  -- a face that wasn't sent the interest is told of no end
+  pub unsent-unended : (cmp : K → K → Ordering) (matching : K → K → Bool) (g : Rows K) (i : InterestRow K) (f : Face K) → list_any (λ row. asks_same cmp matching i row.1) f.locals ≡ false → end_upstream_to cmp matching g i f ≡ []
+  unfolding end_upstream_to
+  unsent-unended cmp matching g i f none =
+      by_test (is_north f.region && not (is_held_south cmp matching g i))
+      (λ t. rw t (none-chosen (λ row. asks_same cmp matching i row.1) (λ row. message.InterestFinal row.0) f.locals none))
+      (λ t. rw t refl)
+
+  -- what all are given together
+  pub chosen-all : {B : Type 0} (p : Face K → Bool) (give : Face K → B) (fs : List (Face K)) → flat_map (chosen p give) fs ≡ all_chosen p give fs
+  chosen-all p give [] = refl
+  chosen-all p give (f ∷ fs) = let rest = chosen-all p give fs in by_test (p f) (λ t. rw t (ap (λ xs. give f ∷ xs) rest)) (λ t. rw t rest)
+
+  -- the lowest that leads up is the first among those to the north
+  pub lowest-up : (g : Rows K) → IsRising (λ f. f.number) g.faces → (m : ℕ)
+      → is_some_and (first_where (λ n. is_some_and (find_face n g) leads_up) (map (λ f. f.number) (filter (λ f. is_north f.region) g.faces))) (λ n. n == m) ≡ is_some_and (first_where leads_up g.faces) (λ f. f.number == m)
+  lowest-up g rising m = each g.faces (all-found g.faces rising)
+    where
+      each : (fs : List (Face K)) → AllByRecursion (λ f. first_where (λ x. f.number == x.number) g.faces ≡ Some f) fs
+          → is_some_and (first_where (λ n. is_some_and (find_face n g) leads_up) (map (λ f. f.number) (filter (λ f. is_north f.region) fs))) (λ n. n == m) ≡ is_some_and (first_where leads_up fs) (λ f. f.number == m)
+      each [] found = refl
+      each (f ∷ fs) found =
+          let rest = each fs found.1 in
+          by_test (is_north f.region)
+          (λ t.
+          let here : is_some_and (find_face f.number g) leads_up ≡ leads_up f = ap (λ (o : Option (Face K)). is_some_and o leads_up) found.0 in
+          by_test (bound_eq f.bound SouthBound)
+          (λ u. let yes : is_some_and (find_face f.number g) leads_up ≡ true = here ∙ (λ i. t i && u i) in rw (t, yes, u) refl)
+          (λ u. let no_more : is_some_and (find_face f.number g) leads_up ≡ false = here ∙ (λ i. t i && u i) in rw (t, no_more, u) rest))
+          (λ t. rw t rest)

@@ -1,4 +1,0 @@
-pub mod Lent
-pub mod Items
-pub mod Filling
-pub mod Collecting

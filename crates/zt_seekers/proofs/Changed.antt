@@ -1,0 +1,153 @@
+-- Faces that change, open and go, beside what is looked up.
+use Rattle.std.proofs.Common.{◌≡◌, ℕ, ◌==◌, Bool, true, false, not, ◌&&◌, ◌||◌, if◌then◌else◌, List, [], ◌∷◌, ◌++◌, ap, filter, flat_map, map, refl, subst, sym, ◌∙◌}
+use Rattle.std.proofs.lemmas.List.{map-append}
+use Rattle.std.proofs.lemmas.List.Elements.{filter-append}
+use Rattle.std.specs.List.{AllByRecursion, list_any}
+use Rattle.std.specs.List.Sorted.{IsStrictlySortedBy}
+use Rattle.std.specs.Ordering.{nat_cmp}
+use Rattle.zt_keys.specs.Test.{by_test}
+use Rattle.zt_keys.specs.declared.anchor.Anchor.{Anchor}
+use Rattle.zt_region.specs.Region.{is_north}
+use Rattle.std.specs.Prelude.{Option}
+use Rattle.zt_interest_index.specs.Held.{indexed-none}
+use Rattle.zt_interest_index.specs.Holders.{IsIndexOf}
+use Rattle.zt_interest_index.specs.Holdings.{asks_from}
+use Rattle.zt_model.specs.Rows.{ById, Face, InterestRow}
+use Rattle.zt_model.specs.Wants.{seeks}
+use Rattle.std.specs.FinMap.Entries.{put}
+use Rattle.std.proofs.lemmas.List.Folds.{list_any-append}
+use Rattle.zt_protocol.specs.Interest.{is_future}
+use Rattle.zt_face.specs.Told.{IsInOrder}
+use Rattle.zt_interest_index.specs.Holdings.{is_of}
+use Rattle.zt_interest_index.specs.declared.bucket.Bucket.{Bucket}
+use Rattle.zt_model.specs.Hearing.{put_if}
+use Rattle.zt_model.specs.Routing.{asked_as, unheld}
+use Rattle.zt_seekers.specs.Seekers.{AreSeekers, IsOnlyOne, Leaves, Reseeks, Seeking, TokenRow, north_numbers, token_rows, token_rows_of}
+use Rattle.zt_seekers.proofs.Held.{dropped, index_alike, kept, put_all}
+use Rattle.zt_seekers.proofs.Numbers.{chosen_in, chosen_sorted, in_tests, is_in, seeks_any, sorted_same}
+
+module _ {K : Type 0} where
+  -- a change that keeps the number and the region
+  pub north_kept : (n : ℕ) (change : Face K → Face K) → ((x : Face K) → (change x).number ≡ x.number) → ((x : Face K) → (change x).region ≡ x.region) → (fs : List (Face K))
+      → north_numbers (map (λ x. if n == x.number then change x else x) fs) ≡ north_numbers fs
+  north_kept n change number region [] = refl
+  north_kept n change number region (x ∷ xs) =
+      let rest = north_kept n change number region xs in
+      let still : is_north (if n == x.number then change x else x).region ≡ is_north x.region = by_number (n == x.number) in
+      by_test (is_north x.region)
+      (λ t. rw (still, t) (λ i. numbered (n == x.number) i ∷ rest i))
+      (λ t. rw (still, t) rest)
+    where
+      by_number : (b : Bool) → is_north (if b then change x else x).region ≡ is_north x.region
+      by_number true = ap is_north (region x)
+      by_number false = refl
+
+      numbered : (b : Bool) → (if b then change x else x).number ≡ x.number
+      numbered true = number x
+      numbered false = refl
+
+  -- a face goes
+  pub north_less : (n : ℕ) (fs : List (Face K)) → filter (λ m. not (n == m)) (north_numbers fs) ≡ north_numbers (filter (λ x. not (n == x.number)) fs)
+  north_less n [] = refl
+  north_less n (x ∷ xs) =
+      let rest = north_less n xs in
+      by_test (is_north x.region)
+      (λ t. by_test (n == x.number) (λ u. rw (t, u) rest) (λ u. rw (u, t, u) (ap (λ ms. x.number ∷ ms) rest)))
+      (λ t. by_test (n == x.number) (λ u. rw (t, u) rest) (λ u. rw (u, t) rest))
+
+  -- a face comes
+  pub north_more : (fs : List (Face K)) (f : Face K) → north_numbers (fs ++ f ∷ []) ≡ north_numbers fs ++ north_numbers (f ∷ [])
+  north_more fs f =
+      ap (map (λ (x : Face K). x.number)) (filter-append (λ (x : Face K). is_north x.region) fs (f ∷ []))
+      ∙ map-append (λ (x : Face K). x.number) (filter (λ x. is_north x.region) fs) (filter (λ x. is_north x.region) (f ∷ []))
+
+  rows_more : (fs : List (Face K)) (f : Face K) → f.held ≡ [] → flat_map token_rows (fs ++ f ∷ []) ≡ flat_map token_rows fs
+  rows_more [] f none = ap (λ (held : ById (InterestRow K)). token_rows_of f.number held ++ []) none
+  rows_more (x ∷ xs) f none = ap (λ rows. token_rows x ++ rows) (rows_more xs f none)
+
+  module _ (anchored : Anchor → K → Option ℕ) where
+    pub seekers-none : AreSeekers anchored (record { north = []; index = [] }) []
+    seekers-none = record { north = refl; index = indexed-none anchored }
+
+    -- a change that keeps the number, the region and what the face holds
+    pub seekers-quiet : (n : ℕ) (change : Face K → Face K) → ((x : Face K) → (change x).number ≡ x.number) → ((x : Face K) → (change x).region ≡ x.region) → ((x : Face K) → (change x).held ≡ x.held)
+        → (seeking : Seeking K) (fs : List (Face K)) → AreSeekers anchored seeking fs → AreSeekers anchored seeking (map (λ x. if n == x.number then change x else x) fs)
+    seekers-quiet n change number region held seeking fs are = record {
+      north = are.north ∙ sym (north_kept n change number region fs);
+      index = subst (IsIndexOf anchored seeking.index) (sym (kept n change number held fs)) are.index;
+    }
+
+    -- a face more that holds nothing yet
+    pub seekers-opened : (f : Face K) → f.held ≡ [] → (seeking : Seeking K) (fs : List (Face K)) → AreSeekers anchored seeking fs
+        → AreSeekers anchored (record seeking { north = seeking.north ++ north_numbers (f ∷ []) }) (fs ++ f ∷ [])
+    seekers-opened f none seeking fs are = record {
+      north = ap (λ ns. ns ++ north_numbers (f ∷ [])) are.north ∙ sym (north_more fs f);
+      index = subst (IsIndexOf anchored seeking.index) (sym (rows_more fs f none)) are.index;
+    }
+
+    -- the interest of an id goes
+    pub seekers-unheld : (f : Face K) (id : ℕ) (old new : Seeking K) → new.north ≡ old.north
+        → ((fs : List (Face K)) → IsOnlyOne f fs → IsIndexOf anchored old.index (flat_map token_rows fs) → IsIndexOf anchored new.index (filter (λ row. not (is_of f.number id row)) (flat_map token_rows fs)))
+        → Reseeks anchored f (unheld id) old new
+    seekers-unheld f id old new same drops = record {
+      at = λ fs one are. record {
+        north = same ∙ are.north ∙ sym (north_kept f.number (unheld id) (λ x. refl) (λ x. refl) fs);
+        index = subst (IsIndexOf anchored new.index) (dropped f.number id (unheld id) (λ x. refl) (λ x. refl) fs) (drops fs one are.index);
+      };
+    }
+
+    -- an interest comes in place of the one of its id
+    pub seekers-held : (f : Face K) (id : ℕ) (i : InterestRow K) (pendings : List (ℕ × ℕ)) → is_future i.mode ≡ true → IsInOrder f.held → (old : Seeking K) (mid : List (Bucket × List (TokenRow K))) (new : Seeking K) → new.north ≡ old.north
+        → ((fs : List (Face K)) → IsOnlyOne f fs → IsIndexOf anchored old.index (flat_map token_rows fs) → IsIndexOf anchored mid (filter (λ row. not (is_of f.number id row)) (flat_map token_rows fs)))
+        → ((held : List (TokenRow K)) → IsIndexOf anchored mid held → IsIndexOf anchored new.index (token_rows_of f.number ((id, i) ∷ []) ++ held))
+        → Reseeks anchored f (asked_as pendings id i) old new
+    seekers-held f id i pendings future sorted old mid new same drops puts =
+        let change = asked_as pendings id i in
+        let held : (x : Face K) → (change x).held ≡ put nat_cmp id i x.held = λ x. ap (λ b. put_if b id i x.held) future in
+        record {
+          at = λ fs one are. record {
+            north = same ∙ are.north ∙ sym (north_kept f.number change (λ x. refl) (λ x. refl) fs);
+            index =
+                index_alike anchored new.index (token_rows_of f.number ((id, i) ∷ []) ++ filter (λ row. not (is_of f.number id row)) (flat_map token_rows fs)) (flat_map token_rows (map (λ x. if f.number == x.number then change x else x) fs))
+                (λ test.
+                list_any-append test (token_rows_of f.number ((id, i) ∷ [])) (filter (λ row. not (is_of f.number id row)) (flat_map token_rows fs))
+                ∙ ap (λ b. (b && list_any test (token_rows_of f.number ((id, i) ∷ []))) || list_any test (filter (λ row. not (is_of f.number id row)) (flat_map token_rows fs))) (sym one.found)
+                ∙ sym (put_all test f.number id i change (λ x. refl) held fs (ordered fs one.only)))
+                (puts (filter (λ row. not (is_of f.number id row)) (flat_map token_rows fs)) (drops fs one are.index));
+          };
+        }
+      where
+        ordered : (fs : List (Face K)) → AllByRecursion (λ x. (f.number == x.number) ≡ true → x ≡ f) fs → AllByRecursion (λ x. (f.number == x.number) ≡ true → IsInOrder x.held) fs
+        ordered [] only = tt
+        ordered (x ∷ xs) only = (λ t. subst (λ (y : Face K). IsInOrder y.held) (sym (only.0 t)) sorted, ordered xs only.1)
+
+    -- an interest that asks for what is there now alone isn't held
+    pub seekers-unchanged : (f : Face K) (id : ℕ) (i : InterestRow K) (pendings : List (ℕ × ℕ)) → is_future i.mode ≡ false → (seeking : Seeking K) → Reseeks anchored f (asked_as pendings id i) seeking seeking
+    seekers-unchanged f id i pendings never seeking = record {
+      at = λ fs one are. seekers-quiet f.number (asked_as pendings id i) (λ x. refl) (λ x. refl) (λ x. ap (λ b. put_if b id i x.held) never) seeking fs are;
+    }
+
+    -- the face goes
+    pub seekers-closed : (f : Face K) (old new : Seeking K) → new.north ≡ filter (λ m. not (f.number == m)) old.north
+        → ((fs : List (Face K)) → IsOnlyOne f fs → IsIndexOf anchored old.index (flat_map token_rows fs) → IsIndexOf anchored new.index (flat_map token_rows (filter (λ x. not (f.number == x.number)) fs)))
+        → Leaves anchored f old new
+    seekers-closed f old new less drops = record {
+      at = λ fs one are. record {
+        north = less ∙ ap (filter (λ m. not (f.number == m))) are.north ∙ north_less f.number fs;
+        index = drops fs one are.index;
+      };
+    }
+
+    -- those found are the faces that seek the expression
+    pub seekers-found : (matching : K → K → Bool) (e : K) (seeking : Seeking K) (found : List ℕ) (fs : List (Face K)) → IsStrictlySortedBy nat_cmp (map (λ f. f.number) fs) → AreSeekers anchored seeking fs
+        → IsStrictlySortedBy nat_cmp found → ((n : ℕ) → is_in n found ≡ (list_any (λ m. n == m) seeking.north || list_any (asks_from matching e n) (flat_map token_rows fs)))
+        → found ≡ map (λ f. f.number) (filter (λ f. seeks matching f e) fs)
+    seekers-found matching e seeking found fs rising are sorted among =
+        sorted_same found (map (λ f. f.number) (filter (λ f. seeks matching f e) fs)) sorted (chosen_sorted (λ (f : Face K). f.number) (λ f. seeks matching f e) fs rising)
+        (λ n.
+        among n
+        ∙ ap (λ b. b || list_any (asks_from matching e n) (flat_map token_rows fs)) (in_tests n seeking.north)
+        ∙ ap (λ ns. is_in n ns || list_any (asks_from matching e n) (flat_map token_rows fs)) are.north
+        ∙ ap (λ b. b || list_any (asks_from matching e n) (flat_map token_rows fs)) (chosen_in (λ (f : Face K). f.number) n (λ f. is_north f.region) fs)
+        ∙ seeks_any matching e n fs
+        ∙ sym (chosen_in (λ (f : Face K). f.number) n (λ f. seeks matching f e) fs))

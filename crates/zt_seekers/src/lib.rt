@@ -1,0 +1,8 @@
+//! Which faces may be told of tokens: look-ups of the faces to the north, and of those that hold an
+//! interest in tokens of an expression, in place of going over all faces.
+#![tactic(auto)]
+
+mod interests;
+mod seekers;
+
+pub use seekers::Seekers;

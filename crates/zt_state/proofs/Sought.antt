@@ -1,0 +1,67 @@
+-- A face that is found by its number, beside what is looked up of it.
+use Rattle.std.proofs.Common.{◌≡◌, ◌<◌, ℕ, ◌==◌, true, false, not, if◌then◌else◌, List, [], ◌∷◌, Option, Some, ap, arith, filter, map, refl, subst, sym, ◌∙◌}
+use Rattle.std.proofs.lemmas.Bool.{eqb-true}
+use Rattle.std.proofs.lemmas.Bool.Decides.{nat_tests}
+use Rattle.std.proofs.lemmas.Option.{same_Some}
+use Rattle.std.specs.List.{AllByRecursion, list_any}
+use Rattle.std.specs.List.Sorted.{IsStrictlySortedBy}
+use Rattle.std.specs.Ordering.{nat_cmp}
+use Rattle.std.specs.declared.cmp.Ordering.TheVariants.{Less}
+use Rattle.zt_keys.specs.Test.{by_test}
+use Rattle.zt_keys.specs.declared.anchor.Anchor.{Anchor}
+use Rattle.zt_model.specs.Lists.{first_where}
+use Rattle.zt_model.specs.Rows.{Face}
+use Rattle.zt_seekers.specs.Seekers.{AreSeekers, IsOnlyOne, Leaves, Reseeks, Seeking}
+use Rattle.zt_state.specs.Rising.{IsRising}
+use Rattle.zt_state.proofs.Rising.{all-weaker, none-above}
+
+below : (a b : ℕ) → a < b → nat_cmp a b ≡ Less
+below a b h = grind (arith, nat_tests)
+
+-- rising numbers stand in order
+pub numbers-sorted : {A : Type 0} (number : A → ℕ) (xs : List A) → IsRising number xs → IsStrictlySortedBy nat_cmp (map number xs)
+unfolding IsStrictlySortedBy
+numbers-sorted number [] rising = tt
+numbers-sorted number (x ∷ xs) rising = (each xs rising.0, numbers-sorted number xs rising.1)
+  where
+    each : (ys : List _) → AllByRecursion (λ y. number x < number y) ys → AllByRecursion (λ m. nat_cmp (number x) m ≡ Less) (map number ys)
+    each [] h = tt
+    each (y ∷ ys) h = (below (number x) (number y) h.0, each ys h.1)
+
+module _ {K : Type 0} where
+  pub number-found : (n : ℕ) (f : Face K) (fs : List (Face K)) → first_where (λ x. n == x.number) fs ≡ Some f → n ≡ f.number
+  number-found n f [] is = cc
+  number-found n f (x ∷ xs) is =
+      by_test (n == x.number)
+      (λ t. eqb-true n x.number t ∙ ap (λ (y : Face K). y.number) (same_Some _ _ (rw t at is)))
+      (λ t. number-found n f xs (rw t at is))
+
+  any-found : (n : ℕ) (f : Face K) (fs : List (Face K)) → first_where (λ x. n == x.number) fs ≡ Some f → list_any (λ x. n == x.number) fs ≡ true
+  any-found n f [] is = cc
+  any-found n f (x ∷ xs) is = by_test (n == x.number) (λ t. rw t refl) (λ t. rw t (any-found n f xs (rw t at is)))
+
+  only-found : (n : ℕ) (f : Face K) (fs : List (Face K)) → IsRising (λ x. x.number) fs → first_where (λ x. n == x.number) fs ≡ Some f → AllByRecursion (λ x. (n == x.number) ≡ true → x ≡ f) fs
+  only-found n f [] rising is = tt
+  only-found n f (x ∷ xs) rising is =
+      by_test (n == x.number)
+      (λ t.
+      let none = subst (λ (m : ℕ). AllByRecursion (λ (y : Face K). (m == y.number) ≡ false) xs) (sym (eqb-true n x.number t)) (none-above (λ (y : Face K). y.number) x.number xs rising.0) in
+      (λ _. same_Some _ _ (rw t at is), all-weaker (λ (y : Face K). (n == y.number) ≡ false) (λ (y : Face K). (n == y.number) ≡ true → y ≡ f) (λ y apart tied. cc) xs none))
+      (λ t. (λ tied. cc, only-found n f xs rising.1 (rw t at is)))
+
+  only-one : (n : ℕ) (f : Face K) (fs : List (Face K)) → IsRising (λ x. x.number) fs → first_where (λ x. n == x.number) fs ≡ Some f → IsOnlyOne f fs
+  only-one n f fs rising is =
+      let same = number-found n f fs is in
+      record {
+        found = subst (λ (m : ℕ). list_any (λ (x : Face K). m == x.number) fs ≡ true) same (any-found n f fs is);
+        only = subst (λ (m : ℕ). AllByRecursion (λ (x : Face K). (m == x.number) ≡ true → x ≡ f) fs) same (only-found n f fs rising is);
+      }
+
+  module _ (anchored : Anchor → K → Option ℕ) (n : ℕ) (f : Face K) (fs : List (Face K)) (rising : IsRising (λ x. x.number) fs) (is : first_where (λ x. n == x.number) fs ≡ Some f) (old new : Seeking K) (are : AreSeekers anchored old fs) where
+    pub sought-changed : (change : Face K → Face K) → Reseeks anchored f change old new → AreSeekers anchored new (map (λ x. if n == x.number then change x else x) fs)
+    sought-changed change changes =
+        subst (λ (m : ℕ). AreSeekers anchored new (map (λ (x : Face K). if m == x.number then change x else x) fs)) (sym (number-found n f fs is)) (changes.at fs (only-one n f fs rising is) are)
+
+    pub sought-closed : Leaves anchored f old new → AreSeekers anchored new (filter (λ x. not (n == x.number)) fs)
+    sought-closed leaves =
+        subst (λ (m : ℕ). AreSeekers anchored new (filter (λ (x : Face K). not (m == x.number)) fs)) (sym (number-found n f fs is)) (leaves.at fs (only-one n f fs rising is) are)

@@ -1,0 +1,53 @@
+-- Faces that are given nothing may be passed over.
+use Rattle.std.proofs.Common.{◌≡◌, ◌<◌, ℕ, ◌==◌, Bool, true, false, List, [], ◌∷◌, ◌++◌, Option, Some, None, ap, arith, filter, flat_map, map, refl, ◌∙◌}
+use Rattle.std.proofs.lemmas.Bool.Decides.{nat_tests}
+use Rattle.std.specs.List.{AllByRecursion}
+use Rattle.zt_keys.specs.Test.{by_test}
+use Rattle.zt_protocol.specs.declared.messages.Message.{Message}
+use Rattle.zt_model.specs.Lists.{first_where}
+use Rattle.zt_model.specs.Parts.{to_each}
+use Rattle.zt_model.specs.Rows.{Face}
+use Rattle.zt_state.specs.Rising.{IsRising}
+use Rattle.zt_tokens.specs.Walks.{given_at, sent_to}
+
+same-number : (n : ℕ) → (n == n) ≡ true
+same-number n = grind (arith, nat_tests)
+
+above : (a b : ℕ) → a < b → (b == a) ≡ false
+above a b h = grind (arith, nat_tests)
+
+module _ {K : Type 0} where
+  -- each face is found by its number
+  pub all-found : (fs : List (Face K)) → IsRising (λ f. f.number) fs → AllByRecursion (λ f. first_where (λ x. f.number == x.number) fs ≡ Some f) fs
+  all-found [] rising = tt
+  all-found (f ∷ fs) rising = (let here = same-number f.number in rw here refl, later fs rising.0 (all-found fs rising.1))
+    where
+      later : (gs : List (Face K)) → AllByRecursion (λ x. f.number < x.number) gs → AllByRecursion (λ x. first_where (λ y. x.number == y.number) fs ≡ Some x) gs
+          → AllByRecursion (λ x. first_where (λ y. x.number == y.number) (f ∷ fs) ≡ Some x) gs
+      later [] up found = tt
+      later (g ∷ gs) up found = (let apart = above f.number g.number up.0 in rw apart found.0, later gs up.1 found.1)
+
+  module _ {B : Type 0} (give : Face K → List B) where
+    at_all : (fs gs : List (Face K)) (p : Face K → Bool) → ((f : Face K) → p f ≡ false → give f ≡ []) → AllByRecursion (λ f. first_where (λ x. f.number == x.number) fs ≡ Some f) gs
+        → flat_map (given_at give fs) (map (λ f. f.number) (filter p gs)) ≡ flat_map give gs
+    at_all fs [] p none found = refl
+    at_all fs (g ∷ gs) p none found =
+        let rest = at_all fs gs p none found.1 in
+        by_test (p g)
+        (λ t.
+        let here : given_at give fs g.number ≡ give g = ap (λ (o : Option (Face K)). elim o [ None ↦ [] | Some f ↦ give f ]) found.0 in
+        rw t (λ i. here i ++ rest i))
+        (λ t. let nothing = none g t in rw (t, nothing) rest)
+
+    -- those that a test passes over are given nothing: the numbers of the others serve
+    pub chosen_numbers : (fs : List (Face K)) (p : Face K → Bool) → IsRising (λ f. f.number) fs → ((f : Face K) → p f ≡ false → give f ≡ []) → flat_map (given_at give fs) (map (λ f. f.number) (filter p fs)) ≡ flat_map give fs
+    chosen_numbers fs p rising none = at_all fs fs p none (all-found fs rising)
+
+  each_is : (rule : Face K → List (Message K)) (fs : List (Face K)) → flat_map (sent_to rule) fs ≡ to_each rule fs
+  unfolding to_each
+  each_is rule [] = refl
+  each_is rule (f ∷ fs) = ap (λ sends. sent_to rule f ++ sends) (each_is rule fs)
+
+  -- messages of a rule that says nothing to those passed over
+  pub chosen_each : (rule : Face K → List (Message K)) (fs : List (Face K)) (p : Face K → Bool) → IsRising (λ f. f.number) fs → ((f : Face K) → p f ≡ false → rule f ≡ []) → flat_map (given_at (sent_to rule) fs) (map (λ f. f.number) (filter p fs)) ≡ to_each rule fs
+  chosen_each rule fs p rising none = chosen_numbers (sent_to rule) fs p rising (λ f h. ap (map (λ m. (f.number, m))) (none f h)) ∙ each_is rule fs
