@@ -1,9 +1,11 @@
 -- Lemmas on a text that is read up to a limit.
-use Rattle.std.proofs.Common.{◌≡◌, ℕ, ◌+◌, ◌-◌, ◌<◌, ◌≤◌, ◌↔◌, min, true, IsTrue, IfSome, List, [], ◌++◌, length, take, None, Some, refl, sym, ap, ◌∙◌, arith}
+use Rattle.std.proofs.Common.{◌≡◌, ℕ, ◌+◌, ◌-◌, ◌<◌, ◌≤◌, ◌↔◌, min, Bool, true, false, IsTrue, IfSome, List, [], ◌++◌, length, take, None, Some, refl, sym, ap, subst, ◌∙◌, arith}
 use Rattle.std.specs.declared.option.Option.{Option}
 use Rattle.std.specs.Io.KnownBytes.{Consumes, IsAtEnd}
+use Rattle.std.proofs.KnownBytes.{Consumes-trans}
 use Rattle.std.proofs.lemmas.List.{append-nil, length-append, take-append-le, take_all, take_min}
 use Rattle.std.proofs.Math.Seq.{take-append-add}
+use Rattle.zt_streams.specs.Streams.{TakesFront}
 
 -- the front of what was read and a piece, where there was room for the first
 pub take-append-room : (limit room : ℕ) (read piece : List ℕ) → length read ≤ limit → room ≡ limit - length read → read ++ take (min room (length piece)) piece ≡ take limit (read ++ piece)
@@ -34,3 +36,21 @@ front-whole (Some x) (Some y) None read piece n limit p q none e h = absurd q
 front-whole (Some x) (Some y) (Some z) read piece n limit p q none e h =
     let nothing : y ≡ [] = q ∙ ap (λ more. take n piece ++ more) e ∙ ap (λ k. take k piece ++ []) none in
     sym (ap (take limit) (p ∙ ap (λ more. read ++ more) nothing ∙ append-nil read) ∙ take_all limit read h)
+
+-- a read that gave nothing ends a text that there was room for
+pub takes-whole : (a b c : Option (List ℕ)) (read piece : List ℕ) (n limit : ℕ) → Consumes a b read → Consumes b c (take n piece) → n ≡ 0 → length read ≤ limit → TakesFront limit a c read false
+takes-whole a b c read piece n limit p q none h = record {
+  read = read;
+  taken = subst (Consumes a c) (ap (λ k. read ++ take k piece) none ∙ append-nil read) (Consumes-trans a b c read (take n piece) p q);
+  front = sym (take_all limit read h);
+  longer_is = ((λ e. absurd (cc)), (λ more. absurd (omega arith)));
+}
+
+-- and a piece for which there wasn't room makes it longer
+pub takes-longer : (a b c : Option (List ℕ)) (read piece bytes : List ℕ) (limit : ℕ) → Consumes a b read → Consumes b c piece → bytes ≡ take limit (read ++ piece) → limit < length (read ++ piece) → TakesFront limit a c bytes true
+takes-longer a b c read piece bytes limit p q is more = record {
+  read = read ++ piece;
+  taken = Consumes-trans a b c read piece p q;
+  front = is;
+  longer_is = ((λ _. more), (λ _. refl));
+}

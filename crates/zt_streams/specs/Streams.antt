@@ -1,5 +1,5 @@
 -- What reads and writes do to the bytes of a stream and to its count of faults.
-use Rattle.std.specs.Prelude.{ℕ, ◌+◌, ◌-◌, ◌^◌, ◌<◌, Bool, ◌==◌, min, List, [], ◌++◌, length, take, drop, Option}
+use Rattle.std.specs.Prelude.{◌≡◌, ◌↔◌, IsTrue, ℕ, ◌+◌, ◌-◌, ◌^◌, ◌<◌, Bool, ◌==◌, min, List, [], ◌++◌, length, take, drop, Option}
 use Rattle.std.specs.List.{list_any}
 use Rattle.std.specs.Io.KnownBytes.{Appends, Consumes}
 
@@ -14,6 +14,13 @@ AppendsPart old new bytes = (n : ℕ) × (n < length bytes) × Appends old new (
 -- known bytes lost a front
 abbrev pub Spends : Option (List ℕ) → Option (List ℕ) → Type 0
 Spends old new = (bytes : List ℕ) × Consumes old new bytes
+
+-- known bytes lost a front, of which these are the first bytes, up to a limit; and whether it is longer
+pub record TakesFront (limit : ℕ) (old new : Option (List ℕ)) (bytes : List ℕ) (longer : Bool) : Type 0 where
+  pub read : List ℕ
+  pub taken : Consumes old new read
+  pub front : bytes ≡ take limit read
+  pub longer_is : IsTrue longer ↔ (limit < length read)
 
 -- one more, on a count that stays at its last value
 abbrev pub next_count : ℕ → ℕ

@@ -1,6 +1,6 @@
 //! A whole script, up to the most that is read of one.
 ghost use Rattle.std.specs.Prelude.{◌≡◌, ◌<◌, ◌≤◌, ◌↔◌, ◌++◌, ◌+◌, false, IsTrue, OnOk, take, length, vec_len, IfOk, IfSome, Err};
-ghost use Rattle.zt_streams.specs.Streams.{HasRisen, Spends};
+ghost use Rattle.zt_streams.specs.Streams.{HasRisen, Spends, TakesFront};
 ghost use Rattle.std.specs.Io.KnownBytes.{IsAtEnd};
 
 use crate::outside::Source;
@@ -42,9 +42,12 @@ pub fn read_script<S: Source>(alloc: Global, source: &mut S) -> Result<Script, S
     ensures spent { Spends (S.left source.old) (S.left source.new) }
 
     // At every source.
+    ensures taken { IfOk result (λ script.
+        TakesFront SCRIPT_BYTES (S.left source.old) (S.left source.new) script.bytes.items script.longer) }
     ensures bound { IfOk result (λ script. vec_len script.bytes ≤ SCRIPT_BYTES) }
     ensures full { IfOk result (λ script. IsTrue script.longer → vec_len script.bytes ≡ SCRIPT_BYTES) }
     ensures fault { result ≡ Err ScriptError.Fault → HasRisen (S.faults source.old) (S.faults source.new) }
+    ensures calm { (result ≡ Err ScriptError.Fault → ⊥) → S.faults source.new ≡ S.faults source.old }
     ensures count { S.faults source.old ≤ S.faults source.new }
     ensures reads { S.reads source.new ≤ S.reads source.old + (SCRIPT_BYTES + 1) }
 {

@@ -1,4 +1,4 @@
-use Rattle.std.proofs.Common.{◌+◌, ◌-◌, ◌≤◌, vec_len}
+use Rattle.std.proofs.Common.{◌≡◌, ◌+◌, ◌-◌, ◌≤◌, vec_len}
 use Rattle.std.specs.Io.KnownBytes.{Consumes}
 use Rattle.zt_streams.proofs.reading.read_script.Given as goal
 
@@ -10,7 +10,7 @@ invariant-loop-count g l =
     record {
       room : vec_len l.bytes ≤ 1048576;
       read : Consumes (left l.fn.source) (left l.source) l.bytes.items;
-      count : faults l.fn.source ≤ faults l.source;
+      calm : faults l.source ≡ faults l.fn.source;
       reads : g.S.Source.reads l.source ≤ g.S.Source.reads l.fn.source + vec_len l.bytes;
     }
 
