@@ -89,7 +89,7 @@ filter_within p q (x ∷ xs) all =
     (λ here. rw here (by_test (p x) (λ own. rw own (ap (λ ys. x ∷ ys) (filter_within p q xs all.1))) (λ own. rw own (filter_within p q xs all.1))))
     (λ here. let own : p x ≡ false = by_test (p x) (λ own. never (all.0 own) here) (λ own. own) in rw here (rw own (filter_within p q xs all.1)))
 
-each_part : {A : Type 0} (P : ℕ → A → Type 0) (key : A → ℕ) (n : ℕ) (xs : List A) → Each (λ x. key x < n) xs → ((p : ℕ) → p < n → Each (P p) (filter (λ x. key x == p) xs)) → Each (λ x. P (key x) x) xs
+pub each_part : {A : Type 0} (P : ℕ → A → Type 0) (key : A → ℕ) (n : ℕ) (xs : List A) → Each (λ x. key x < n) xs → ((p : ℕ) → p < n → Each (P p) (filter (λ x. key x == p) xs)) → Each (λ x. P (key x) x) xs
 each_part P key n [] less parts = tt
 each_part P key n (x ∷ xs) less parts = (
   first (key x == key x) (eq-eqb (key x) (key x) refl) (parts (key x) less.0),
@@ -112,11 +112,11 @@ filter_none : {A : Type 0} (p : A → Bool) (xs : List A) → Each (λ x. p x �
 filter_none p [] all = refl
 filter_none p (x ∷ xs) all = rw all.0 (filter_none p xs all.1)
 
-each_of_map : {A B : Type 0} (P : B → Type 0) (f : A → B) (xs : List A) → Each P (map f xs) → Each (λ x. P (f x)) xs
+pub each_of_map : {A B : Type 0} (P : B → Type 0) (f : A → B) (xs : List A) → Each P (map f xs) → Each (λ x. P (f x)) xs
 each_of_map P f [] all = tt
 each_of_map P f (x ∷ xs) all = (all.0, each_of_map P f xs all.1)
 
-each_numbered : {A : Type 0} (P : A → Type 0) (n : ℕ) (xs : List A) → Each P xs → Each (λ x. P x.1) (numbered_from n xs)
+pub each_numbered : {A : Type 0} (P : A → Type 0) (n : ℕ) (xs : List A) → Each P xs → Each (λ x. P x.1) (numbered_from n xs)
 each_numbered P n [] all = tt
 each_numbered P n (x ∷ xs) all = (all.0, each_numbered P (n + 1) xs all.1)
 
@@ -132,7 +132,7 @@ pub numbered_append : {A : Type 0} (n : ℕ) (xs ys : List A) → numbered_from 
 numbered_append n [] ys = ap (λ k. numbered_from k ys) (omega arith)
 numbered_append n (x ∷ xs) ys = ap (λ zs. (n, x) ∷ zs) (numbered_append (n + 1) xs ys ∙ ap (λ k. numbered_from (n + 1) xs ++ numbered_from k ys) (omega arith))
 
-map_second : {A : Type 0} (n : ℕ) (xs : List A) → map (λ x. x.1) (numbered_from n xs) ≡ xs
+pub map_second : {A : Type 0} (n : ℕ) (xs : List A) → map (λ x. x.1) (numbered_from n xs) ≡ xs
 map_second n [] = refl
 map_second n (x ∷ xs) = ap (λ ys. x ∷ ys) (map_second (n + 1) xs)
 
