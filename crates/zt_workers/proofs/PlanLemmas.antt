@@ -1,0 +1,99 @@
+-- Lines added behind the others of a script.
+use Rattle.std.proofs.Common.{◌≡◌, ℕ, ◌+◌, Bool, true, false, not, ◌&&◌, ◌||◌, List, [], ◌∷◌, ◌++◌, length, map, Option, Some, None, refl, sym, ap, ◌∙◌, append_assoc, append-nil, length-append, arith}
+use Rattle.std.specs.List.{list_all}
+use Rattle.zt_protocol.specs.Plain.{PlainCall, PlainLine, Gateway, Session, Face as FaceLine, Link, Unlink, Step, Speak, Moment, SetTreesAt, plain_call, plain_line}
+use Rattle.zt_protocol.specs.declared.lines.Line.{Line}
+use Rattle.zt_model.specs.Journal.{are_makings_first, is_driven, is_making, is_speaking}
+use Rattle.zt_model.specs.Transcript.{Each}
+use Rattle.zt_laws.proofs.Lists.{each_append, map-append}
+use Rattle.zt_gateway.specs.Settings.{Settings, line_of}
+use Rattle.zt_replay.specs.Dealt.{numbered_from, script_of}
+use Rattle.zt_replay.proofs.Order.{numbered_append}
+use Rattle.zt_workers.specs.Plans.{AreInForm, HasNoPlace, IsPlan, call_of, numbered, plan_lines, script_lines}
+use Rattle.zt_workers.specs.declared.plan.Numbered.{Numbered}
+use Rattle.zt_workers.specs.declared.plan.Plan.{Plan}
+
+or_none : (b : Bool) → (b || false) ≡ b
+or_none true = refl
+or_none false = refl
+
+module _ {K : Type 0} where
+  making_is_silent : (l : PlainLine K) → is_making l ≡ true → is_speaking l ≡ false
+  making_is_silent (Gateway mode zid regions south name timeout refused) h = refl
+  making_is_silent (Session gateway first) h = refl
+  making_is_silent (FaceLine gateway mode zid region bound first) h = refl
+  making_is_silent (Link one two first back) h = refl
+  making_is_silent (Unlink link) h = refl
+  making_is_silent (Step link back) h = refl
+  making_is_silent (Speak call) h = cc
+  making_is_silent (Moment gateway now) h = refl
+  making_is_silent (SetTreesAt gateway region table) h = refl
+
+  -- what comes behind lines that open faces
+  after_makings : (ms more : List (PlainLine K)) → Each (λ m. is_making m ≡ true) ms → are_makings_first (ms ++ more) ≡ are_makings_first more
+  after_makings [] more making = refl
+  after_makings (m ∷ ms) more making =
+      let silent = making_is_silent m making.0 in
+      let rest = ms ++ more in
+      ap (λ b. (b && are_makings_first rest) || (is_speaking m && list_all is_speaking rest)) making.0
+      ∙ ap (λ b. are_makings_first rest || (b && list_all is_speaking rest)) silent
+      ∙ or_none (are_makings_first rest) ∙ after_makings ms more making.1
+
+  all_speaking : (cs : List (PlainCall K)) → list_all is_speaking (map (λ c. Speak c) cs) ≡ true
+  all_speaking [] = refl
+  all_speaking (c ∷ cs) = all_speaking cs
+
+  speaking_first : (cs : List (PlainCall K)) → are_makings_first (map (λ c. Speak c) cs) ≡ true
+  speaking_first [] = refl
+  speaking_first (c ∷ cs) = all_speaking cs
+
+  -- a silent line behind one that speaks
+  not_all_speaking : (cs : List (PlainCall K)) (l : PlainLine K) → is_speaking l ≡ false → list_all is_speaking (map (λ c. Speak c) cs ++ l ∷ []) ≡ false
+  not_all_speaking [] l silent = ap (λ b. b && true) silent
+  not_all_speaking (c ∷ cs) l silent = not_all_speaking cs l silent
+
+  other_first : (cs : List (PlainCall K)) (l : PlainLine K) → is_making l ≡ false → is_speaking l ≡ false → are_makings_first (map (λ c. Speak c) cs ++ l ∷ []) ≡ false
+  other_first [] l other silent = ap (λ b. (b && true) || (is_speaking l && true)) other ∙ ap (λ b. b && true) silent
+  other_first (c ∷ cs) l other silent = not_all_speaking cs l silent
+
+  -- ---- scripts
+
+  pub script_driven : (s : Settings) (ms : List (PlainLine K)) (cs : List (PlainCall K)) → Each (λ m. is_making m ≡ true) ms → is_driven (script_of (line_of s) ms cs) ≡ true
+  script_driven s ms cs making = after_makings ms (map (λ c. Speak c) cs) making ∙ speaking_first cs
+
+  behind : (s : Settings) (ms : List (PlainLine K)) (cs : List (PlainCall K)) (l : PlainLine K) → Each (λ m. is_making m ≡ true) ms
+      → is_driven (script_of (line_of s) ms cs ++ l ∷ []) ≡ are_makings_first (map (λ c. Speak c) cs ++ l ∷ [])
+  behind s ms cs l making = ap are_makings_first (append_assoc ms (map (λ c. Speak c) cs) (l ∷ [])) ∙ after_makings ms (map (λ c. Speak c) cs ++ l ∷ []) making
+
+  -- a line that neither opens a face nor speaks
+  script_ended : (s : Settings) (ms : List (PlainLine K)) (cs : List (PlainCall K)) (l : PlainLine K) → Each (λ m. is_making m ≡ true) ms → is_making l ≡ false → is_speaking l ≡ false
+      → HasNoPlace (script_of (line_of s) ms cs) l
+  script_ended s ms cs l making other silent = behind s ms cs l making ∙ other_first cs l other silent
+
+  -- a line that doesn't speak, behind one that does
+  script_speaks : (s : Settings) (ms : List (PlainLine K)) (cs : List (PlainCall K)) (l : PlainLine K) → Each (λ m. is_making m ≡ true) ms → (cs ≡ [] → ⊥) → is_speaking l ≡ false
+      → HasNoPlace (script_of (line_of s) ms cs) l
+  script_speaks s ms [] l making some silent = absurd (some refl)
+  script_speaks s ms (c ∷ cs) l making some silent = behind s ms (c ∷ cs) l making ∙ not_all_speaking cs l silent
+
+  more_making : (g : PlainLine K) (ms : List (PlainLine K)) (l : PlainLine K) → script_of g (ms ++ l ∷ []) [] ≡ script_of g ms [] ++ l ∷ []
+  more_making g ms l = ap (λ ls. g ∷ ls) (append-nil (ms ++ l ∷ []) ∙ ap (λ ls. ls ++ l ∷ []) (sym (append-nil ms)))
+
+  more_call : (g : PlainLine K) (ms : List (PlainLine K)) (cs : List (PlainCall K)) (c : PlainCall K) → script_of g ms (cs ++ c ∷ []) ≡ script_of g ms cs ++ Speak c ∷ []
+  more_call g ms cs c =
+      ap (λ ls. g ∷ ls) (ap (λ ls. ms ++ ls) (map-append (λ (x : PlainCall K). Speak x) cs (c ∷ [])) ∙ sym (append_assoc ms (map (λ x. Speak x) cs) (Speak c ∷ [])))
+
+  -- ---- plans
+
+  -- a plan with these parts
+  pub record HasParts (plan : Plan K) (settings : Settings) (makings : List (PlainLine K)) (calls : List (ℕ × PlainCall K)) : Type 0 where
+    pub settings_are : plan.gateway ≡ settings
+    pub makings_are : map plain_line plan.makings.items ≡ makings
+    pub calls_are : map numbered plan.calls.items ≡ calls
+
+  pub plan_driven : (plan : Plan K) → IsPlan plan → is_driven (plan_lines plan) ≡ true
+  plan_driven plan is = script_driven plan.gateway (map plain_line plan.makings.items) (map call_of plan.calls.items) is.making
+
+  pub lines_driven : (plan : Option (Plan K)) → AreInForm plan → is_driven (script_lines plan) ≡ true
+  lines_driven None is = refl
+  lines_driven (Some plan) is = plan_driven plan is
