@@ -103,14 +103,14 @@ module _ {K : Type 0} (reading : List ℕ → Result K KeyError) where
           )
           | inr both ↦ (
             let fits = not_longer left left' bytes longer t both.0 in
-            let whole : bytes ≡ t.read = t.front ∙ take_all most_bytes t.read fits in
-            record {
-              read = t.read;
-              taken = t.taken;
-              texts = lines_of bytes;
-              first = inr ([], ends both.0, fits, ap lines_of (sym whole) ∙ sym (append-nil (lines_of bytes)));
-              bad = both.1;
-            },
+                let whole : bytes ≡ t.read = t.front ∙ take_all most_bytes t.read fits in
+                record {
+                  read = t.read;
+                  taken = t.taken;
+                  texts = lines_of bytes;
+                  first = inr ([], ends both.0, fits, ap lines_of (sym whole) ∙ sym (append-nil (lines_of bytes)));
+                  bad = both.1;
+                },
             refl,
           )
         ]
@@ -184,7 +184,7 @@ module _ {K : Type 0} (reading : List ℕ → Result K KeyError) where
   few_lines bytes lines read =
       let fit = lines_fit bytes in
       let same : length lines ≡ length (lines_of bytes) =
-          sym (length-map lines (λ (line : PlainLine K). let o : Result (PlainLine K) _ = Ok line in o)) ∙ sym (ap length read) ∙ length-map (lines_of bytes) (line_read reading)
+      sym (length-map lines (λ (line : PlainLine K). let o : Result (PlainLine K) _ = Ok line in o)) ∙ sym (ap length read) ∙ length-map (lines_of bytes) (line_read reading)
       in
       omega arith
 

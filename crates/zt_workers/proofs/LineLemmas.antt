@@ -67,8 +67,8 @@ module _ {K : Type 0} (queues : List (List ℕ)) where
       own p here =
           let same : e.pass ≡ p = eqb-true e.pass p here in
           let now : get_or taken' p 0 ≡ get_or taken p 0 + 1 =
-              ap (λ ts. get_or ts p 0) next.one ∙ ap (λ n. get_or (set taken e.pass (get_or taken e.pass 0 + 1)) n 0) (sym same)
-              ∙ get_or-set_same taken e.pass (get_or taken e.pass 0 + 1) 0 within ∙ ap (λ n. get_or taken n 0 + 1) same
+          ap (λ ts. get_or ts p 0) next.one ∙ ap (λ n. get_or (set taken e.pass (get_or taken e.pass 0 + 1)) n 0) (sym same)
+          ∙ get_or-set_same taken e.pass (get_or taken e.pass 0 + 1) 0 within ∙ ap (λ n. get_or taken n 0 + 1) same
           in
           let is = are.each p in
           record {

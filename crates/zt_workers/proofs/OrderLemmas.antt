@@ -174,12 +174,12 @@ module _ {K : Type 0} (cmp : K → K → Ordering) (matching : K → K → Bool)
           let own = of_pass p journal in
           let theirs = part workers p calls in
           let made : map (λ (e : Journalled K). e.call) own ≡ map (λ x. x.1) theirs =
-              ap (map (λ (e : Journalled K). e.call)) (sym (owned_part pass_of 0 p journal))
-              ∙ map-map (λ (e : Journalled K). e.call) (λ (x : ℕ × Journalled K). x.1) (owned pass_of p journal)
-              ∙ ap (λ es. map (λ (x : ℕ × Journalled K). x.1.call) (owned pass_of p es)) whole.entries
-              ∙ ap (λ n. map (λ (x : ℕ × Journalled K). x.1.call) (owned pass_of n whole.last.entries)) (sym found.numbered)
-              ∙ ap (map (λ (x : ℕ × Journalled K). x.1.call)) found.accounted.mine_whole
-              ∙ found.is.made.made
+          ap (map (λ (e : Journalled K). e.call)) (sym (owned_part pass_of 0 p journal))
+          ∙ map-map (λ (e : Journalled K). e.call) (λ (x : ℕ × Journalled K). x.1) (owned pass_of p journal)
+          ∙ ap (λ es. map (λ (x : ℕ × Journalled K). x.1.call) (owned pass_of p es)) whole.entries
+          ∙ ap (λ n. map (λ (x : ℕ × Journalled K). x.1.call) (owned pass_of n whole.last.entries)) (sym found.numbered)
+          ∙ ap (map (λ (x : ℕ × Journalled K). x.1.call)) found.accounted.mine_whole
+          ∙ found.is.made.made
           in
           let long : length own ≡ length theirs = sym (length-map own (λ (e : Journalled K). e.call)) ∙ ap length made ∙ length-map theirs (λ (x : ℕ × PlainCall K). x.1) in
           let queue : get_or (map (λ (d : Done K). d.lines.items) all) p [] ≡ map (λ x. x.0) theirs = found.queue ∙ found.is.lines in

@@ -21,9 +21,9 @@ pub in_range_none : IsInRange no_totals
 in_range_none = record { messages_fit = omega arith; refusals_fit = omega arith }
 
 module _ {K : Type 0} where
-  pub totals_none : totals_of {K = K} [] ≡ no_totals
+  pub totals_none : (xs : List (ℕ × PlainEntry K)) → xs ≡ [] → no_totals ≡ totals_of xs
   unfolding report_of
-  totals_none = refl
+  totals_none xs none = sym (ap totals_of none)
 
   pub totals_more : (xs : List (ℕ × PlainEntry K)) (x : ℕ × PlainEntry K) → totals_of (xs ++ x ∷ []) ≡ with_entry x.1 (totals_of xs)
   unfolding report_of

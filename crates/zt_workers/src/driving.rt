@@ -4,10 +4,10 @@ ghost use Rattle.zt_fabric.specs.Transcripts.{CountsFaults, streams};
 ghost use Rattle.zt_workers.specs.Answers.{Answers, GivesDriven, Transcribes};
 ghost use Rattle.zt_workers.specs.Reading.{ReadingStops};
 
+use crate::carrying::carry_out;
 use crate::gate::Gate;
 use crate::printing::print_all;
 use crate::reading::read_plan;
-use crate::carrying::carry_out;
 use std::alloc::Global;
 use std::sync::Wait;
 use std::thread::Threads;

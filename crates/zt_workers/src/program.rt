@@ -46,7 +46,9 @@ pub fn drive_tool<R: Threads + Wait + Sync, S: Source, T: Sink>(
 {
     match workers_asked(words) {
         Some(workers) => {
-            let answer = drive::<R, KeyExpr, S, T, NoGate>(rt, alloc, source, sink, workers, &NoGate);
+            let answer = drive::<R, KeyExpr, S, T, NoGate>(
+                rt, alloc, source, sink, workers, &NoGate,
+            );
             status(&answer)
         }
         None => UNKNOWN_WORDS,

@@ -19,10 +19,7 @@ use zt_keys::{Key, Memory};
 use zt_shared::{Journal, Pass, SharedGateway};
 
 // The passes and the queues of lines of all workers.
-fn parted<K: Key>(
-    alloc: Global,
-    all: Vec<Done<K>>,
-) -> Result<(Vec<Pass<K>>, Vec<Vec<u64>>), Memory>
+fn parted<K: Key>(alloc: Global, all: Vec<Done<K>>) -> Result<(Vec<Pass<K>>, Vec<Vec<u64>>), Memory>
     ensures passes { IfOk result (λ parts. parts.0.items ≡ map (λ done. done.pass) all.items) }
     ensures queues { IfOk result (λ parts. map (λ queue. queue.items) parts.1.items ≡ map (λ done. done.lines.items) all.items) }
 {

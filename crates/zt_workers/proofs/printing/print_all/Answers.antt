@@ -10,7 +10,7 @@ use Rattle.zt_workers.proofs.PrintLemmas.{in_range_none, text_more, totals_more,
 use Rattle.zt_workers.proofs.printing.print_all.Goals as goal
 
 pub loop-answer-init : goal.loop-answer-init
-loop-answer-init g c = record { text = search rules; totals = sym totals_none; lines = refl; range = in_range_none }
+loop-answer-init g c = record { text = search rules; totals = totals_none _ refl; lines = refl; range = in_range_none }
 
 pub loop-answer-preserved : goal.loop-answer-preserved
 loop-answer-preserved g c =
