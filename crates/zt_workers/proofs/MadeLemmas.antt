@@ -17,6 +17,7 @@ use Rattle.zt_model.specs.Journal.{cause_of, outcome_of, rows_after}
 use Rattle.zt_model.specs.Rows.{Rows}
 use Rattle.zt_model.specs.Says.{Sends, altered, said}
 use Rattle.zt_laws.specs.Sound.{CallHasFirstIds, HasFirstIds}
+use Rattle.zt_laws.proofs.Lists.{map-append}
 use Rattle.zt_replay.specs.Alone.{gateway_named, made_entries, made_entry, made_rows, opening_call, rows_made}
 
 -- the lines that are left at a place
@@ -122,3 +123,14 @@ module _ {K : Type 0} (cmp : K → K → Ordering) (matching : K → K → Bool)
 
   pub rows_all : (lines left : List (PlainLine K)) (start now : Rows K) (entries : List (PlainEntry K)) → MadeSoFar lines left start now entries → left ≡ [] → now ≡ rows_made cmp matching lines start
   rows_all lines left start now entries so_far none = sym (so_far.rows_are ∙ ap (λ ls. rows_made cmp matching ls now) none ∙ rows_end now)
+
+  pub made_pushed : (lines left later : List (PlainLine K)) (line : PlainLine K) (start now then_ : Rows K) (entries entries' : List (Entry K)) (entry : Entry K) → MadeSoFar lines left start now (map plain_entry entries)
+      → left ≡ line ∷ later → plain_entry entry ≡ made_entry cmp matching line now → then_ ≡ made_rows cmp matching line now → entries' ≡ entries ++ entry ∷ [] → MadeSoFar lines later start then_ (map plain_entry entries')
+  made_pushed lines left later line start now then_ entries entries' entry so_far is came after more =
+      subst (MadeSoFar lines later start then_) (sym (ap (map plain_entry) more ∙ map-append plain_entry entries (entry ∷ [])))
+      (made_next lines left later line start now then_ (map plain_entry entries) (plain_entry entry) so_far is came after)
+
+  pub rows_left : (lines left : List (PlainLine K)) (start : Rows K) (now : Running K) (entries : List (PlainEntry K)) → MadeSoFar lines left start now.rows entries → left ≡ [] → now.waiting ≡ [] → now ≡ record { rows = rows_made cmp matching lines start; waiting = [] }
+  rows_left lines left start now entries so_far none quiet =
+      let with : Rows K → Sends K → Running K = λ rs ms. record { rows = rs; waiting = ms } in
+      ap (λ ms. with now.rows ms) quiet ∙ ap (λ rs. with rs []) (rows_all lines left start now.rows entries so_far none)
