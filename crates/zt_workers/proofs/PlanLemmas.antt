@@ -1,8 +1,15 @@
 -- Lines added behind the others of a script.
 use Rattle.std.proofs.Common.{◌≡◌, ℕ, ◌+◌, Bool, true, false, not, ◌&&◌, ◌||◌, List, [], ◌∷◌, ◌++◌, length, map, Option, Some, None, refl, sym, ap, ◌∙◌, append_assoc, append-nil, length-append, arith}
+use Rattle.std.proofs.lemmas.List.{length-map}
 use Rattle.std.specs.List.{list_all}
 use Rattle.zt_protocol.specs.Plain.{PlainCall, PlainLine, Gateway, Session, Face as FaceLine, Link, Unlink, Step, Speak, Moment, SetTreesAt, plain_call, plain_line}
+use Rattle.zt_region.specs.declared.region.Bound.{Bound}
+use Rattle.zt_region.specs.declared.region.Region.{Region}
+use Rattle.zt_region.specs.declared.region.WhatAmI.{WhatAmI}
+use Rattle.zt_region.specs.declared.region.Zid.{Zid}
+use Rattle.zt_protocol.specs.declared.calls.Call.{Call}
 use Rattle.zt_protocol.specs.declared.lines.Line.{Line}
+use Rattle.zt_protocol.specs.declared.lines.Line.TheVariants as line
 use Rattle.zt_model.specs.Journal.{are_makings_first, is_driven, is_making, is_speaking}
 use Rattle.zt_model.specs.Transcript.{Each}
 use Rattle.zt_laws.proofs.Lists.{each_append, map-append}
@@ -66,30 +73,52 @@ module _ {K : Type 0} where
   behind s ms cs l making = ap are_makings_first (append_assoc ms (map (λ c. Speak c) cs) (l ∷ [])) ∙ after_makings ms (map (λ c. Speak c) cs ++ l ∷ []) making
 
   -- a line that neither opens a face nor speaks
-  script_ended : (s : Settings) (ms : List (PlainLine K)) (cs : List (PlainCall K)) (l : PlainLine K) → Each (λ m. is_making m ≡ true) ms → is_making l ≡ false → is_speaking l ≡ false
+  pub script_ended : (s : Settings) (ms : List (PlainLine K)) (cs : List (PlainCall K)) (l : PlainLine K) → Each (λ m. is_making m ≡ true) ms → is_making l ≡ false → is_speaking l ≡ false
       → HasNoPlace (script_of (line_of s) ms cs) l
   script_ended s ms cs l making other silent = behind s ms cs l making ∙ other_first cs l other silent
 
   -- a line that doesn't speak, behind one that does
-  script_speaks : (s : Settings) (ms : List (PlainLine K)) (cs : List (PlainCall K)) (l : PlainLine K) → Each (λ m. is_making m ≡ true) ms → (cs ≡ [] → ⊥) → is_speaking l ≡ false
+  pub script_speaks : (s : Settings) (ms : List (PlainLine K)) (cs : List (PlainCall K)) (l : PlainLine K) → Each (λ m. is_making m ≡ true) ms → (cs ≡ [] → ⊥) → is_speaking l ≡ false
       → HasNoPlace (script_of (line_of s) ms cs) l
   script_speaks s ms [] l making some silent = absurd (some refl)
   script_speaks s ms (c ∷ cs) l making some silent = behind s ms (c ∷ cs) l making ∙ not_all_speaking cs l silent
 
-  more_making : (g : PlainLine K) (ms : List (PlainLine K)) (l : PlainLine K) → script_of g (ms ++ l ∷ []) [] ≡ script_of g ms [] ++ l ∷ []
+  pub more_making : (g : PlainLine K) (ms : List (PlainLine K)) (l : PlainLine K) → script_of g (ms ++ l ∷ []) [] ≡ script_of g ms [] ++ l ∷ []
   more_making g ms l = ap (λ ls. g ∷ ls) (append-nil (ms ++ l ∷ []) ∙ ap (λ ls. ls ++ l ∷ []) (sym (append-nil ms)))
 
-  more_call : (g : PlainLine K) (ms : List (PlainLine K)) (cs : List (PlainCall K)) (c : PlainCall K) → script_of g ms (cs ++ c ∷ []) ≡ script_of g ms cs ++ Speak c ∷ []
+  pub more_call : (g : PlainLine K) (ms : List (PlainLine K)) (cs : List (PlainCall K)) (c : PlainCall K) → script_of g ms (cs ++ c ∷ []) ≡ script_of g ms cs ++ Speak c ∷ []
   more_call g ms cs c =
       ap (λ ls. g ∷ ls) (ap (λ ls. ms ++ ls) (map-append (λ (x : PlainCall K). Speak x) cs (c ∷ [])) ∙ sym (append_assoc ms (map (λ x. Speak x) cs) (Speak c ∷ [])))
 
   -- ---- plans
 
-  -- a plan with these parts
-  pub record HasParts (plan : Plan K) (settings : Settings) (makings : List (PlainLine K)) (calls : List (ℕ × PlainCall K)) : Type 0 where
-    pub settings_are : plan.gateway ≡ settings
-    pub makings_are : map plain_line plan.makings.items ≡ makings
-    pub calls_are : map numbered plan.calls.items ≡ calls
+  -- a call more, with the number of its line
+  pub numbers_more : (gateway : PlainLine K) (ms : List (PlainLine K)) (old : List (Numbered K)) (one : Numbered K)
+      → map numbered old ≡ numbered_from (2 + length ms) (map call_of old) → one.line ≡ length (script_of gateway ms (map call_of old)) + 1
+      → map numbered (old ++ one ∷ []) ≡ numbered_from (2 + length ms) (map call_of (old ++ one ∷ []))
+  numbers_more gateway ms old one numbers counted =
+      let calls = map call_of old in
+      let number : one.line ≡ 2 + length ms + length calls =
+          omega (arith, counted, length-append ms (map (λ c. Speak c) calls), length-map calls (λ (c : PlainCall K). Speak c)) in
+      map-append numbered old (one ∷ [])
+      ∙ ap (λ xs. xs ++ numbered one ∷ []) numbers
+      ∙ ap (λ n. numbered_from (2 + length ms) calls ++ (n, call_of one) ∷ []) number
+      ∙ sym (numbered_append (2 + length ms) calls (call_of one ∷ []))
+      ∙ ap (numbered_from (2 + length ms)) (sym (map-append call_of old (one ∷ [])))
+
+  -- a line that is none of the three kinds with a place
+  pub other_kind : (l : Line K) → ((gateway first : ℕ) → l ≡ line.Session gateway first → ⊥)
+      → ((gateway : ℕ) (mode : WhatAmI) (zid : Zid) (region : Region) (bound : Bound) (first : ℕ) → l ≡ line.Face gateway mode zid region bound first → ⊥)
+      → ((call : Call K) → l ≡ line.Speak call → ⊥) → (is_making (plain_line l) ≡ false) × (is_speaking (plain_line l) ≡ false)
+  other_kind (line.Gateway mode zid regions south name timeout refuse) session face speak = (refl, refl)
+  other_kind (line.Session gateway first) session face speak = absurd (session gateway first refl)
+  other_kind (line.Face gateway mode zid region bound first) session face speak = absurd (face gateway mode zid region bound first refl)
+  other_kind (line.Link one two first back) session face speak = (refl, refl)
+  other_kind (line.Unlink link) session face speak = (refl, refl)
+  other_kind (line.Step link back) session face speak = (refl, refl)
+  other_kind (line.Speak call) session face speak = absurd (speak call refl)
+  other_kind (line.Moment gateway now) session face speak = (refl, refl)
+  other_kind (line.Trees gateway region table) session face speak = (refl, refl)
 
   pub plan_driven : (plan : Plan K) → IsPlan plan → is_driven (plan_lines plan) ≡ true
   plan_driven plan is = script_driven plan.gateway (map plain_line plan.makings.items) (map call_of plan.calls.items) is.making
