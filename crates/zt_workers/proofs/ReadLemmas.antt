@@ -1,8 +1,10 @@
 -- A script read line by line.
-use Rattle.std.proofs.Common.{◌≡◌, ℕ, zero, suc, ◌+◌, Bool, true, false, not, List, [], ◌∷◌, ◌++◌, length, map, slice_get, Option, Some, None, Result, Ok, Err, refl, sym, ap, ◌∙◌, subst, arith, append_assoc, append-nil, length-append}
+use Rattle.std.proofs.Common.{◌≡◌, ℕ, zero, suc, ◌+◌, Bool, true, false, not, List, [], ◌∷◌, ◌++◌, length, map, slice_get, Option, Some, None, Result, Ok, Err, inr, refl, sym, ap, ◌∙◌, subst, arith, append_assoc, append-nil, length-append}
 use Rattle.std.proofs.lemmas.List.{length-map}
 use Rattle.zt_keys.specs.declared.error.KeyError.{KeyError}
-use Rattle.zt_streams.specs.Lines.{last_line}
+use Rattle.std.specs.Result.{IfErr, OnOk, is_err}
+use Rattle.zt_streams.specs.Lines.{last_line, lines_of, rest_of, whole_lines}
+use Rattle.zt_streams.proofs.LineLemmas.{lines_of-parts, rest_of-rest_of}
 use Rattle.zt_protocol.specs.Plain.{PlainLine}
 use Rattle.zt_protocol.specs.declared.errors.RunError.{RunError}
 use Rattle.zt_protocol.specs.declared.errors.RunError.TheVariants as errors
@@ -10,7 +12,7 @@ use Rattle.zt_wire.specs.Reading.{line_read}
 use Rattle.zt_model.specs.Journal.{is_driven}
 use Rattle.zt_laws.proofs.Lists.{map-append}
 use Rattle.zt_workers.specs.Plans.{AddsLine, AreInForm, AreRead, HasBadText, HasNoPlace, LineStops, TextsStop, is_bad_behind, script_lines}
-use Rattle.zt_workers.specs.Reading.{HasRead, IsReading, TakesText}
+use Rattle.zt_workers.specs.Reading.{HasRead, IsReading, ReadingStops, TakesText}
 use Rattle.zt_workers.specs.declared.plan.Plan.{Plan}
 use Rattle.zt_workers.specs.declared.reading.Reading.{Reading}
 use Rattle.zt_workers.proofs.PlanLemmas.{lines_driven}
@@ -22,6 +24,15 @@ last_none (byte ∷ rest) given = absurd (cc)
 pub last_one : (rest line : List ℕ) → Some line ≡ slice_get (last_line rest) 0 → last_line rest ≡ line ∷ []
 last_one [] line given = absurd (cc)
 last_one (byte ∷ rest) line given = let same : line ≡ byte ∷ rest = cc in ap (λ l. l ∷ []) (sym same)
+
+-- where the whole lines are gone, the last line makes the others all
+pub last_behind : (bytes kept : List ℕ) → kept ≡ rest_of bytes → whole_lines bytes ++ last_line (rest_of kept) ≡ lines_of bytes
+last_behind bytes kept is =
+    ap (λ k. whole_lines bytes ++ last_line (rest_of k)) is ∙ ap (λ k. whole_lines bytes ++ last_line k) (rest_of-rest_of bytes) ∙ sym (lines_of-parts bytes)
+
+pub if_ok : {X E P : Type 0} (result : Result X E) → is_err result ≡ false → OnOk result P → P
+if_ok (Ok x) good fact = fact
+if_ok (Err e) good fact = absurd (cc)
 
 module _ {K : Type 0} (reading : List ℕ → Result K KeyError) where
   -- a line that is read and has no place is bad
@@ -93,3 +104,17 @@ module _ {K : Type 0} (reading : List ℕ → Result K KeyError) where
   -- behind texts that were read
   pub partly_behind : (texts more : List (List ℕ)) (r : Reading K) → HasRead reading texts r → Partly (texts ++ more) more r
   partly_behind texts more r read = record { before = texts; read = read; are = refl }
+
+  -- the last line, which isn't added
+  pub rest_stops : {X : Type 0} (rest line : List ℕ) (r : Reading K) (result : Result X RunError) → last_line rest ≡ line ∷ [] → IfErr result (LineStops reading (script_lines r.plan) line (r.lines + 1))
+      → IfErr result (λ error. (texts : List (List ℕ)) → HasRead reading texts r → TextsStop reading (texts ++ last_line rest) error)
+  rest_stops rest line r (Ok x) one stops = tt
+  rest_stops rest line r (Err e) one stops = λ texts read. partly_stops (texts ++ last_line rest) (last_line rest) [] line r e (partly_behind texts (last_line rest) r read) one stops
+
+  -- not all lines are added
+  pub whole_stops : (bytes : List ℕ) (longer : Bool) (e : RunError) → longer ≡ false → TextsStop reading (lines_of bytes) e → ReadingStops reading bytes longer e
+  whole_stops bytes longer (errors.BadLine n) whole stops = inr (whole, stops)
+  whole_stops bytes longer errors.Alloc whole stops = tt
+  whole_stops bytes longer errors.TooLong whole stops = absurd stops
+  whole_stops bytes longer errors.ReadFault whole stops = absurd stops
+  whole_stops bytes longer errors.WriteFault whole stops = absurd stops
