@@ -30,9 +30,11 @@ pub last_behind : (bytes kept : List ℕ) → kept ≡ rest_of bytes → whole_l
 last_behind bytes kept is =
     ap (λ k. whole_lines bytes ++ last_line (rest_of k)) is ∙ ap (λ k. whole_lines bytes ++ last_line k) (rest_of-rest_of bytes) ∙ sym (lines_of-parts bytes)
 
-pub if_ok : {X E P : Type 0} (result : Result X E) → is_err result ≡ false → OnOk result P → P
-if_ok (Ok x) good fact = fact
-if_ok (Err e) good fact = absurd (cc)
+-- what was fed to an empty feeder is all that it keeps
+pub fed_whole : {X E : Type 0} (result : Result X E) (failed : Bool) (empty piece new bytes : List ℕ)
+    → failed ≡ is_err result → failed ≡ false → OnOk result (new ≡ empty ++ piece) → empty ≡ [] → piece ≡ bytes → new ≡ bytes
+fed_whole (Ok x) failed empty piece new bytes same good fed none is = fed ∙ ap (λ b. b ++ piece) none ∙ is
+fed_whole (Err e) failed empty piece new bytes same good fed none is = absurd (cc)
 
 module _ {K : Type 0} (reading : List ℕ → Result K KeyError) where
   -- a line that is read and has no place is bad
