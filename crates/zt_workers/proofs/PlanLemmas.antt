@@ -1,8 +1,8 @@
 -- Lines added behind the others of a script.
-use Rattle.std.proofs.Common.{◌≡◌, ℕ, ◌+◌, Bool, true, false, not, ◌&&◌, ◌||◌, List, [], ◌∷◌, ◌++◌, length, map, Option, Some, None, refl, sym, ap, ◌∙◌, append_assoc, append-nil, length-append, arith}
+use Rattle.std.proofs.Common.{◌≡◌, ℕ, ◌+◌, Bool, true, false, ◌&&◌, ◌||◌, List, [], ◌∷◌, ◌++◌, length, map, Option, Some, None, refl, sym, ap, ◌∙◌, append_assoc, append-nil, length-append, arith}
 use Rattle.std.proofs.lemmas.List.{length-map}
 use Rattle.std.specs.List.{list_all}
-use Rattle.zt_protocol.specs.Plain.{PlainCall, PlainLine, Gateway, Session, Face as FaceLine, Link, Unlink, Step, Speak, Moment, SetTreesAt, plain_call, plain_line}
+use Rattle.zt_protocol.specs.Plain.{PlainCall, PlainLine, Gateway, Session, Face as FaceLine, Link, Unlink, Step, Speak, Moment, SetTreesAt, plain_line}
 use Rattle.zt_region.specs.declared.region.Bound.{Bound}
 use Rattle.zt_region.specs.declared.region.Region.{Region}
 use Rattle.zt_region.specs.declared.region.WhatAmI.{WhatAmI}
@@ -12,7 +12,7 @@ use Rattle.zt_protocol.specs.declared.lines.Line.{Line}
 use Rattle.zt_protocol.specs.declared.lines.Line.TheVariants as line
 use Rattle.zt_model.specs.Journal.{are_makings_first, is_driven, is_making, is_speaking}
 use Rattle.zt_model.specs.Transcript.{Each}
-use Rattle.zt_laws.proofs.Lists.{each_append, map-append}
+use Rattle.zt_laws.proofs.Lists.{map-append}
 use Rattle.zt_gateway.specs.Settings.{Settings, line_of}
 use Rattle.zt_replay.specs.Dealt.{numbered_from, script_of}
 use Rattle.zt_replay.proofs.Order.{numbered_append}
@@ -99,7 +99,7 @@ module _ {K : Type 0} where
   numbers_more gateway ms old one numbers counted =
       let calls = map call_of old in
       let number : one.line ≡ 2 + length ms + length calls =
-          omega (arith, counted, length-append ms (map (λ c. Speak c) calls), length-map calls (λ (c : PlainCall K). Speak c)) in
+      omega (arith, counted, length-append ms (map (λ c. Speak c) calls), length-map calls (λ (c : PlainCall K). Speak c)) in
       map-append numbered old (one ∷ [])
       ∙ ap (λ xs. xs ++ numbered one ∷ []) numbers
       ∙ ap (λ n. numbered_from (2 + length ms) calls ++ (n, call_of one) ∷ []) number

@@ -1,5 +1,5 @@
 -- A script read line by line.
-use Rattle.std.proofs.Common.{◌≡◌, ℕ, zero, suc, ◌+◌, Bool, true, false, not, List, [], ◌∷◌, ◌++◌, length, map, slice_get, Option, Some, None, Result, Ok, Err, inr, refl, sym, ap, ◌∙◌, subst, arith, append_assoc, append-nil, length-append}
+use Rattle.std.proofs.Common.{◌≡◌, ℕ, ◌+◌, Bool, true, false, not, List, [], ◌∷◌, ◌++◌, length, map, slice_get, Some, None, Result, Ok, Err, inr, refl, sym, ap, ◌∙◌, subst, append_assoc, append-nil}
 use Rattle.std.proofs.lemmas.List.{length-map}
 use Rattle.zt_keys.specs.declared.error.KeyError.{KeyError}
 use Rattle.std.specs.Result.{IfErr, OnOk, is_err}
@@ -11,9 +11,8 @@ use Rattle.zt_protocol.specs.declared.errors.RunError.TheVariants as errors
 use Rattle.zt_wire.specs.Reading.{line_read}
 use Rattle.zt_model.specs.Journal.{is_driven}
 use Rattle.zt_laws.proofs.Lists.{map-append}
-use Rattle.zt_workers.specs.Plans.{AddsLine, AreInForm, AreRead, HasBadText, HasNoPlace, LineStops, TextsStop, is_bad_behind, script_lines}
-use Rattle.zt_workers.specs.Reading.{HasRead, IsReading, ReadingStops, TakesText}
-use Rattle.zt_workers.specs.declared.plan.Plan.{Plan}
+use Rattle.zt_workers.specs.Plans.{AreInForm, HasNoPlace, LineStops, TextsStop, is_bad_behind, script_lines}
+use Rattle.zt_workers.specs.Reading.{HasRead, ReadingStops, TakesText}
 use Rattle.zt_workers.specs.declared.reading.Reading.{Reading}
 use Rattle.zt_workers.proofs.PlanLemmas.{lines_driven}
 

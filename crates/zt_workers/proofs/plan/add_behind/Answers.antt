@@ -1,4 +1,4 @@
-use Rattle.std.proofs.Common.{◌≡◌, ◌+◌, ◌==◌, ℕ, Bool, true, false, ⊎_elim, inl, inr, List, [], ◌++◌, ◌∷◌, length, map, refl, sym, ap, ◌∙◌, subst, arith}
+use Rattle.std.proofs.Common.{◌≡◌, ◌+◌, ◌==◌, ℕ, Bool, true, false, inl, inr, List, [], ◌++◌, ◌∷◌, length, map, sym, ap, subst, arith}
 use Rattle.zt_protocol.specs.Plain.{plain_line}
 use Rattle.zt_model.specs.Journal.{is_speaking}
 use Rattle.zt_gateway.specs.Settings.{line_of}
@@ -16,9 +16,9 @@ pub returns-then-not-is_empty-clause-other : goal.returns-then-not-is_empty-clau
 returns-then-not-is_empty-clause-other g c =
     let plan = c.args.plan.now in
     let silent : is_speaking (plain_line c.args.line) ≡ false =
-        elim c.in-Session.is [ inl w ↦ ap (λ l. is_speaking (plain_line l)) w.2 | inr w ↦ ap (λ l. is_speaking (plain_line l)) w.6 ] in
+    elim c.in-Session.is [ inl w ↦ ap (λ l. is_speaking (plain_line l)) w.2 | inr w ↦ ap (λ l. is_speaking (plain_line l)) w.6 ] in
     λ _. script_speaks plan.gateway (map plain_line plan.makings.items) (map call_of plan.calls.items) (plain_line c.args.line) c.requires.form.making
-        (some_calls plan.calls.items c.is_empty.result _ c.if-not-is_empty.true c.is_empty.ensures (omega (arith, plan.calls.ok.0))) silent
+    (some_calls plan.calls.items c.is_empty.result _ c.if-not-is_empty.true c.is_empty.ensures (omega (arith, plan.calls.ok.0))) silent
 
 pub returns-in_ok-push-in-Speak-clause-form : goal.returns-in_ok-push-in-Speak-clause-form
 returns-in_ok-push-in-Speak-clause-form g c =
@@ -30,7 +30,7 @@ returns-in_ok-push-in-Speak-clause-form g c =
       making = c.requires.form.making;
       numbers =
           subst (λ (xs : List (Numbered g.row.K.Denot)). map numbered xs ≡ numbered_from (2 + length makings) (map call_of xs)) {x = more} {y = c.push-in-Speak.new.self.items}
-          (sym c.in_ok-push-in-Speak.ensures.items)
+          (sym {a = c.push-in-Speak.new.self.items} {b = more} c.in_ok-push-in-Speak.ensures.items)
           (numbers_more (line_of plan.gateway) makings plan.calls.items one c.requires.form.numbers c.requires.number);
     }
 

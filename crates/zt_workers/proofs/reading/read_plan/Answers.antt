@@ -1,4 +1,4 @@
-use Rattle.std.proofs.Common.{◌≡◌, ℕ, List, ◌++◌, ap, ◌∙◌, subst}
+use Rattle.std.proofs.Common.{ℕ, List, ap, ◌∙◌, subst}
 use Rattle.zt_streams.specs.Lines.{lines_of, rest_of, whole_lines}
 use Rattle.zt_streams.proofs.LineLemmas.{whole_lines-rest_of}
 use Rattle.zt_workers.specs.Plans.{TextsStop, script_lines}
