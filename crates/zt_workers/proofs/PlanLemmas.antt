@@ -1,5 +1,5 @@
 -- Lines added behind the others of a script.
-use Rattle.std.proofs.Common.{◌≡◌, ℕ, ◌+◌, Bool, true, false, ◌&&◌, ◌||◌, List, [], ◌∷◌, ◌++◌, length, map, Option, Some, None, refl, sym, ap, ◌∙◌, append_assoc, append-nil, length-append, arith}
+use Rattle.std.proofs.Common.{◌≡◌, ℕ, ◌+◌, Bool, true, false, ◌&&◌, ◌||◌, List, [], ◌∷◌, ◌++◌, length, map, Option, Some, None, refl, sym, ap, ◌∙◌, append_assoc, length-append, arith}
 use Rattle.std.proofs.lemmas.List.{length-map}
 use Rattle.std.specs.List.{list_all}
 use Rattle.zt_protocol.specs.Plain.{PlainCall, PlainLine, Gateway, Session, Face as FaceLine, Link, Unlink, Step, Speak, Moment, SetTreesAt, plain_line}
@@ -83,13 +83,6 @@ module _ {K : Type 0} where
   script_speaks s ms [] l making some silent = absurd (some refl)
   script_speaks s ms (c ∷ cs) l making some silent = behind s ms (c ∷ cs) l making ∙ not_all_speaking cs l silent
 
-  pub more_making : (g : PlainLine K) (ms : List (PlainLine K)) (l : PlainLine K) → script_of g (ms ++ l ∷ []) [] ≡ script_of g ms [] ++ l ∷ []
-  more_making g ms l = ap (λ ls. g ∷ ls) (append-nil (ms ++ l ∷ []) ∙ ap (λ ls. ls ++ l ∷ []) (sym (append-nil ms)))
-
-  pub more_call : (g : PlainLine K) (ms : List (PlainLine K)) (cs : List (PlainCall K)) (c : PlainCall K) → script_of g ms (cs ++ c ∷ []) ≡ script_of g ms cs ++ Speak c ∷ []
-  more_call g ms cs c =
-      ap (λ ls. g ∷ ls) (ap (λ ls. ms ++ ls) (map-append (λ (x : PlainCall K). Speak x) cs (c ∷ [])) ∙ sym (append_assoc ms (map (λ x. Speak x) cs) (Speak c ∷ [])))
-
   -- ---- plans
 
   -- a call more, with the number of its line
@@ -120,7 +113,7 @@ module _ {K : Type 0} where
   other_kind (line.Moment gateway now) session face speak = (refl, refl)
   other_kind (line.Trees gateway region table) session face speak = (refl, refl)
 
-  pub plan_driven : (plan : Plan K) → IsPlan plan → is_driven (plan_lines plan) ≡ true
+  plan_driven : (plan : Plan K) → IsPlan plan → is_driven (plan_lines plan) ≡ true
   plan_driven plan is = script_driven plan.gateway (map plain_line plan.makings.items) (map call_of plan.calls.items) is.making
 
   pub lines_driven : (plan : Option (Plan K)) → AreInForm plan → is_driven (script_lines plan) ≡ true

@@ -1,5 +1,5 @@
 -- A script read line by line.
-use Rattle.std.proofs.Common.{◌≡◌, ℕ, ◌+◌, Bool, true, false, not, List, [], ◌∷◌, ◌++◌, length, map, slice_get, Some, None, Result, Ok, Err, inr, refl, sym, ap, ◌∙◌, subst, append_assoc, append-nil}
+use Rattle.std.proofs.Common.{◌≡◌, ℕ, ◌+◌, Bool, false, List, [], ◌∷◌, ◌++◌, length, map, slice_get, Some, None, Result, Ok, Err, inr, refl, sym, ap, ◌∙◌, subst, append_assoc, append-nil}
 use Rattle.std.proofs.lemmas.List.{length-map}
 use Rattle.zt_keys.specs.declared.error.KeyError.{KeyError}
 use Rattle.std.specs.Result.{IfErr, OnOk, is_err}
@@ -9,16 +9,11 @@ use Rattle.zt_protocol.specs.Plain.{PlainLine}
 use Rattle.zt_protocol.specs.declared.errors.RunError.{RunError}
 use Rattle.zt_protocol.specs.declared.errors.RunError.TheVariants as errors
 use Rattle.zt_wire.specs.Reading.{line_read}
-use Rattle.zt_model.specs.Journal.{is_driven}
 use Rattle.zt_laws.proofs.Lists.{map-append}
-use Rattle.zt_workers.specs.Plans.{AreInForm, HasNoPlace, LineStops, TextsStop, is_bad_behind, script_lines}
+use Rattle.zt_workers.specs.Plans.{AreInForm, LineStops, TextsStop, script_lines}
 use Rattle.zt_workers.specs.Reading.{HasRead, ReadingStops, TakesText}
 use Rattle.zt_workers.specs.declared.reading.Reading.{Reading}
 use Rattle.zt_workers.proofs.PlanLemmas.{lines_driven}
-
-pub last_none : (rest : List ℕ) → None ≡ slice_get (last_line rest) 0 → last_line rest ≡ []
-last_none [] given = refl
-last_none (byte ∷ rest) given = absurd (cc)
 
 pub last_one : (rest line : List ℕ) → Some line ≡ slice_get (last_line rest) 0 → last_line rest ≡ line ∷ []
 last_one [] line given = absurd (cc)
@@ -36,11 +31,6 @@ fed_whole (Ok x) failed empty piece new bytes same good fed none is = fed ∙ ap
 fed_whole (Err e) failed empty piece new bytes same good fed none is = absurd (cc)
 
 module _ {K : Type 0} (reading : List ℕ → Result K KeyError) where
-  -- a line that is read and has no place is bad
-  pub bad_place : (lines : List (PlainLine K)) (text : List ℕ) (line : PlainLine K) → line_read reading text ≡ Ok line → HasNoPlace lines line → is_bad_behind reading lines text ≡ true
-  bad_place lines text line read none =
-      ap (λ (r : Result (PlainLine K) _). let bad : Bool = elim r [ Ok l ↦ not (is_driven (lines ++ l ∷ [])) | Err error ↦ true ] in bad) read ∙ ap not none
-
   as_many : (texts : List (List ℕ)) (r : Reading K) → HasRead reading texts r → r.lines ≡ length texts
   as_many texts r read =
       read.is.counted ∙ sym (length-map (script_lines r.plan) (λ (line : PlainLine K). let o : Result (PlainLine K) _ = Ok line in o))
@@ -103,7 +93,7 @@ module _ {K : Type 0} (reading : List ℕ → Result K KeyError) where
   partly_stops all left later text r errors.WriteFault partly is stops = absurd stops
 
   -- behind texts that were read
-  pub partly_behind : (texts more : List (List ℕ)) (r : Reading K) → HasRead reading texts r → Partly (texts ++ more) more r
+  partly_behind : (texts more : List (List ℕ)) (r : Reading K) → HasRead reading texts r → Partly (texts ++ more) more r
   partly_behind texts more r read = record { before = texts; read = read; are = refl }
 
   -- the last line, which isn't added
