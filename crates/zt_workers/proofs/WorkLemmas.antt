@@ -1,5 +1,7 @@
 -- Calls that a worker makes.
-use Rattle.std.proofs.Common.{◌≡◌, ℕ, zero, suc, ◌<◌, Bool, List, [], ◌∷◌, ◌++◌, length, map, get_or, refl, sym, ap, ◌∙◌, subst, arith}
+use Rattle.std.proofs.Common.{◌≡◌, ℕ, zero, suc, ◌<◌, Bool, List, [], ◌∷◌, ◌++◌, length, map, get_or, Result, Ok, Err, IfOk, refl, sym, ap, ◌∙◌, subst, arith}
+use Rattle.std.proofs.lemmas.List.{get_or-map, length-map}
+use Rattle.std.specs.Global.{Vec}
 use Rattle.std.specs.List.{AllZip}
 use Rattle.std.specs.declared.cmp.Ordering.{Ordering}
 use Rattle.zt_protocol.specs.Plain.{PlainCall}
@@ -25,6 +27,21 @@ zip_all P [] [] long each = tt
 zip_all P [] (y ∷ ys) long each = absurd (omega arith)
 zip_all P (x ∷ xs) [] long each = absurd (omega arith)
 zip_all P (x ∷ xs) (y ∷ ys) long each = (each 0 x y (omega arith), zip_all P xs ys (omega arith) (λ i d e less. each (suc i) d e (omega arith)))
+
+-- results that were all good, place by place
+zip_good : {A B E : Type 0} (P : A → B → Type 0) (xs : List A) (results : List (Result B E)) (ys : List B) → results ≡ map (λ y. Ok y) ys → length results ≡ length xs
+    → ((i : ℕ) (d : A) (r : Result B E) → i < length xs → IfOk (get_or results i r) (P (get_or xs i d))) → AllZip P xs ys
+zip_good {A} {B} {E} P xs results ys good long each =
+    let as_long : length ys ≡ length xs = omega (arith, ap length good, length-map ys (λ (y : B). (let r : Result B E = Ok y in r))) in
+    zip_all P xs ys as_long
+    (λ i d e less.
+    let same : get_or results i (Ok e) ≡ Ok (get_or ys i e) = ap (λ rs. get_or rs i (Ok e)) good ∙ get_or-map (λ (y : B). (let r : Result B E = Ok y in r)) ys i e (Ok e) (omega arith) in
+    subst (λ (r : Result B E). IfOk r (P (get_or xs i d))) same (each i d (Ok e) less))
+
+pub zip_collected : {A B E F : Type 0} (P : A → B → Type 0) (xs : List A) (results : List (Result B E)) (all : Result (Vec B) F) → IfOk all (λ ys. results ≡ map (λ y. Ok y) ys.items) → length results ≡ length xs
+    → ((i : ℕ) (d : A) (r : Result B E) → i < length xs → IfOk (get_or results i r) (P (get_or xs i d))) → IfOk all (λ ys. AllZip P xs ys.items)
+zip_collected P xs results (Ok ys) good long each = zip_good P xs results ys.items good long each
+zip_collected P xs results (Err error) good long each = tt
 
 module _ {K : Type 0} where
   -- a pass of a worker that has made the calls of these lines

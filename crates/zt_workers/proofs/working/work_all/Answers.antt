@@ -1,6 +1,11 @@
-use Rattle.std.proofs.Common.{rules}
-use Rattle.zt_workers.proofs.WorkLemmas.{zip_all}
+use Rattle.std.proofs.Common.{◌≡◌, IfOk, length, get_or, subst, sym, arith}
+use Rattle.zt_workers.specs.Dealing.{Does}
+use Rattle.zt_workers.proofs.WorkLemmas.{zip_collected}
 use Rattle.zt_workers.proofs.working.work_all.Goals as goal
 
 pub returns : goal.returns
-returns g c = let h = c.in_ok-results.ensures in let k = c.collected.ensures in ?
+returns g c =
+    let results = c.in_ok-results.results.items in
+    let long : length results ≡ length c.args.jobs.items = omega (arith, c.in_ok-results.ensures.len, c.in_ok-results.results.ok.0, c.args.jobs.ok.0) in
+    zip_collected Does c.args.jobs.items results c.collected.result c.collected.ensures long
+    (λ i d r less. let one = (c.in_ok-results.ensures.each i r less).1 in subst (λ job. IfOk (get_or results i r) (Does job)) (sym (one.job_is d)) one.call.met)
