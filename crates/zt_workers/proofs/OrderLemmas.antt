@@ -1,22 +1,20 @@
 -- The entries of a journal with their lines.
-use Rattle.std.proofs.Common.{◌≡◌, ℕ, zero, suc, ◌+◌, ◌-◌, ◌<◌, ◌≤◌, Bool, true, false, ◌==◌, List, [], ◌∷◌, ◌++◌, length, map, filter, take, get_or, refl, sym, ap, ◌∙◌, subst, arith, eqb-true, eq-eqb}
-use Rattle.std.proofs.lemmas.Bool.{eqb-false}
+use Rattle.std.proofs.Common.{◌≡◌, ℕ, zero, suc, ◌+◌, ◌<◌, ◌≤◌, Bool, ◌==◌, List, [], ◌∷◌, ◌++◌, length, map, filter, take, get_or, refl, sym, ap, ◌∙◌, subst, arith}
 use Rattle.std.proofs.lemmas.List.{length-map, take_all}
 use Rattle.std.specs.List.{AllByRecursion, fold, sum_by}
 use Rattle.std.specs.declared.cmp.Ordering.{Ordering}
 use Rattle.atomic_table.specs.Seated.{TableId}
 use Rattle.zt_protocol.specs.Plain.{PlainCall}
 use Rattle.zt_model.specs.Journal.{IsReplay, Journalled}
-use Rattle.zt_model.specs.Rows.{Rows}
 use Rattle.zt_model.specs.Transcript.{Each}
 use Rattle.zt_laws.specs.Sound.{EachFrom}
 use Rattle.zt_laws.proofs.Lists.{by_test, map-map}
-use Rattle.zt_passes.specs.Account.{Accounts, AccountsForAll}
-use Rattle.zt_passes.specs.Owned.{below, owned, owned_from, with_owned}
-use Rattle.zt_passes.specs.Passes.{Standing, mine}
+use Rattle.zt_passes.specs.Account.{Accounts}
+use Rattle.zt_passes.specs.Owned.{below, owned, owned_from}
+use Rattle.zt_passes.specs.Passes.{Standing}
 use Rattle.zt_shared.specs.Recorded.{Recorded}
 use Rattle.zt_shared.specs.Sharing.{IsWholeJournal, entries_of, opening_of, pass_of}
-use Rattle.zt_workers.specs.Dealing.{HaveLines, IsDone, IsMadeByWorkers, calls_of, of_pass, part, with_lines}
+use Rattle.zt_workers.specs.Dealing.{HaveLines, IsDone, IsMadeByWorkers, of_pass, part, with_lines}
 use Rattle.zt_workers.specs.declared.working.Done.{Done}
 
 -- ---- members with lines

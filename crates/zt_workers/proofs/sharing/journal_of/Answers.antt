@@ -1,4 +1,4 @@
-use Rattle.std.proofs.Common.{◌≡◌, ◌<◌, length, map, subst, sym, ap, arith}
+use Rattle.std.proofs.Common.{◌≡◌, length, map, subst, sym, ap, arith}
 use Rattle.std.proofs.lemmas.List.{length-map}
 use Rattle.std.specs.List.{AllByRecursion}
 use Rattle.zt_passes.specs.Passes.{Standing}

@@ -1,4 +1,4 @@
-use Rattle.std.proofs.Common.{rules, map-id, sym, ap, ◌∙◌, subst}
+use Rattle.std.proofs.Common.{rules, map-id}
 use Rattle.std.proofs.lemmas.Iterator.Consumers.{YieldsList-end, YieldsList-turn}
 use Rattle.std.proofs.lemmas.Iterator.Adapters.{YieldsList-from_vec}
 use Rattle.zt_laws.specs.Sound.{CallHasFirstIds}
