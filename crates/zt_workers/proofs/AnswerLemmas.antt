@@ -1,6 +1,6 @@
 -- Answers with one more.
-use Rattle.std.proofs.Common.{◌≡◌, ℕ, zero, suc, ◌+◌, ◌<◌, ◌≤◌, List, [], ◌∷◌, ◌++◌, length, map, take, get_or, refl, sym, ap, ◌∙◌, arith, append_assoc, length-append}
-use Rattle.std.proofs.lemmas.List.{length-map, length-take, take_all, take_more}
+use Rattle.std.proofs.Common.{◌≡◌, ℕ, zero, suc, ◌+◌, ◌<◌, List, [], ◌∷◌, ◌++◌, length, map, take, get_or, refl, sym, ap, ◌∙◌, arith, append_assoc, length-append}
+use Rattle.std.proofs.lemmas.List.{length-map, length-take, take_more}
 use Rattle.zt_laws.proofs.Lists.{map-append}
 use Rattle.zt_replay.specs.Dealt.{numbered_from}
 use Rattle.zt_replay.proofs.Order.{numbered_append}
@@ -47,11 +47,6 @@ module _ {A B X : Type 0} (shown : A → ℕ × B) where
       ap (map shown) more ∙ map-append shown answers (a ∷ []) ∙ ap (λ ys. ys ++ shown a ∷ []) is ∙ ap (λ y. (map shown before ++ numbered_from n (take i all)) ++ y ∷ []) a_is
       ∙ append_assoc (map shown before) (numbered_from n (take i all)) ((line, b) ∷ [])
       ∙ ap (λ ys. map shown before ++ ys) (ap (λ k. numbered_from n (take i all) ++ (k, b) ∷ []) at_ ∙ sym (numbered_append n (take i all) (b ∷ [])) ∙ ap (numbered_from n) (sym taken))
-
-  pub alike_all : (n i : ℕ) (b : B) (xs : List X) (before answers : List A) → map shown answers ≡ map shown before ++ numbered_from n (take i (map (λ _. b) xs)) → length xs ≤ i
-      → map shown answers ≡ map shown before ++ numbered_from n (map (λ _. b) xs)
-  alike_all n i b xs before answers is most =
-      is ∙ ap (λ ys. map shown before ++ numbered_from n ys) (take_all i (map (λ _. b) xs) (omega (arith, length-map xs (λ (_ : X). b))))
 
 numbered_long : {A : Type 0} (n : ℕ) (xs : List A) → length (numbered_from n xs) ≡ length xs
 numbered_long n [] = refl

@@ -1,4 +1,4 @@
-use Rattle.std.proofs.Common.{◌≡◌, ◌+◌, ◌<◌, length, arith}
+use Rattle.std.proofs.Common.{◌≡◌, ◌+◌, length, arith}
 use Rattle.zt_workers.specs.Answers.{answered}
 use Rattle.zt_workers.proofs.AnswerLemmas.{refused_long, three_more}
 use Rattle.zt_workers.proofs.answering.all_refused.Goals as goal

@@ -1,4 +1,4 @@
-use Rattle.std.proofs.Common.{[], ◌∷◌, ◌+◌, ◌≡◌, length, map, Ok, refl, arith}
+use Rattle.std.proofs.Common.{[], ◌∷◌, Ok, refl, arith}
 use Rattle.std.proofs.lemmas.List.{length-append, length-map}
 use Rattle.zt_protocol.specs.Plain.{plain_entry}
 use Rattle.zt_workers.specs.Answers.{answered}

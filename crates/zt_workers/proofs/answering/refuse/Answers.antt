@@ -1,7 +1,6 @@
-use Rattle.std.proofs.Common.{◌≡◌, ◌+◌, ◌<◌, Err, length, map, refl, ap, arith, ◌∷◌, []}
-use Rattle.std.proofs.lemmas.List.{length-append}
+use Rattle.std.proofs.Common.{◌+◌, Err, length, refl, arith}
 use Rattle.zt_workers.specs.Answers.{answered}
-use Rattle.zt_workers.proofs.AnswerLemmas.{alike_all, alike_more}
+use Rattle.zt_workers.proofs.AnswerLemmas.{alike_more}
 use Rattle.zt_workers.proofs.answering.refuse.Goals as goal
 
 pub loop-preserved : goal.loop-preserved
