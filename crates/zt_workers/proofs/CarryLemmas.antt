@@ -1,10 +1,14 @@
 -- The answers of a whole script.
-use Rattle.std.proofs.Common.{◌≡◌, ℕ, suc, ◌+◌, ◌<◌, Bool, true, false, ◌==◌, is_some, List, [], ◌∷◌, ◌++◌, length, map, filter, Option, Some, None, Result, Ok, Err, refl, sym, ap, ◌∙◌, subst, arith, length-append}
+use Rattle.std.proofs.Common.{◌≡◌, ℕ, suc, ◌+◌, ◌<◌, Bool, true, false, ◌==◌, is_some, List, [], ◌∷◌, ◌++◌, length, map, filter, Option, Some, None, option_map, Result, Ok, Err, IfOk, refl, sym, ap, ◌∙◌, subst, arith, length-append}
 use Rattle.std.specs.Cmp.{IsTotalOrder}
 use Rattle.std.proofs.lemmas.List.{length-map}
+use Rattle.std.proofs.lemmas.Result.{IfOk-weaker}
 use Rattle.std.specs.declared.cmp.Ordering.{Ordering}
 use Rattle.zt_protocol.specs.Plain.{PlainCall, PlainEntry, PlainLine, Speak, plain_entry, plain_line}
 use Rattle.zt_protocol.specs.declared.entries.Entry.{Entry}
+use Rattle.zt_protocol.specs.declared.errors.CallError.{CallError}
+use Rattle.zt_protocol.specs.declared.errors.CallError.TheVariants.{Refused}
+use Rattle.zt_protocol.specs.declared.lines.Line.{Line}
 use Rattle.zt_protocol.specs.declared.errors.Refusal.{Refusal}
 use Rattle.zt_protocol.specs.declared.errors.Refusal.TheVariants as refusal
 use Rattle.zt_model.specs.Fabric.{empty_fabric, entries_from, line_causes, new_rows}
@@ -15,6 +19,7 @@ use Rattle.zt_model.specs.Transcript.{Each}
 use Rattle.zt_laws.specs.Sound.{HasFirstIds}
 use Rattle.zt_laws.proofs.Lists.{each_append, each_back, each_filter, each_front, each_map, map-append, map-map}
 use Rattle.zt_faithful.specs.Named.{HasNamedOptions}
+use Rattle.zt_gateway.specs.Running.{Running}
 use Rattle.zt_gateway.specs.Settings.{Settings, line_of, new_gateway}
 use Rattle.zt_replay.specs.Alone.{Speaks, made_entries, rows_made}
 use Rattle.zt_replay.specs.Dealt.{IsDealt, numbered_from, order_of, script_of, worker_of}
@@ -26,6 +31,7 @@ use Rattle.zt_workers.specs.Answers.{AreReordered, CarriesOut, answered}
 use Rattle.zt_workers.specs.Dealing.{IsMadeByWorkers, part, with_lines}
 use Rattle.zt_workers.specs.Plans.{IsPlan, call_of, numbered, plan_lines}
 use Rattle.zt_workers.specs.declared.answering.Answer.{Answer}
+use Rattle.zt_workers.specs.declared.plan.Numbered.{Numbered}
 use Rattle.zt_workers.specs.declared.plan.Plan.{Plan}
 use Rattle.zt_workers.proofs.MadeLemmas.{as_many_entries}
 use Rattle.zt_workers.proofs.OrderLemmas.{all_seconds, lines_map}
@@ -37,6 +43,10 @@ firsts_alike n [] [] same = refl
 firsts_alike n [] (y ∷ ys) same = absurd (omega arith)
 firsts_alike n (x ∷ xs) [] same = absurd (omega arith)
 firsts_alike n (x ∷ xs) (y ∷ ys) same = ap (λ ns. n ∷ ns) (firsts_alike (n + 1) xs ys (omega arith))
+
+cause_of : (cause : Option Refusal) (r : Refusal) (error : CallError) → option_map Refused cause ≡ Some error → error ≡ Refused r → cause ≡ Some r
+cause_of None r error caused is = let none : None ≡ Some error = caused in cc
+cause_of (Some cause) r error caused is = let same : Some (Refused cause) ≡ Some error = caused in cc
 
 module _ {K : Type 0} (cmp : K → K → Ordering) (matching : K → K → Bool) (total : IsTotalOrder cmp) (s : Settings) (makings : List (PlainLine K)) (calls : List (PlainCall K)) where
   abbrev line : PlainLine K
@@ -130,7 +140,7 @@ module _ {K : Type 0} (cmp : K → K → Ordering) (matching : K → K → Bool)
             ∙ ap (λ es. (Ok [] ∷ opened) ++ es) (all_seconds lines (map (λ (e : Journalled K). e.outcome) journal) (made.long ∙ sym (length-map journal (λ (e : Journalled K). e.outcome))))
             ∙ sym (ap (λ ls. entries_from cmp matching ls empty_fabric) (order_is speak)
             ∙ script_comes cmp matching total s.mode s.zid s.regions s.south s.name s.timeout s.refused makings journal accepted making first (each_entry Speaks speak)
-            (subst (λ g. IsReplayOf g) rows_are made.replay));
+            (subst (λ (g : Rows K). IsReplay cmp matching journal g) rows_are made.replay));
       };
       first_ids = subst (Each HasFirstIds) (sym (order_is speak)) (tt, each_append HasFirstIds makings (map (λ (e : Journalled K). Speak e.call) journal) first (each_speaking HasFirstIds journal (all_speak_first journal)));
       named_options = subst (Each HasNamedOptions) (sym (order_is speak))
@@ -142,9 +152,6 @@ module _ {K : Type 0} (cmp : K → K → Ordering) (matching : K → K → Bool)
 
         opened : List (PlainEntry K)
         opened = made_entries cmp matching makings start
-
-        abbrev IsReplayOf : Rows K → Type 0
-        IsReplayOf g = IsReplay cmp matching journal g
 
         numbers_behind : map (λ (x : ℕ × PlainEntry K). x.0) (with_lines lines (map (λ e. e.outcome) journal)) ≡ map (λ (x : ℕ × PlainLine K). x.0) (map (λ x. (x.0, Speak x.1.call)) lined)
         numbers_behind =
@@ -189,3 +196,55 @@ module _ {K : Type 0} (cmp : K → K → Ordering) (matching : K → K → Bool)
       (each_of_map HasNamedOptions (λ (c : PlainCall K). Speak c) spoken_of (each_back HasNamedOptions makings_of (map (λ c. Speak c) spoken_of) named.1))
       (are ∙ ap (λ xs. xs ++ with_lines lines (map (λ (e : JournalEntry K). plain_outcome e.outcome) journal)) (opened_are ∙ ap (λ (es : List (PlainEntry K)). numbered_from 1 (Ok [] ∷ es)) entries_are)
       ∙ ap (λ es. numbered_from 1 (Ok [] ∷ made_entries cmp matching makings_of (new_gateway {K = K} plan.gateway).rows) ++ with_lines lines es) (sym outcomes))
+
+  -- The same of what the functions say.
+  pub plan_done : (workers : ℕ) → 0 < workers → (slice : List (Line K)) (begun opened_on : Running K) (entries : List (Entry K)) (journal : List (JournalEntry K)) (lines slice_lines : List ℕ) (opened answers : List (Answer K))
+      → first_cause (line_causes cmp matching false (line_of plan.gateway) empty_fabric) ≡ None
+      → slice ≡ plan.makings.items → begun ≡ new_gateway plan.gateway
+      → map plain_entry entries ≡ made_entries cmp matching (map plain_line slice) begun.rows
+      → opened_on ≡ record { rows = rows_made cmp matching (map plain_line slice) begun.rows; waiting = [] }
+      → IsMadeByWorkers cmp matching workers (map numbered plan.calls.items) opened_on.rows (map journalled journal) lines
+      → map answered opened ≡ numbered_from 1 (Ok [] ∷ map plain_entry entries)
+      → slice_lines ≡ lines
+      → map answered answers ≡ map answered opened ++ with_lines slice_lines (map (λ e. plain_outcome e.outcome) journal)
+      → CarriesOut cmp matching (plan_lines plan) (map answered answers)
+  plan_done workers some slice begun opened_on entries journal lines slice_lines opened answers accepted slice_is begun_is entries_are opened_is made opened_are same are =
+      let rows_of : Running K → Rows K = λ r. r.rows in
+      plan_made workers some entries opened_on.rows journal lines opened answers accepted
+      (entries_are ∙ ap (λ ls. made_entries cmp matching (map plain_line ls) begun.rows) slice_is ∙ ap (λ r. made_entries cmp matching makings_of (rows_of r)) begun_is)
+      (ap rows_of opened_is ∙ ap (λ ls. rows_made cmp matching (map plain_line ls) begun.rows) slice_is ∙ ap (λ r. rows_made cmp matching makings_of (rows_of r)) begun_is)
+      made opened_are
+      (are ∙ ap (λ ls. map answered opened ++ with_lines ls (map (λ (e : JournalEntry K). plain_outcome e.outcome) journal)) same)
+
+  abbrev refused_by : Refusal → List (Line K) → List (Numbered K) → List (ℕ × PlainEntry K)
+  refused_by r ms cs = numbered_from 1 (Err r ∷ (map (λ m. Err refusal.UnknownGateway) ms ++ map (λ c. Err refusal.UnknownFace) cs))
+
+  pub plan_stopped : {V E : Type 0} (result : Result V E) (items : V → List (Answer K)) (r : Refusal) (error : CallError) (makings : List (Line K)) (calls : List (Numbered K))
+      → option_map Refused (first_cause (line_causes cmp matching false (line_of plan.gateway) empty_fabric)) ≡ Some error → error ≡ Refused r
+      → makings ≡ plan.makings.items → calls ≡ plan.calls.items
+      → IfOk result (λ v. map answered (items v) ≡ numbered_from 1 (Err r ∷ (map (λ m. Err refusal.UnknownGateway) makings ++ map (λ c. Err refusal.UnknownFace) calls)))
+      → IfOk result (λ v. CarriesOut cmp matching (plan_lines plan) (map answered (items v)))
+  plan_stopped result items r error makings calls caused is ms cs =
+      IfOk-weaker result _ _
+      (λ v are.
+      plan_refused r (items v) (cause_of (first_cause (line_causes cmp matching false (line_of plan.gateway) empty_fabric)) r error caused is)
+      (are ∙ ap (λ (xs : List (Line K)). refused_by r xs calls) ms ∙ ap (λ (xs : List (Numbered K)). refused_by r plan.makings.items xs) cs))
+
+-- ---- what the steps ask
+
+module _ {K : Type 0} (plan : Plan K) where
+  pub plan_first : (slice : List (Line K)) → slice ≡ plan.makings.items → Each HasFirstIds (plan_lines plan) → Each HasFirstIds (map plain_line slice)
+  plan_first slice is first =
+      subst (λ (ls : List (Line K)). Each HasFirstIds (map plain_line ls)) (sym is) (each_front HasFirstIds (map plain_line plan.makings.items) (map (λ c. Speak c) (map call_of plan.calls.items)) first.1)
+
+  pub few_makings : (cmp : K → K → Ordering) (matching : K → K → Bool) (entries : List (Entry K)) (slice : List (Line K)) (rows : Rows K) (most : ℕ) → slice ≡ plan.makings.items
+      → map plain_entry entries ≡ made_entries cmp matching (map plain_line slice) rows → length (plan_lines plan) < most → length entries < most
+  few_makings cmp matching entries slice rows most is are few =
+      let ms = map plain_line plan.makings.items in
+      let cs = map (λ (c : PlainCall K). Speak c) (map call_of plan.calls.items) in
+      let long : length entries ≡ length ms =
+      sym (length-map entries plain_entry) ∙ ap length are ∙ as_many_entries cmp matching (map plain_line slice) rows ∙ ap (λ (ls : List (Line K)). length (map plain_line ls)) is
+      in
+      let all : length (ms ++ cs) ≡ length ms + length cs = length-append ms cs in
+      let less : suc (length (ms ++ cs)) < most = few in
+      omega arith
