@@ -1,5 +1,6 @@
 -- What a whole run answers.
-use Rattle.std.proofs.Common.{◌≡◌, ◌⊎◌, ℕ, suc, ◌+◌, ◌<◌, ◌≤◌, Bool, true, false, not, IsTrue, List, [], ◌∷◌, ◌++◌, length, take, map, Option, Some, None, Result, Ok, Err, IsOkUnless, inl, inr, refl, sym, ap, ◌∙◌, subst, arith, append_assoc, append-nil, length-append}
+use Rattle.std.proofs.Common.{◌≡◌, ◌⊎◌, ℕ, suc, ◌+◌, ◌<◌, ◌≤◌, Bool, true, false, not, IsTrue, List, [], ◌∷◌, ◌++◌, length, take, map, Option, Some, None, Result, Ok, Err, IfOk, inl, inr, refl, sym, ap, ◌∙◌, subst, arith, append_assoc, append-nil, length-append}
+use Rattle.std.proofs.lemmas.Bool.{cases_lt}
 use Rattle.std.proofs.lemmas.List.{length-map, take_all}
 use Rattle.std.specs.declared.cmp.Ordering.{Ordering}
 use Rattle.std.specs.Io.KnownBytes.{Appends, Consumes, IsAtEnd}
@@ -27,8 +28,9 @@ use Rattle.zt_faithful.specs.Named.{HasNamedOptions}
 use Rattle.zt_fabric.proofs.Right.{AreRight}
 use Rattle.zt_replay.specs.Alone.{Speaks}
 use Rattle.zt_fabric.specs.Transcripts.{BeginsWith, HasNoFault, Streams, most_bytes, status_of, streams}
-use Rattle.zt_workers.specs.Answers.{AreTranscript, Answers, CarriesOut, totals_of, FoundABadLine, GivesDriven, IsCarriedOut, IsDriven, Transcribes, transcript_text}
+use Rattle.zt_workers.specs.Answers.{AreTranscript, Answers, CarriesOut, answered, totals_of, FoundABadLine, GivesDriven, IsCarriedOut, IsDriven, Transcribes, transcript_text}
 use Rattle.zt_workers.specs.Plans.{AreRead, HasBadText, call_of, plan_lines, script_lines}
+use Rattle.zt_workers.specs.declared.answering.Answer.{Answer}
 use Rattle.zt_workers.specs.declared.plan.Plan.{Plan}
 use Rattle.zt_workers.proofs.PlanLemmas.{lines_driven}
 use Rattle.zt_workers.specs.Reading.{ReadingStops, ReadsScript}
@@ -76,14 +78,10 @@ module _ {K : Type 0} (reading : List ℕ → Result K KeyError) where
   -- ---- what was read
 
   not_longer : (a b : Option (List ℕ)) (bytes : List ℕ) (longer : Bool) (t : TakesFront most_bytes a b bytes longer) → longer ≡ false → length t.read ≤ most_bytes
-  not_longer a b bytes longer t no =
-      elim (less_or (length t.read) most_bytes) as (λ _. length t.read ≤ most_bytes) [
-        | inl fits ↦ fits
-        | inr more ↦ let yes_ : longer ≡ true = t.longer_is.1 more in absurd (cc)
-      ]
-    where
-      less_or : (m n : ℕ) → (m ≤ n) ⊎ (n < m)
-      less_or m n = omega arith
+  not_longer a b bytes longer t whole = elim (cases_lt most_bytes (length t.read)) as (λ _. length t.read ≤ most_bytes) [
+    | inl more ↦ let longer_ : longer ≡ true = t.longer_is.1 more in absurd (cc)
+    | inr fits ↦ fits
+  ]
 
   module _ (cmp : K → K → Ordering) (matching : K → K → Bool) (printed : K → List ℕ) where
     -- nothing was read to its end
@@ -130,7 +128,7 @@ module _ {K : Type 0} (reading : List ℕ → Result K KeyError) where
     stopped left left' written rf rf' wf wf' bytes longer errors.WriteFault t ends stops = absurd stops
 
     pub carried_out : (left left' written written' : Option (List ℕ)) (rf rf' wf wf' : ℕ) (bytes text : List ℕ) (longer : Bool) (report : Report) → TakesFront most_bytes left left' bytes longer → (longer ≡ false → IsAtEnd left')
-        → (made : Transcribes cmp matching reading printed bytes longer text report) → IsCarriedOut cmp matching reading (streams left rf written wf) (streams left' rf' written' wf') made.answers
+        → (made : Transcribes cmp matching reading printed bytes longer text report) → IsCarriedOut cmp matching reading printed (streams left rf written wf) (streams left' rf' written' wf') made.answers
     carried_out left left' written written' rf rf' wf wf' bytes text longer report t ends made =
         let fits = not_longer left left' bytes longer t made.whole in
         let whole : bytes ≡ t.read = t.front ∙ take_all most_bytes t.read fits in
@@ -188,6 +186,13 @@ module _ {K : Type 0} (reading : List ℕ → Result K KeyError) where
       in
       omega arith
 
+  -- of a plan that was read
+  pub lines_read : (bytes : List ℕ) (longer : Bool) (read : Option (Plan K)) (plan : Plan K) → ReadsScript reading bytes longer read → read ≡ Some plan → AreRead reading (lines_of bytes) (plan_lines plan)
+  lines_read bytes longer read plan reads is = subst (λ (p : Option (Plan K)). AreRead reading (lines_of bytes) (script_lines p)) is reads.are_read
+
+  pub plan_small : (bytes : List ℕ) (plan : Plan K) → AreRead reading (lines_of bytes) (plan_lines plan) → length bytes ≤ most_bytes → length (plan_lines plan) < 2147483648
+  plan_small bytes plan read fits = let few = few_lines bytes (plan_lines plan) read in omega (arith, few)
+
   pub plan_speaks : (texts : List (List ℕ)) (plan : Plan K) → AreRead reading texts (plan_lines plan) → Each Speaks (map call_of plan.calls.items)
   plan_speaks [] plan read = absurd (cc)
   plan_speaks (bytes ∷ texts) plan read =
@@ -208,6 +213,9 @@ module _ {K : Type 0} (reading : List ℕ → Result K KeyError) where
       first_ids = tt;
       named_options = tt;
     }
+
+    pub none_answered : (answers : List (Answer K)) → answers ≡ [] → CarriesOut cmp matching [] (map answered answers)
+    none_answered answers none = subst (λ (xs : List (Answer K)). CarriesOut cmp matching [] (map answered xs)) (sym none) none_carried
 
     -- The law: what the machine comes to on lines with first ids and named options is right.
     module _ (law : (lines : List (PlainLine K)) → Each HasFirstIds lines → Each HasNamedOptions lines → AreRight cmp matching lines (entries_from cmp matching lines empty_fabric)) where
@@ -237,3 +245,9 @@ module _ {K : Type 0} (reading : List ℕ → Result K KeyError) where
         text_is = text_is;
         totals = totals;
       }
+
+      pub printed_transcript : {V E : Type 0} (result : Result V E) (text : V → List ℕ) (totals : V → Report) (bytes : List ℕ) (longer : Bool) (plan : Option (Plan K)) (answers : List (ℕ × PlainEntry K)) → ReadsScript reading bytes longer plan
+          → CarriesOut cmp matching (script_lines plan) answers → IfOk result (λ v. text v ≡ transcript_text printed answers) → IfOk result (λ v. totals v ≡ totals_of answers)
+          → IfOk result (λ v. Transcribes cmp matching reading printed bytes longer (text v) (totals v))
+      printed_transcript (Ok v) text totals bytes longer plan answers read carries text_is totals_are = transcribed bytes (text v) longer (totals v) plan answers read carries text_is totals_are
+      printed_transcript (Err error) text totals bytes longer plan answers read carries text_is totals_are = tt

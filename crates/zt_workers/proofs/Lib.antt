@@ -5,6 +5,7 @@ pub mod ReadLemmas
 pub mod MadeLemmas
 pub mod CarryLemmas
 pub mod DriveLemmas
+pub mod CompleteLemmas
 pub mod PrintLemmas
 pub mod WorkLemmas
 pub mod LineLemmas

@@ -1,9 +1,10 @@
 // A whole run with many workers, from the bytes of a script to those of its transcript.
-ghost use Rattle.std.specs.Prelude.{◌≡◌, ◌+◌, ◌<◌, ◌≤◌, vec_len, string_bytes, IfErr, IfOk, IsOkUnless};
+ghost use Rattle.std.specs.Prelude.{◌≡◌, ◌+◌, ◌<◌, ◌≤◌, ◌^◌, length, map, vec_len, string_bytes, IfErr, IfOk, IsOkUnless};
 ghost use Rattle.zt_fabric.specs.Transcripts.{CountsFaults, streams};
-ghost use Rattle.zt_workers.specs.Answers.{Answers, GivesDriven, Transcribes};
+ghost use Rattle.zt_workers.specs.Answers.{Answers, GivesDriven, Transcribes, answered, totals_of, transcript_text};
 ghost use Rattle.zt_workers.specs.Reading.{ReadingStops};
 
+use crate::answering::Answer;
 use crate::carrying::carry_out;
 use crate::gate::Gate;
 use crate::printing::print_all;
@@ -17,6 +18,19 @@ use zt_streams::{SCRIPT_BYTES, Script, ScriptError, Sink, Source, read_script, w
 
 /// The most workers that carry out a script.
 pub const MOST_WORKERS: u32 = 16;
+
+// The text of the transcript of these answers, and its totals. The only error is `Alloc`.
+fn printed<K: Key>(alloc: Global, answers: &[Answer<K>]) -> Result<(String, Report), RunError>
+    requires { length answers.now < 2 ^ 63 }
+    ensures text { IfOk result (λ made. string_bytes made.0 ≡ transcript_text K.printed (map answered answers.now)) }
+    ensures totals { IfOk result (λ made. made.1 ≡ totals_of (map answered answers.now)) }
+    ensures err { IfErr result (λ error. error ≡ RunError.Alloc) }
+{
+    match print_all(alloc, answers) {
+        Ok(made) => Ok(made),
+        Err(_) => Err(RunError::Alloc),
+    }
+}
 
 // The text of the transcript of what was read, and its totals.
 fn transcript<R: Threads + Wait + Sync, K: Key + Send + Sync, G: Gate>(
@@ -35,15 +49,12 @@ fn transcript<R: Threads + Wait + Sync, K: Key + Send + Sync, G: Gate>(
         Ok(plan) => plan,
         Err(error) => return Err(error),
     };
-    let answers = match plan {
-        None => Vec::new(alloc),
-        Some(plan) => match carry_out(rt, alloc, plan, workers, gate) {
-            Ok(answers) => answers,
-            Err(_) => return Err(RunError::Alloc),
-        },
+    let Some(plan) = plan else {
+        let none = Vec::new(alloc);
+        return printed::<K>(alloc, none.as_slice());
     };
-    match print_all(alloc, answers.as_slice()) {
-        Ok(printed) => Ok(printed),
+    match carry_out(rt, alloc, plan, workers, gate) {
+        Ok(answers) => printed(alloc, answers.as_slice()),
         Err(_) => Err(RunError::Alloc),
     }
 }
@@ -92,8 +103,8 @@ pub fn drive<R: Threads + Wait + Sync, K: Key + Send + Sync, S: Source, T: Sink,
         Ok(printed) => printed,
         Err(error) => return Err(error),
     };
-    if write_all(sink, text.as_bytes()).is_err() {
-        return Err(RunError::WriteFault);
+    match write_all(sink, text.as_bytes()) {
+        Ok(()) => Ok(report),
+        Err(_) => Err(RunError::WriteFault),
     }
-    Ok(report)
 }
