@@ -11,7 +11,7 @@ use Rattle.zt_protocol.specs.declared.errors.CallError.TheVariants.{Refused}
 use Rattle.zt_protocol.specs.declared.lines.Line.{Line}
 use Rattle.zt_protocol.specs.declared.errors.Refusal.{Refusal}
 use Rattle.zt_protocol.specs.declared.errors.Refusal.TheVariants as refusal
-use Rattle.zt_model.specs.Fabric.{empty_fabric, entries_from, line_causes, new_rows}
+use Rattle.zt_model.specs.Fabric.{empty_fabric, entries_from, line_causes}
 use Rattle.zt_model.specs.Journal.{IsReplay, Journalled, is_driven, is_making}
 use Rattle.zt_model.specs.Refusals.{first_cause}
 use Rattle.zt_model.specs.Rows.{Rows}
@@ -23,12 +23,12 @@ use Rattle.zt_gateway.specs.Running.{Running}
 use Rattle.zt_gateway.specs.Settings.{Settings, line_of, new_gateway}
 use Rattle.zt_replay.specs.Alone.{Speaks, made_entries, rows_made}
 use Rattle.zt_replay.specs.Dealt.{IsDealt, numbered_from, order_of, script_of, worker_of}
-use Rattle.zt_replay.proofs.Order.{each_numbered, each_of_map, each_part, entries_speak, is_reordered, map_second, order_lines}
+use Rattle.zt_replay.proofs.Order.{each_numbered, each_of_map, each_part, is_reordered, map_second, order_lines}
 use Rattle.zt_replay.proofs.Replay.{script_comes, script_refused}
 use Rattle.zt_shared.specs.Recorded.{journalled, plain_outcome}
 use Rattle.zt_shared.specs.declared.entries.JournalEntry.{JournalEntry}
-use Rattle.zt_workers.specs.Answers.{AreReordered, CarriesOut, answered}
-use Rattle.zt_workers.specs.Dealing.{IsMadeByWorkers, part, with_lines}
+use Rattle.zt_workers.specs.Answers.{CarriesOut, answered}
+use Rattle.zt_workers.specs.Dealing.{IsMadeByWorkers, with_lines}
 use Rattle.zt_workers.specs.Plans.{IsPlan, call_of, numbered, plan_lines}
 use Rattle.zt_workers.specs.declared.answering.Answer.{Answer}
 use Rattle.zt_workers.specs.declared.plan.Numbered.{Numbered}

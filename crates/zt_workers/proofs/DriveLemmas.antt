@@ -1,9 +1,9 @@
 -- What a whole run answers.
-use Rattle.std.proofs.Common.{◌≡◌, ◌⊎◌, ℕ, suc, ◌+◌, ◌<◌, ◌≤◌, Bool, true, false, not, IsTrue, List, [], ◌∷◌, ◌++◌, length, take, map, Option, Some, None, Result, Ok, Err, IfOk, inl, inr, refl, sym, ap, ◌∙◌, subst, arith, append_assoc, append-nil, length-append}
+use Rattle.std.proofs.Common.{◌≡◌, ℕ, suc, ◌+◌, ◌<◌, ◌≤◌, Bool, true, false, List, [], ◌∷◌, ◌++◌, length, map, Option, Some, Result, Ok, Err, IfOk, inl, inr, refl, sym, ap, ◌∙◌, subst, arith, append-nil}
 use Rattle.std.proofs.lemmas.Bool.{cases_lt}
 use Rattle.std.proofs.lemmas.List.{length-map, take_all}
 use Rattle.std.specs.declared.cmp.Ordering.{Ordering}
-use Rattle.std.specs.Io.KnownBytes.{Appends, Consumes, IsAtEnd}
+use Rattle.std.specs.Io.KnownBytes.{Appends, IsAtEnd}
 use Rattle.zt_keys.specs.declared.error.KeyError.{KeyError}
 use Rattle.zt_streams.specs.Lines.{is_feed, lines_of, whole_lines}
 use Rattle.zt_streams.specs.Streams.{AppendsPart, HasRisen, TakesFront}
@@ -18,7 +18,6 @@ use Rattle.zt_wire.specs.Grammar.{IsLine}
 use Rattle.zt_wire.specs.Reading.{line_read}
 use Rattle.zt_wire.proofs.ReadingLaw.{read_exactly}
 use Rattle.zt_model.specs.Fabric.{empty_fabric, entries_from}
-use Rattle.zt_model.specs.Journal.{is_driven}
 use Rattle.zt_model.specs.Promises.{MeetsPromises, MeetsStricterPromises, turns_from}
 use Rattle.zt_model.specs.Transcript.{Each, IsFaithfulFrom, IsStrictFrom}
 use Rattle.zt_model.specs.TreePromises.{KeepTreePromises}
@@ -27,9 +26,9 @@ use Rattle.zt_laws.proofs.Lists.{by_test}
 use Rattle.zt_faithful.specs.Named.{HasNamedOptions}
 use Rattle.zt_fabric.proofs.Right.{AreRight}
 use Rattle.zt_replay.specs.Alone.{Speaks}
-use Rattle.zt_fabric.specs.Transcripts.{BeginsWith, HasNoFault, Streams, most_bytes, status_of, streams}
-use Rattle.zt_workers.specs.Answers.{AreTranscript, Answers, CarriesOut, answered, totals_of, FoundABadLine, GivesDriven, IsCarriedOut, IsDriven, Transcribes, transcript_text}
-use Rattle.zt_workers.specs.Plans.{AreRead, HasBadText, call_of, plan_lines, script_lines}
+use Rattle.zt_fabric.specs.Transcripts.{most_bytes, streams}
+use Rattle.zt_workers.specs.Answers.{AreTranscript, Answers, CarriesOut, answered, totals_of, IsCarriedOut, Transcribes, transcript_text}
+use Rattle.zt_workers.specs.Plans.{AreRead, call_of, plan_lines, script_lines}
 use Rattle.zt_workers.specs.declared.answering.Answer.{Answer}
 use Rattle.zt_workers.specs.declared.plan.Plan.{Plan}
 use Rattle.zt_workers.proofs.PlanLemmas.{lines_driven}

@@ -1,4 +1,3 @@
-use Rattle.std.proofs.Common.{arith}
 use Rattle.zt_workers.proofs.CarryLemmas.{few_makings, plan_done, plan_first, plan_stopped}
 use Rattle.zt_workers.proofs.carrying.carry_out.Goals as goal
 
