@@ -1,0 +1,139 @@
+-- What a run of a script by many workers reads, writes and answers.
+use Rattle.std.specs.Prelude.{◌≡◌, ℕ, ◌+◌, ◌<◌, ◌≤◌, Bool, true, false, List, [], ◌∷◌, ◌++◌, length, take, map, Option, None, Some, Result, Ok, Err}
+use Rattle.std.specs.List.{flat_map}
+use Rattle.std.specs.declared.cmp.Ordering.{Ordering}
+use Rattle.std.specs.Io.KnownBytes.{Appends, Consumes, IsAtEnd}
+use Rattle.zt_keys.specs.declared.error.KeyError.{KeyError}
+use Rattle.zt_streams.specs.Lines.{lines_of, whole_lines}
+use Rattle.zt_streams.specs.Streams.{AppendsPart, HasRisen}
+use Rattle.zt_protocol.specs.Plain.{PlainEntry, PlainLine, plain_entry}
+use Rattle.zt_protocol.specs.declared.entries.Report.{Report}
+use Rattle.zt_protocol.specs.declared.errors.RunError.{RunError}
+use Rattle.zt_protocol.specs.declared.errors.RunError.TheVariants as errors
+use Rattle.zt_wire.specs.Reading.{line_read}
+use Rattle.zt_wire.specs.Text.{entry_text, report_text}
+use Rattle.zt_model.specs.Fabric.{empty_fabric, entries_from}
+use Rattle.zt_model.specs.Journal.{IsReordered, is_driven}
+use Rattle.zt_model.specs.Promises.{MeetsPromises, MeetsStricterPromises, turns_from}
+use Rattle.zt_model.specs.Transcript.{Each, IsFaithfulFrom, IsStrictFrom, report_of}
+use Rattle.zt_model.specs.TreePromises.{KeepTreePromises}
+use Rattle.zt_laws.specs.Sound.{HasFirstIds}
+use Rattle.zt_faithful.specs.Named.{HasNamedOptions}
+use Rattle.zt_replay.specs.Dealt.{numbered_from}
+use Rattle.zt_fabric.specs.Transcripts.{BeginsWith, CountsFaults, HasNoFault, Streams, most_bytes}
+use Rattle.zt_workers.specs.Plans.{AreRead, HasBadText}
+use Rattle.zt_workers.specs.declared.answering.Answer.{Answer}
+
+-- an answer: the number of a line, and what it came to
+abbrev pub answered : {K : Type 0} → Answer K → ℕ × PlainEntry K
+answered answer = (answer.line, plain_entry answer.entry)
+
+-- the text of answers, in their order
+abbrev pub answers_text : {K : Type 0} → (K → List ℕ) → List (ℕ × PlainEntry K) → List ℕ
+answers_text printed answers = flat_map (λ x. entry_text printed x.0 x.1) answers
+
+abbrev pub totals_of : {K : Type 0} → List (ℕ × PlainEntry K) → Report
+totals_of answers = report_of (map (λ x. x.1) answers)
+
+abbrev pub transcript_text : {K : Type 0} → (K → List ℕ) → List (ℕ × PlainEntry K) → List ℕ
+transcript_text printed answers = answers_text printed answers ++ report_text (totals_of answers)
+
+module _ {K : Type 0} (cmp : K → K → Ordering) (matching : K → K → Bool) where
+  -- The answers are what the machine comes to on the lines of the script in another order, in which the lines that
+  -- open faces stand before all others and those of one face as they stood, each with its number in the script.
+  pub record AreReordered (script : List (PlainLine K)) (answers : List (ℕ × PlainEntry K)) : Type 0 where
+    pub order : List (ℕ × PlainLine K)
+    pub reordered : IsReordered cmp matching (numbered_from 1 script) order
+    pub numbers : map (λ x. x.0) answers ≡ map (λ x. x.0) order
+    pub are_the_machines : map (λ x. x.1) answers ≡ entries_from cmp matching (map (λ x. x.1) order) empty_fabric
+
+  -- and the lines in that order have first ids of at least 1, and named options alone
+  pub record CarriesOut (script : List (PlainLine K)) (answers : List (ℕ × PlainEntry K)) : Type 0 where
+    pub reorders : AreReordered script answers
+    pub first_ids : Each HasFirstIds (map (λ x. x.1) reorders.order)
+    pub named_options : Each HasNamedOptions (map (λ x. x.1) reorders.order)
+
+  -- And of that order they are a transcript: each is refused exactly by its cause, after each every face keeps what it
+  -- should, and each turn, a line with its entry, keeps all promises, those that are kept beside them too, and those
+  -- of trees.
+  pub record AreTranscript (script : List (PlainLine K)) (answers : List (ℕ × PlainEntry K)) : Type 0 where
+    pub reorders : AreReordered script answers
+    pub are_faithful : IsFaithfulFrom cmp matching (map (λ x. x.1) reorders.order) (map (λ x. x.1) answers) empty_fabric
+    pub are_strict : IsStrictFrom cmp matching (map (λ x. x.1) reorders.order) (map (λ x. x.1) answers) empty_fabric
+    pub keep_promises : Each (MeetsPromises cmp matching) (turns_from cmp matching (map (λ x. x.1) reorders.order) (map (λ x. x.1) answers) empty_fabric)
+    pub keep_stricter_promises : Each (MeetsStricterPromises cmp matching) (turns_from cmp matching (map (λ x. x.1) reorders.order) (map (λ x. x.1) answers) empty_fabric)
+    pub keep_tree_promises : KeepTreePromises cmp matching (turns_from cmp matching (map (λ x. x.1) reorders.order) (map (λ x. x.1) answers) empty_fabric)
+
+module _ {K : Type 0} (reading : List ℕ → Result K KeyError) where
+  -- a script of at most 2^20 bytes, each line of which is one of the grammar and stands where it may
+  pub record IsDriven (script : List ℕ) : Type 0 where
+    pub fits : length script ≤ most_bytes
+    pub lines : List (PlainLine K)
+    pub are_read : AreRead reading (lines_of script) lines
+    pub driven : is_driven lines ≡ true
+
+  -- the source tells its bytes, they are such a script, and neither stream failed
+  abbrev pub GivesDriven : Streams → Streams → Type 0
+  GivesDriven old new = (script : List ℕ) × (old.left ≡ Some script) × IsDriven script × HasNoFault old new
+
+module _ {K : Type 0} (cmp : K → K → Ordering) (matching : K → K → Bool) (reading : List ℕ → Result K KeyError) (printed : K → List ℕ) where
+  -- The bytes are all of a script, the text is that of its transcript, and the report has its totals.
+  pub record Transcribes (bytes : List ℕ) (longer : Bool) (text : List ℕ) (report : Report) : Type 0 where
+    pub whole : longer ≡ false
+    pub lines : List (PlainLine K)
+    pub are_read : AreRead reading (lines_of bytes) lines
+    pub driven : is_driven lines ≡ true
+    pub answers : List (ℕ × PlainEntry K)
+    pub transcript : AreTranscript cmp matching lines answers
+    pub text_is : text ≡ transcript_text printed answers
+    pub totals : report ≡ totals_of answers
+
+  -- The source was read to its end, and these are the answers of its lines.
+  pub record IsCarriedOut (old new : Streams) (answers : List (ℕ × PlainEntry K)) : Type 0 where
+    pub read : List ℕ
+    pub taken : Consumes old.left new.left read
+    pub at_end : IsAtEnd new.left
+    pub script : IsDriven reading read
+    pub transcript : AreTranscript cmp matching script.lines answers
+
+  -- Exactly the transcript of all lines was written, with its totals, which are the answer.
+  pub record DroveToItsEnd (old new : Streams) (report : Report) : Type 0 where
+    pub answers : List (ℕ × PlainEntry K)
+    pub carried : IsCarriedOut old new answers
+    pub totals : report ≡ totals_of answers
+    pub shown : Appends old.written new.written (transcript_text printed answers)
+
+  -- The sink failed. A front of the text of the transcript was written, and not all.
+  pub record FailedToWrite (old new : Streams) : Type 0 where
+    pub risen : HasRisen old.write_faults new.write_faults
+    pub answers : List (ℕ × PlainEntry K)
+    pub carried : IsCarriedOut old new answers
+    pub part : AppendsPart old.written new.written (transcript_text printed answers)
+
+  -- The line of this number is the first that is no line of the grammar or has no place where it stands. Nothing was
+  -- written.
+  pub record FoundABadLine (old new : Streams) (number : ℕ) : Type 0 where
+    pub read : List ℕ
+    pub taken : Consumes old.left new.left read
+    pub texts : List (List ℕ)
+    pub first : BeginsWith new.left read texts
+    pub bad : HasBadText reading texts number
+
+  -- More than 2^20 bytes were read. Each line whose feed is among the first 2^20 is one of the grammar and stands where
+  -- it may. Nothing was written.
+  pub record FoundTooMuch (old new : Streams) : Type 0 where
+    pub read : List ℕ
+    pub taken : Consumes old.left new.left read
+    pub longer : most_bytes < length read
+    pub lines : List (PlainLine K)
+    pub are_read : AreRead reading (whole_lines (take most_bytes read)) lines
+    pub driven : is_driven lines ≡ true
+
+  -- what each answer of a run says
+  abbrev pub Answers : Streams → Streams → Result Report RunError → Type 0
+  Answers old new (Ok report) = DroveToItsEnd old new report
+  Answers old new (Err (errors.BadLine number)) = FoundABadLine old new number × (new.written ≡ old.written)
+  Answers old new (Err errors.TooLong) = FoundTooMuch old new × (new.written ≡ old.written)
+  Answers old new (Err errors.ReadFault) = HasRisen old.read_faults new.read_faults × (new.written ≡ old.written)
+  Answers old new (Err errors.WriteFault) = FailedToWrite old new
+  Answers old new (Err errors.Alloc) = new.written ≡ old.written
