@@ -1,5 +1,5 @@
 -- How pieces of work join.
-use Rattle.std.proofs.Common.{◌≡◌, ℕ, Bool, List, [], ◌∷◌, ◌++◌, Option, Some, None, Result, append_assoc, ap, drop, filter, get_or, length, subst, ◌+◌, ◌<◌, ◌≤◌, not, refl, sym, ◌==◌, ◌∙◌}
+use Rattle.std.proofs.Common.{◌≡◌, ℕ, Bool, true, false, true≢false, List, [], ◌∷◌, ◌++◌, Result, append_assoc, ap, drop, filter, get_or, length, subst, ◌+◌, ◌<◌, ◌≤◌, not, refl, sym, ◌==◌, ◌∙◌}
 use Rattle.std.proofs.lemmas.List.{append-nil, drop_all}
 use Rattle.std.specs.List.{flat_map}
 use Rattle.zt_state.proofs.Walks.{drop_item}
@@ -9,10 +9,13 @@ use Rattle.std.specs.declared.cmp.Ordering.{Ordering}
 use Rattle.zt_kept.proofs.Running.{ran-append}
 use Rattle.zt_kept.specs.Ran.{ran}
 use Rattle.zt_model.specs.Hearing.{rows_heard}
-use Rattle.zt_model.specs.Parts.{Alter, Part, Say, Sends, said_by, unsaid_to}
+use Rattle.zt_model.specs.Parts.{Alter, Part, Say, Sends, altered_by, said_by, unsaid_to}
+use Rattle.zt_laws.proofs.Hearing.{rows_heard_nothing}
 use Rattle.zt_model.specs.Rows.{Rows}
+use Rattle.zt_calls.specs.declared.speech.Audience.{Audience}
+use Rattle.zt_calls.specs.declared.speech.Audience.TheVariants.{All, AllBut, Nobody}
 use Rattle.zt_calls.specs.declared.speech.Speech.{Speech}
-use Rattle.zt_calls.specs.Does.{Does, heard_of, spoken}
+use Rattle.zt_calls.specs.Does.{Does, changes_of, heard_of, is_unheard, spares, sparing, spoken}
 
 unsaid-append : {K : Type 0} (n : ℕ) (ps qs : List (Part K)) → unsaid_to n (ps ++ qs) ≡ unsaid_to n ps ++ unsaid_to n qs
 unfolding unsaid_to
@@ -20,9 +23,27 @@ unsaid-append n [] qs = refl
 unsaid-append n (Alter change ∷ ps) qs = ap (λ rest. Alter change ∷ rest) (unsaid-append n ps qs)
 unsaid-append n (Say rule ∷ ps) qs = ap (λ rest. Say (λ g. filter (λ s. not (n == s.0)) (rule g)) ∷ rest) (unsaid-append n ps qs)
 
-spoken-append : {K : Type 0} (silent : Option ℕ) (ps qs : List (Part K)) → spoken silent (ps ++ qs) ≡ spoken silent ps ++ spoken silent qs
-spoken-append None ps qs = refl
-spoken-append (Some n) ps qs = unsaid-append n ps qs
+changes-append : {K : Type 0} (ps qs : List (Part K)) → changes_of (ps ++ qs) ≡ changes_of ps ++ changes_of qs
+changes-append [] qs = refl
+changes-append (Alter change ∷ ps) qs = ap (λ rest. Alter change ∷ rest) (changes-append ps qs)
+changes-append (Say rule ∷ ps) qs = changes-append ps qs
+
+spoken-append : {K : Type 0} (audience : Audience) (ps qs : List (Part K)) → spoken audience (ps ++ qs) ≡ spoken audience ps ++ spoken audience qs
+spoken-append All ps qs = refl
+spoken-append (AllBut n) ps qs = unsaid-append n ps qs
+spoken-append Nobody ps qs = changes-append ps qs
+
+-- who hears but one hears the parts without what they say to it
+changes-unsaid : {K : Type 0} (n : ℕ) (ps : List (Part K)) → changes_of (unsaid_to n ps) ≡ changes_of ps
+unfolding unsaid_to
+changes-unsaid n [] = refl
+changes-unsaid n (Alter change ∷ ps) = ap (λ rest. Alter change ∷ rest) (changes-unsaid n ps)
+changes-unsaid n (Say rule ∷ ps) = changes-unsaid n ps
+
+spoken-sparing : {K : Type 0} (n : ℕ) (audience : Audience) (ps : List (Part K)) → spares audience ≡ false → spoken (sparing n audience) ps ≡ spoken audience (unsaid_to n ps)
+spoken-sparing n All ps whole = refl
+spoken-sparing n (AllBut m) ps whole = absurd (true≢false whole)
+spoken-sparing n Nobody ps whole = sym (changes-unsaid n ps)
 
 module _ {K : Type 0} (cmp : K → K → Ordering) (matching : K → K → Bool) where
   said-append : (ps qs : List (Part K)) (g : Rows K) → said_by cmp matching (ps ++ qs) g ≡ said_by cmp matching ps g ++ said_by cmp matching qs (ran cmp ps g)
@@ -36,15 +57,15 @@ module _ {K : Type 0} (cmp : K → K → Ordering) (matching : K → K → Bool)
   -- one piece of work and then another
   pub does-both : (ps qs : List (Part K)) (g h k : Rows K) (s t u : Speech K) → Does cmp matching ps g h s t → Does cmp matching qs h k t u → Does cmp matching (ps ++ qs) g k s u
   does-both ps qs g h k s t u one two =
-      let first = spoken s.silent ps in
-      let second = spoken s.silent qs in
-      let both = spoken-append s.silent ps qs in
+      let first = spoken s.audience ps in
+      let second = spoken s.audience qs in
+      let both = spoken-append s.audience ps qs in
       let rows_of_two : k ≡ ran cmp second (ran cmp first g) =
-      two.rows ∙ ap (λ silent. ran cmp (spoken silent qs) h) one.silent ∙ ap (ran cmp second) one.rows in
+      two.rows ∙ ap (λ audience. ran cmp (spoken audience qs) h) one.audience ∙ ap (ran cmp second) one.rows in
       let said_of_two : u.said.items ≡ t.said.items ++ said_by cmp matching second (ran cmp first g) =
-      two.said ∙ ap (λ silent. t.said.items ++ said_by cmp matching (spoken silent qs) h) one.silent ∙ ap (λ rows. t.said.items ++ said_by cmp matching second rows) one.rows in
+      two.said ∙ ap (λ audience. t.said.items ++ said_by cmp matching (spoken audience qs) h) one.audience ∙ ap (λ rows. t.said.items ++ said_by cmp matching second rows) one.rows in
       record {
-        silent = two.silent ∙ one.silent;
+        audience = two.audience ∙ one.audience;
         rows = rows_of_two ∙ sym (ran-append cmp first second g) ∙ ap (λ parts. ran cmp parts g) (sym both);
         said =
             said_of_two
@@ -56,59 +77,79 @@ module _ {K : Type 0} (cmp : K → K → Ordering) (matching : K → K → Bool)
 
   -- ---- single parts
 
-  ran-nothing : (silent : Option ℕ) (g : Rows K) → ran cmp (spoken silent []) g ≡ g
+  ran-nothing : (audience : Audience) (g : Rows K) → ran cmp (spoken audience []) g ≡ g
   unfolding ran unsaid_to
-  ran-nothing None g = refl
-  ran-nothing (Some n) g = refl
+  ran-nothing All g = refl
+  ran-nothing (AllBut n) g = refl
+  ran-nothing Nobody g = refl
 
-  said-nothing : (silent : Option ℕ) (g : Rows K) → said_by cmp matching (spoken silent []) g ≡ []
+  said-nothing : (audience : Audience) (g : Rows K) → said_by cmp matching (spoken audience []) g ≡ []
   unfolding said_by unsaid_to
-  said-nothing None g = refl
-  said-nothing (Some n) g = refl
+  said-nothing All g = refl
+  said-nothing (AllBut n) g = refl
+  said-nothing Nobody g = refl
 
-  ran-alter : (silent : Option ℕ) (change : Rows K → Rows K) (g : Rows K) → ran cmp (spoken silent (Alter change ∷ [])) g ≡ change g
+  ran-alter : (audience : Audience) (change : Rows K → Rows K) (g : Rows K) → ran cmp (spoken audience (Alter change ∷ [])) g ≡ change g
   unfolding ran unsaid_to
-  ran-alter None change g = refl
-  ran-alter (Some n) change g = refl
+  ran-alter All change g = refl
+  ran-alter (AllBut n) change g = refl
+  ran-alter Nobody change g = refl
 
-  said-alter : (silent : Option ℕ) (change : Rows K → Rows K) (g : Rows K) → said_by cmp matching (spoken silent (Alter change ∷ [])) g ≡ []
+  said-alter : (audience : Audience) (change : Rows K → Rows K) (g : Rows K) → said_by cmp matching (spoken audience (Alter change ∷ [])) g ≡ []
   unfolding said_by unsaid_to
-  said-alter None change g = refl
-  said-alter (Some n) change g = refl
+  said-alter All change g = refl
+  said-alter (AllBut n) change g = refl
+  said-alter Nobody change g = refl
 
-  ran-say : (silent : Option ℕ) (rule : Rows K → Sends K) (g : Rows K) → ran cmp (spoken silent (Say rule ∷ [])) g ≡ rows_heard cmp (heard_of silent (rule g)) g
+  ran-say : (audience : Audience) (rule : Rows K → Sends K) (g : Rows K) → ran cmp (spoken audience (Say rule ∷ [])) g ≡ rows_heard cmp (heard_of audience (rule g)) g
   unfolding ran unsaid_to
-  ran-say None rule g = refl
-  ran-say (Some n) rule g = refl
+  ran-say All rule g = refl
+  ran-say (AllBut n) rule g = refl
+  ran-say Nobody rule g = sym (rows_heard_nothing cmp g)
 
-  said-say : (silent : Option ℕ) (rule : Rows K → Sends K) (g : Rows K) → said_by cmp matching (spoken silent (Say rule ∷ [])) g ≡ heard_of silent (rule g)
+  said-say : (audience : Audience) (rule : Rows K → Sends K) (g : Rows K) → said_by cmp matching (spoken audience (Say rule ∷ [])) g ≡ heard_of audience (rule g)
   unfolding said_by unsaid_to
-  said-say None rule g = append-nil (rule g)
-  said-say (Some n) rule g = append-nil (heard_of (Some n) (rule g))
+  said-say All rule g = append-nil (rule g)
+  said-say (AllBut n) rule g = append-nil (heard_of (AllBut n) (rule g))
+  said-say Nobody rule g = refl
 
   -- nothing is done
   pub does-nothing : (g : Rows K) (s : Speech K) → Does cmp matching [] g g s s
   does-nothing g s = record {
-    silent = refl;
-    rows = sym (ran-nothing s.silent g);
-    said = sym (ap (λ more. s.said.items ++ more) (said-nothing s.silent g) ∙ append-nil s.said.items);
+    audience = refl;
+    rows = sym (ran-nothing s.audience g);
+    said = sym (ap (λ more. s.said.items ++ more) (said-nothing s.audience g) ∙ append-nil s.said.items);
   }
 
   -- a change is made
   pub does-alter : (change : Rows K → Rows K) (g h : Rows K) (s : Speech K) → h ≡ change g → Does cmp matching (Alter change ∷ []) g h s s
   does-alter change g h s is = record {
-    silent = refl;
-    rows = is ∙ sym (ran-alter s.silent change g);
-    said = sym (ap (λ more. s.said.items ++ more) (said-alter s.silent change g) ∙ append-nil s.said.items);
+    audience = refl;
+    rows = is ∙ sym (ran-alter s.audience change g);
+    said = sym (ap (λ more. s.said.items ++ more) (said-alter s.audience change g) ∙ append-nil s.said.items);
   }
 
   -- messages are said and heard
-  pub does-say : (rule : Rows K → Sends K) (g h : Rows K) (s t : Speech K) (ss : Sends K) → t.silent ≡ s.silent → h ≡ rows_heard cmp (heard_of s.silent ss) g → t.said.items ≡ s.said.items ++ heard_of s.silent ss → rule g ≡ ss → Does cmp matching (Say rule ∷ []) g h s t
-  does-say rule g h s t ss silent heard said is = record {
-    silent = silent;
-    rows = heard ∙ ap (λ sends. rows_heard cmp (heard_of s.silent sends) g) (sym is) ∙ sym (ran-say s.silent rule g);
-    said = said ∙ ap (λ sends. s.said.items ++ heard_of s.silent sends) (sym is) ∙ ap (λ more. s.said.items ++ more) (sym (said-say s.silent rule g));
+  pub does-say : (rule : Rows K → Sends K) (g h : Rows K) (s t : Speech K) (ss : Sends K) → t.audience ≡ s.audience → h ≡ rows_heard cmp (heard_of s.audience ss) g → t.said.items ≡ s.said.items ++ heard_of s.audience ss → rule g ≡ ss → Does cmp matching (Say rule ∷ []) g h s t
+  does-say rule g h s t ss audience_ heard said is = record {
+    audience = audience_;
+    rows = heard ∙ ap (λ sends. rows_heard cmp (heard_of s.audience sends) g) (sym is) ∙ sym (ran-say s.audience rule g);
+    said = said ∙ ap (λ sends. s.said.items ++ heard_of s.audience sends) (sym is) ∙ ap (λ more. s.said.items ++ more) (sym (said-say s.audience rule g));
   }
+
+  -- what nobody hears need not be said
+  pub does-unheard : (rule : Rows K → Sends K) (g : Rows K) (s : Speech K) → is_unheard s.audience ≡ true → Does cmp matching (Say rule ∷ []) g g s s
+  does-unheard rule g s unheard =
+      let said_is = nobody_hears s.audience rule g unheard in record {
+        audience = refl;
+        rows = sym (ran-say s.audience rule g ∙ ap (λ sends. rows_heard cmp sends g) said_is ∙ rows_heard_nothing cmp g);
+        said = sym (ap (λ more. s.said.items ++ more) (said-say s.audience rule g ∙ said_is) ∙ append-nil s.said.items);
+      }
+    where
+      nobody_hears : (audience : Audience) (rule : Rows K → Sends K) (g : Rows K) → is_unheard audience ≡ true → heard_of audience (rule g) ≡ []
+      nobody_hears All rule g unheard = absurd (true≢false (sym unheard))
+      nobody_hears (AllBut n) rule g unheard = absurd (true≢false (sym unheard))
+      nobody_hears Nobody rule g unheard = refl
 
   -- the last piece of work may lack memory
   pub does-then : {E : Type 0} (r : Result (Unit {0}) E) (ps qs : List (Part K)) (g h k : Rows K) (s t u : Speech K) → Does cmp matching ps g h s t → OnOk r (Does cmp matching qs h k t u) → OnOk r (Does cmp matching (ps ++ qs) g k s u)
@@ -161,15 +202,24 @@ module _ {K : Type 0} (cmp : K → K → Ordering) (matching : K → K → Bool)
   -- ---- what isn't said to a face
 
   -- work during which a face isn't spoken to
-  pub does-silent : (n : ℕ) (ps : List (Part K)) (g h : Rows K) (s t inner last : Speech K) → s.silent ≡ None → inner.silent ≡ Some n → inner.said.items ≡ [] → t.silent ≡ s.silent
+  pub does-sparing : (n : ℕ) (ps : List (Part K)) (g h : Rows K) (s t inner last : Speech K) → spares s.audience ≡ false → inner.audience ≡ sparing n s.audience → inner.said.items ≡ [] → t.audience ≡ s.audience
       → t.said.items ≡ s.said.items ++ last.said.items → Does cmp matching ps g h inner last → Does cmp matching (unsaid_to n ps) g h s t
-  does-silent n ps g h s t inner last heard hushed empty same_ said done =
-      let to_others : spoken inner.silent ps ≡ spoken s.silent (unsaid_to n ps) =
-      ap (λ (silent : Option ℕ). spoken silent ps) hushed ∙ sym (ap (λ (silent : Option ℕ). spoken silent (unsaid_to n ps)) heard) in
+  does-sparing n ps g h s t inner last whole hushed empty same_ said done =
+      let to_others : spoken inner.audience ps ≡ spoken s.audience (unsaid_to n ps) =
+      ap (λ (audience : Audience). spoken audience ps) hushed ∙ spoken-sparing n s.audience ps whole in
       record {
-        silent = same_;
+        audience = same_;
         rows = done.rows ∙ ap (λ parts. ran cmp parts g) to_others;
         said =
             said ∙ ap (λ more. s.said.items ++ more)
-            (done.said ∙ ap (λ before. before ++ said_by cmp matching (spoken inner.silent ps) g) empty ∙ ap (λ parts. said_by cmp matching parts g) to_others);
+            (done.said ∙ ap (λ before. before ++ said_by cmp matching (spoken inner.audience ps) g) empty ∙ ap (λ parts. said_by cmp matching parts g) to_others);
       }
+
+  -- ---- changes alone
+
+  -- the changes of parts run to what they alter
+  pub changes_alter : (ps : List (Part K)) (g : Rows K) → ran cmp (changes_of ps) g ≡ altered_by cmp matching ps g
+  unfolding ran altered_by
+  changes_alter [] g = refl
+  changes_alter (Alter change ∷ ps) g = changes_alter ps (change g)
+  changes_alter (Say rule ∷ ps) g = changes_alter ps g

@@ -1,9 +1,10 @@
 // Tokens that faces declare and undeclare, in whichever region.
-ghost use Rattle.std.specs.Prelude.{◌≡◌, ◌++◌, ℕ, OnOk};
+ghost use Rattle.std.specs.Prelude.{◌≡◌, ◌++◌, ◌∷◌, [], ℕ, OnOk};
 ghost use Rattle.zt_calls.specs.Does.{Does};
 ghost use Rattle.zt_calls.specs.Speaking.{answering_asked, declaring_from, declaring_if, undeclaring_from, undeclaring_plain};
+ghost use Rattle.zt_model.specs.Parts.{Say};
 ghost use Rattle.zt_model.specs.Says.{parts_of};
-ghost use Rattle.zt_model.specs.Telling.{answering, registers};
+ghost use Rattle.zt_model.specs.Telling.{answer, answering, registers};
 ghost use Rattle.zt_protocol.specs.Plain as plain;
 
 use crate::finding::copy_undeclared;
@@ -43,6 +44,26 @@ fn registers<K: Key>(f: &FaceState<K>, interest: Option<InterestId>) -> bool
     }
 }
 
+// The token answers the asks that sent this interest. The only error is want of memory.
+fn answer_asks<K: Key>(
+    alloc: Global,
+    g: &mut GatewayState<K>,
+    speech: &mut Speech<K>,
+    face: u32,
+    id: InterestId,
+    expr: &K,
+) -> Result<(), Memory>
+    ensures { OnOk result (Does K.cmp K.matching
+        (Say (answer K.cmp K.matching face id expr.now) ∷ [])
+        g.old g.new speech.old speech.new) }
+{
+    if speech.is_unheard() {
+        return Ok(());
+    }
+    let sends = answer(alloc, g, face, id, expr)?;
+    say(alloc, g, speech, sends)
+}
+
 // The token answers the asks that sent the interest which waits, if one does. The only error is want of
 // memory.
 fn answer_asked<K: Key>(
@@ -59,10 +80,7 @@ fn answer_asked<K: Key>(
 {
     match asked {
         None => Ok(()),
-        Some(id) => {
-            let sends = answer(alloc, g, face, id, expr)?;
-            say(alloc, g, speech, sends)
-        }
+        Some(id) => answer_asks(alloc, g, speech, face, id, expr),
     }
 }
 

@@ -1,5 +1,5 @@
 -- Which faces have too few ids left.
-use Rattle.std.proofs.Common.{◌≡◌, ◌||◌, ℕ, Bool, false, not, nat_lt, List, [], ◌∷◌, Option, None, ap, arith, refl, sym, ◌∙◌, le-ltb}
+use Rattle.std.proofs.Common.{◌≡◌, ◌≤◌, ◌<◌, ◌+◌, ◌&&◌, ◌||◌, ℕ, Bool, true, false, not, if◌then◌else◌, nat_lt, List, [], ◌∷◌, Option, Some, None, ap, arith, refl, sym, ◌∙◌, le-ltb}
 use Rattle.std.proofs.Math.Bool.{or-false}
 use Rattle.std.proofs.lemmas.Bool.{and_right}
 use Rattle.std.proofs.lemmas.List.Folds.{list_any-append}
@@ -13,9 +13,11 @@ use Rattle.zt_protocol.specs.Plain.{PlainCall, NewSession, NewTransport, Declare
 use Rattle.zt_protocol.specs.declared.interests.InterestMode.{InterestMode}
 use Rattle.zt_protocol.specs.declared.interests.InterestOptions.{InterestOptions}
 use Rattle.zt_model.specs.Parts.{find_face, is_routed}
-use Rattle.zt_model.specs.Refusals.{can_draw, ids_for_token, left_ids, need, spends_ids}
+use Rattle.zt_model.specs.Refusals.{GREATEST_NUMBER, can_draw, ids_for_token, is_answered_anew, left_ids, need, spends_ids}
 use Rattle.zt_model.specs.Routing.{face_opened, opened}
 use Rattle.zt_model.specs.Rows.{Face, Rows}
+use Rattle.zt_model.specs.Telling.{is_told, registers}
+use Rattle.zt_state.specs.Rising.{AreUpTo}
 use Rattle.zt_causes.specs.Lacking.{lacks, lacks_for_interest, lacks_for_opening, lacks_for_token}
 
 -- a face of which no ids are needed lacks none
@@ -28,6 +30,18 @@ needs_none g needed f none_needed =
 pub none_lack : {K : Type 0} (g : Rows K) (needed : Face K → ℕ) (fs : List (Face K)) → ((f : Face K) → needed f ≡ 0) → false ≡ list_any (lacks g needed) fs
 none_lack g needed [] none_needed = refl
 none_lack g needed (f ∷ fs) none_needed = rw (needs_none g needed f (none_needed f)) (none_lack g needed fs none_needed)
+
+-- faces that have more ids left than are needed lack none
+pub none_lack_left : {K : Type 0} (g : Rows K) (needed : Face K → ℕ) (most m : ℕ) → ((f : Face K) → needed f ≤ most) → m + most ≤ GREATEST_NUMBER
+    → (fs : List (Face K)) → AreUpTo (λ f. f.next) m fs → false ≡ list_any (lacks g needed) fs
+none_lack_left g needed most m few room [] up_to = refl
+none_lack_left g needed most m few room (f ∷ fs) up_to = rw here (none_lack_left g needed most m few room fs up_to.1)
+  where
+    enough : needed f ≤ left_ids f
+    enough = let few_here = few f in omega (arith, few_here, room, up_to.0)
+
+    here : lacks g needed f ≡ false
+    here = and_right (not (is_routed g f)) (nat_lt (left_ids f) (needed f)) (le-ltb (left_ids f) (needed f) enough)
 
 -- a token of a face that isn't open needs no ids
 pub none_lack_token : {K : Type 0} (cmp : K → K → Ordering) (matching : K → K → Bool) (n : ℕ) (interest : Option ℕ) (e : K) (g : Rows K) → find_face n g ≡ None
@@ -47,7 +61,28 @@ opened_lack cmp matching zid whatami region bound first g lacks_ none is =
     ∙ ap (λ b. b || (lacks_for_opening cmp matching g f || false)) none
     ∙ or-false (lacks_for_opening cmp matching g f))
 
+one_at_most : (b : Bool) → (if b then 1 else 0) ≤ 1
+one_at_most true = omega arith
+one_at_most false = omega arith
+
+by_option : {A P : Type 0} (found : Option A) → (found ≡ None → P) → ((a : A) → found ≡ Some a → P) → P
+by_option None none some = none refl
+by_option (Some a) none some = some a refl
+
 module _ {K : Type 0} (cmp : K → K → Ordering) (matching : K → K → Bool) where
+  -- a token needs one id of a face at most
+  one_for_token : (n : ℕ) (interest : Option ℕ) (e : K) (g : Rows K) (f : Face K) → ids_for_token cmp matching n interest e g f ≤ 1
+  one_for_token n interest e g f =
+      by_option (find_face n g)
+      (λ closed. rw (closed, ids_for_token) (omega arith))
+      (λ from is. rw (is, ids_for_token) (one_at_most (registers from interest && (is_told cmp matching g from.region e f || is_answered_anew cmp matching n interest e from f))))
+
+  -- where each face has an id left none lacks one for a token
+  pub none_lack_one : (n : ℕ) (interest : Option ℕ) (e : K) (g : Rows K) (highest : ℕ) → AreUpTo (λ f. f.next) highest g.faces → highest < GREATEST_NUMBER
+      → false ≡ list_any (lacks_for_token cmp matching n interest e g) g.faces
+  none_lack_one n interest e g highest up_to below =
+      none_lack_left g (ids_for_token cmp matching n interest e g) 1 highest (one_for_token n interest e g) (omega (arith, below)) g.faces up_to
+
   -- what the calls that draw ids need
   pub spends_for_interest : (n id : ℕ) (mode : InterestMode) (options : InterestOptions) (e : Option K) (g : Rows K) → spends_ids cmp matching (Interest n id mode options e) g ≡ list_any (lacks_for_interest cmp matching n mode options e g) g.faces
   unfolding spends_ids need

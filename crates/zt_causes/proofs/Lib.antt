@@ -1,3 +1,4 @@
+mod Askers
 pub mod LeftIds
 pub mod Numbering
 mod Seekers

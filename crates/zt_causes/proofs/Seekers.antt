@@ -16,7 +16,7 @@ use Rattle.zt_causes.proofs.LeftIds.{needs_none}
 
 module _ {K : Type 0} where
   -- those that a test passes over fail another: the numbers of the others serve
-  any_chosen : (fs gs : List (Face K)) (p q : Face K → Bool) → ((f : Face K) → p f ≡ false → q f ≡ false) → AllByRecursion (λ f. first_where (λ x. f.number == x.number) fs ≡ Some f) gs
+  pub any_chosen : (fs gs : List (Face K)) (p q : Face K → Bool) → ((f : Face K) → p f ≡ false → q f ≡ false) → AllByRecursion (λ f. first_where (λ x. f.number == x.number) fs ≡ Some f) gs
       → list_any (λ n. is_some_and (first_where (λ x. n == x.number) fs) q) (map (λ f. f.number) (filter p gs)) ≡ list_any q gs
   any_chosen fs [] p q none found = refl
   any_chosen fs (g ∷ gs) p q none found =

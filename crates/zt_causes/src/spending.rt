@@ -1,23 +1,23 @@
 // Whether faces have ids left for what a call would send them.
-ghost use Rattle.std.specs.Prelude.{◌≡◌, ℕ, ◌&&◌, not, IfOk, None, Some, filter, length};
+ghost use Rattle.std.specs.Prelude.{◌≡◌, ◌&&◌, not, IfOk, None, Some, filter, length};
 ghost use Rattle.std.specs.List.{list_any};
-ghost use Rattle.std.specs.Option.{option_copied};
-ghost use Rattle.zt_causes.specs.Lacking.{lacks_for_interest, lacks_for_token};
+ghost use Rattle.zt_causes.specs.Lacking.{lacks_for_answers, lacks_for_interest, lacks_for_target};
+ghost use Rattle.zt_causes.specs.Lacking.{lacks_for_token};
 ghost use Rattle.zt_protocol.specs.Interest.{is_future};
 ghost use Rattle.zt_model.specs.Lists.{is_some_and};
 ghost use Rattle.zt_model.specs.Parts.{find_face};
-ghost use Rattle.zt_model.specs.Refusals.{ids_for_target, is_answered_anew, left_ids};
+ghost use Rattle.zt_model.specs.Refusals.{is_answered_anew, left_ids};
 ghost use Rattle.zt_model.specs.Says.{row_of};
 ghost use Rattle.zt_model.specs.Telling.{answered_expressions, is_answered_by};
 ghost use Rattle.zt_model.specs.Visible.{keeps};
 
 use crate::asking::row_of;
-use crate::dictionary::are_above;
 use crate::questions::registers;
 use std::alloc::Global;
 use zt_interests::is_target;
 use zt_keys::{Key, Memory};
 use zt_protocol::{InterestId, InterestMode, InterestOptions};
+use zt_region::Region;
 use zt_state::{AskState, FaceState, GatewayState};
 use zt_tokens::{answered_expressions, find_face, is_answered_by, is_routed, is_told, keeps};
 
@@ -159,8 +159,8 @@ fn do_seekers_lack<K: Key>(
     }
 }
 
-/// Whether a token that a face declares needs an id of some face that has none left. The only error is
-/// want of memory.
+/// Whether a token that a face declares needs an id of some face that has none left. Nearly always
+/// each face has one, and then none is looked up. The only error is want of memory.
 pub(crate) fn do_tokens_spend<K: Key>(
     alloc: Global,
     g: &GatewayState<K>,
@@ -171,6 +171,9 @@ pub(crate) fn do_tokens_spend<K: Key>(
     ensures { IfOk result (λ spend. spend
         ≡ list_any (lacks_for_token K.cmp K.matching face interest expr.now g.now) g.now.faces) }
 {
+    if g.highest_next() < u32::MAX {
+        return Ok(false);
+    }
     let Some(from) = find_face(g, face) else {
         return Ok(false);
     };
@@ -182,21 +185,47 @@ pub(crate) fn do_tokens_spend<K: Key>(
 
 // ---- interests
 
-// How many ids the face needs to be sent an interest: one or none.
-fn ids_for_target<K: Key>(
+// Whether the face is sent an interest of this mode of a face of the region `asker`, and has no id left
+// for it.
+fn lacks_target_id<K: Key>(
     g: &GatewayState<K>,
-    from: Option<&FaceState<K>>,
+    asker: Region,
     mode: InterestMode,
     f: &FaceState<K>,
-) -> usize
-    ensures { (n : ℕ) → option_copied from.entry ≡ find_face n g.now
-        → result ≡ ids_for_target K.cmp K.matching n mode g.now f.now }
+) -> bool
+    ensures { result ≡ lacks_for_target asker mode g.now f.now }
 {
-    match from {
-        None => 0,
-        Some(from) if is_target(g, from.region(), mode, f) => 1,
-        Some(_) => 0,
+    !is_routed(g, f) && left_ids(f) == 0 && is_target(g, asker, mode, f)
+}
+
+// The same of the face of a number, if it is open.
+fn lacks_target_id_at<K: Key>(
+    g: &GatewayState<K>,
+    asker: Region,
+    mode: InterestMode,
+    number: u32,
+) -> bool
+    ensures { result ≡ is_some_and (find_face number g.now) (lacks_for_target asker mode g.now) }
+{
+    match find_face(g, number) {
+        None => false,
+        Some(f) => lacks_target_id(g, asker, mode, f),
     }
+}
+
+// Whether an interest is sent to some face of these numbers that has no id left for it.
+fn do_targets_lack<K: Key>(
+    g: &GatewayState<K>,
+    asker: Region,
+    mode: InterestMode,
+    numbers: &[u32],
+) -> bool
+    ensures { result ≡ list_any (λ n. is_some_and (find_face n g.now)
+        (lacks_for_target asker mode g.now)) numbers.now }
+{
+    numbers
+        .iter()
+        .any(|number| lacks_target_id_at(g, asker, mode, *number))
 }
 
 // How many ids a face needs for the answers to an interest of its own.
@@ -218,35 +247,28 @@ fn ids_for_answers<K: Key>(
     Ok(exprs.iter().filter(|k| !keeps(f, k)).count())
 }
 
-// Whether a face needs more ids for an interest than are left, of which these two kinds.
-fn lacks_interest_ids<K: Key>(
+// Whether a face needs more ids for the answers to an interest of its own than are left. The only error
+// is want of memory.
+fn lacks_answer_ids<K: Key>(
     alloc: Global,
     g: &GatewayState<K>,
-    face: u32,
     mode: InterestMode,
     options: InterestOptions,
     expr: &Option<K>,
-    from: Option<&FaceState<K>>,
     f: &FaceState<K>,
 ) -> Result<bool, Memory>
-    requires { option_copied from ≡ find_face face g.now }
     ensures { IfOk result (λ lacks. lacks
-        ≡ lacks_for_interest K.cmp K.matching face mode options expr.now g.now f.now) }
+        ≡ lacks_for_answers K.cmp K.matching mode options expr.now g.now f.now) }
 {
-    if is_routed(g, f) {
+    if is_routed(g, f) || !mode.is_future() {
         return Ok(false);
     }
-    let answers = if face == f.number() && mode.is_future() {
-        ids_for_answers(alloc, g, mode, options, expr, f)?
-    } else {
-        0
-    };
-    let left = left_ids(f) as usize;
-    Ok(are_above(left, answers, ids_for_target(g, from, mode, f)))
+    let answers = ids_for_answers(alloc, g, mode, options, expr, f)?;
+    Ok((left_ids(f) as usize) < answers)
 }
 
-/// Whether an interest of a face needs more ids of some face than are left. The only error is want of
-/// memory.
+/// Whether an interest of a face needs more ids of some face than are left: of that face, which is
+/// answered, or of one to the north. The only error is want of memory.
 pub(crate) fn do_interests_spend<K: Key>(
     alloc: Global,
     g: &GatewayState<K>,
@@ -259,11 +281,11 @@ pub(crate) fn do_interests_spend<K: Key>(
         ≡ list_any
         (lacks_for_interest K.cmp K.matching face mode options expr.now g.now) g.now.faces) }
 {
-    let from = find_face(g, face);
-    for f in g.faces() {
-        if lacks_interest_ids(alloc, g, face, mode, options, expr, from, f)? {
-            return Ok(true);
-        }
+    let Some(from) = find_face(g, face) else {
+        return Ok(false);
+    };
+    if lacks_answer_ids(alloc, g, mode, options, expr, from)? {
+        return Ok(true);
     }
-    Ok(false)
+    Ok(do_targets_lack(g, from.region(), mode, g.north()))
 }

@@ -1,3 +1,3 @@
 mod Answered
 mod ById
-mod Told
+pub mod Told

@@ -1,10 +1,11 @@
 // What a face was told: Zenoh's local tokens.
 ghost use Rattle.std.specs.List.{list_any};
 ghost use Rattle.std.specs.Map.Iter.{ShowsInOrder, deref_pair};
+ghost use Rattle.std.specs.Option.{option_copied};
 ghost use Rattle.std.specs.Prelude.{◌≡◌, ℕ, ◌++◌, ◌∷◌, [], None, Some, true, IfOk, OnOk};
-ghost use Rattle.zt_face.specs.Told.{IsAbove};
+ghost use Rattle.zt_face.specs.Told.{AreApart, IsAbove, IsInOrder};
 ghost use Rattle.zt_model.specs.Hearing.{told_pair, untold};
-ghost use Rattle.zt_model.specs.Lists.{same};
+ghost use Rattle.zt_model.specs.Lists.{at_id, same};
 ghost use Rattle.zt_model.specs.Parts.{told_id};
 
 use crate::rows::RowsById;
@@ -60,10 +61,20 @@ impl<K: Key> LocalTokens<K> {
         self.id_of(expr).is_some()
     }
 
-    /// The tokens, each with its id, in order of id.
+    /// The token of the id, beside that tokens stand in order of id, each expression once.
+    pub fn find(&self, id: u32) -> Option<&K>
+        ensures row { option_copied result ≡ at_id id self.now }
+        ensures ordered { IsInOrder self.now }
+        ensures apart { AreApart K.cmp self.now }
+    {
+        self.rows.find(id)
+    }
+
+    /// The tokens, each with its id, in order of id, each expression once.
     pub fn iter(&self) -> Iter<'_, u32, K>
         ensures rest { result ≡ self.now }
         ensures runs { ShowsInOrder (deref_pair {K = ℕ} {X = K}) }
+        ensures apart { AreApart K.cmp self.now }
     {
         self.rows.iter()
     }

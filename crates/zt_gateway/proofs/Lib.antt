@@ -1,5 +1,6 @@
 mod Accepted
 mod ByFace
+mod LastSaid
 mod Listed
 mod Making
 mod Oldest

@@ -31,6 +31,10 @@ IsUnknownRegion regions region (Refused r) = (r ≡ NoSuchRegion) × (is_region_
 abbrev pub face_rows : {K : Type 0} → WhatAmI → Region → Face K → List (SourcedRow K)
 face_rows own region f = if region_eq f.region region then map (λ row. record { kind = kind_of (strategy_of own region) f.mode; zid = f.zid; expr = row.1 }) f.live else []
 
+-- a router's token
+abbrev pub router_row : {K : Type 0} → Zid → K → SourcedRow K
+router_row source e = record { kind = Router; zid = source; expr = e }
+
 -- a router's row, where it is of the region and not under the gateway's own zid
 abbrev pub router_rows : {K : Type 0} → Zid → Region → RoutedRow K → List (SourcedRow K)
 router_rows own region row = if region_eq row.region region && not (zid_eq row.source own) then record { kind = Router; zid = row.source; expr = row.expr } ∷ [] else []

@@ -1,5 +1,5 @@
 // A gateway, and the calls on it.
-ghost use Rattle.std.specs.Prelude.{◌≡◌, [], Ok, map, IfErr, IfOk, None, OnErr, OnOk};
+ghost use Rattle.std.specs.Prelude.{◌≡◌, ◌≤◌, ◌-◌, [], Ok, drop, length, map, IfErr, IfOk, None, OnErr, OnOk};
 ghost use Rattle.zt_gateway.specs.Running.{IsRefusedBy, by_face, called, next_waiting, oldest_for, planned, without_oldest, sent_alone};
 ghost use Rattle.zt_kept.specs.Sound.{IsSound};
 ghost use Rattle.zt_laws.specs.Sound.{CallHasFirstIds, rows_after_call};
@@ -133,12 +133,20 @@ impl<K: Key> Gateway<K> {
         (made, former)
     }
 
-    // What it kept before a call that was carried out last is brought up to date by the same call.
-    fn catch_up(&mut self, former: GatewayState<K>, call: &Call<K>)
-        requires { self.old.rows ≡ rows_after_call K.cmp K.matching (plain_call call.now) former }
+    // What it kept before a call that was carried out last is brought up to date by the same call, whose
+    // messages are the last ones that wait.
+    fn catch_up(&mut self, former: GatewayState<K>, call: &Call<K>, messages: usize)
+        requires after { self.old.rows
+            ≡ rows_after_call K.cmp K.matching (plain_call call.now) former }
+        requires within { messages ≤ length self.old.waiting }
+        requires said { drop (length self.old.waiting - messages) self.old.waiting
+            ≡ said K.cmp K.matching (plain_call call.now) former }
         ensures { self.new ≡ self.old }
     {
-        self.twin.catch_up(self.alloc, former, call);
+        let waiting = self.outbox.as_slice();
+        let first = waiting.len() - messages;
+        self.twin
+            .catch_up(self.alloc, former, call, &waiting[first..]);
     }
 
     /// Carries out a call as `commit` does, one that `prepare` accepted, and brings the gateway's second
@@ -150,8 +158,9 @@ impl<K: Key> Gateway<K> {
         ensures made { result ≡ prepared.made }
         ensures sound { FacesKeepWhatTheyShould K.cmp K.matching self.new.rows }
     {
+        let messages = prepared.said.as_slice().len();
         let (made, former) = self.exchange(prepared);
-        self.catch_up(former, call);
+        self.catch_up(former, call, messages);
         made
     }
 

@@ -1,15 +1,19 @@
 // Who declares tokens in a region: the rows of its faces, or of its routers.
 ghost use Rattle.std.specs.Prelude.{◌≡◌, ◌++◌, map, IfOk, OnOk};
-ghost use Rattle.zt_gateway.specs.Declarers.{face_rows, router_rows};
+ghost use Rattle.std.specs.List.{flat_map};
+ghost use Rattle.zt_gateway.specs.Declarers.{face_rows, router_row, router_rows};
 ghost use Rattle.zt_model.specs.Sourced.{kind_of, rows_sourced};
 ghost use Rattle.zt_model.specs.Sourced.{rows_sourced_by_faces, rows_sourced_by_routers};
 ghost use Rattle.zt_model.specs.Strategy.{strategy_of};
+ghost use Rattle.zt_routed.specs.Routed.{rows_of};
 
 use std::alloc::Global;
+use std::collections::BTreeSet;
 use std::marker::Model;
 use zt_keys::{Key, Memory};
 use zt_region::{Region, WhatAmI, Zid};
-use zt_state::{FaceState, GatewayState, RoutedToken, RowsById};
+use zt_routed::Origin;
+use zt_state::{FaceState, GatewayState, RowsById};
 use zt_tokens::is_router_region;
 
 // A declarer's token: what the declarer is listed as, its number and the expression.
@@ -120,23 +124,41 @@ fn rows_of_faces<K: Key>(
     Ok(rows)
 }
 
-// Adds a router's token, where it is of the region and not the gateway's own. The only error is want
-// of memory.
-fn add_routed<K: Key>(
+// Adds a router's tokens of these expressions. The only error is want of memory.
+fn add_keys<K: Key>(
+    alloc: Global,
+    source: Zid,
+    keys: &BTreeSet<K>,
+    rows: &mut Vec<SourcedToken<K>>,
+) -> Result<(), Memory>
+    ensures { OnOk result (rows.new.items ≡ rows.old.items
+        ++ map (router_row source) keys.now.keys) }
+{
+    for expr in keys {
+        rows.push(SourcedToken {
+            kind: WhatAmI::Router,
+            zid: source,
+            expr: expr.copy(alloc)?,
+        })?;
+    }
+    Ok(())
+}
+
+// Adds a router's tokens, where they are of the region and not the gateway's own. The only error is
+// want of memory.
+fn add_origin<K: Key>(
     alloc: Global,
     own: Zid,
     region: Region,
-    row: &RoutedToken<K>,
+    origin: Origin,
+    keys: &BTreeSet<K>,
     rows: &mut Vec<SourcedToken<K>>,
 ) -> Result<(), Memory>
-    ensures { OnOk result (rows.new.items ≡ rows.old.items ++ router_rows own region row.now) }
+    ensures { OnOk result (rows.new.items ≡ rows.old.items
+        ++ flat_map (router_rows own region) (rows_of (origin, keys.now))) }
 {
-    if row.region() == region && row.source() != own {
-        rows.push(SourcedToken {
-            kind: WhatAmI::Router,
-            zid: row.source(),
-            expr: row.expr().copy(alloc)?,
-        })?;
+    if origin.region == region && origin.source != own {
+        add_keys(alloc, origin.source, keys, rows)?;
     }
     Ok(())
 }
@@ -151,8 +173,8 @@ fn rows_of_routers<K: Key>(
 {
     let mut rows = Vec::new(alloc);
     let own = g.zid();
-    for row in g.routed() {
-        add_routed(alloc, own, region, row, &mut rows)?;
+    for (origin, keys) in g.routed().sources() {
+        add_origin(alloc, own, region, *origin, keys, &mut rows)?;
     }
     Ok(rows)
 }

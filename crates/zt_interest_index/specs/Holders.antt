@@ -2,6 +2,8 @@
 --     IsIndexOf anchored index held         the interests of each bucket are those of the list that belong there
 --     found_in matching e there numbers n index    the face was found before, or has an interest in the key in a bucket
 --                                                  that the key looks into
+--     HasAllIn about held rows                     the rows have each interest in the expression that is held, and no
+--                                                  other in it
 --     AreHoldersAnd matching e held others faces   the faces that hold an interest in the key, and the others, in
 --                                                  order, each once
 --     holders-found                                a key with a number at each anchor finds them
@@ -30,6 +32,10 @@ module _ {K : Type 0} where
 
     pub record IsIndexOf (index : List (Bucket × List ((ℕ × ℕ) × Option K))) (held : List ((ℕ × ℕ) × Option K)) : Type 0 where
       pub at : (bucket : Bucket) (test : (ℕ × ℕ) × Option K → Bool) → list_any test (rows_at bucket index) ≡ list_any (λ row. belongs bucket row && test row) held
+
+  -- a test that interests in this expression alone pass finds one in either or in neither
+  pub record HasAllIn (about : Option K) (held rows : List ((ℕ × ℕ) × Option K)) : Type 0 where
+    pub at : (test : (ℕ × ℕ) × Option K → Bool) → ((row : (ℕ × ℕ) × Option K) → test row ≡ true → row.1 ≡ about) → list_any test rows ≡ list_any test held
 
   module _ (matching : K → K → Bool) (e : K) where
     abbrev pub found_in : Bool → Anchors → ℕ → List (Bucket × List ((ℕ × ℕ) × Option K)) → Bool

@@ -135,6 +135,13 @@ impl<K: Key> Holdings<K> {
         self.rows.is_empty()
     }
 
+    /// The interests, each under its face and id.
+    pub fn as_slice(&self) -> &[((u32, u32), Option<K>)]
+        ensures { result.now ≡ self.now }
+    {
+        &self.rows
+    }
+
     /// Puts the faces among those found whose interests are about the key. The only error is want of
     /// memory.
     pub fn gather(&self, found: &mut BTreeSet<u32>, expr: &K) -> Result<(), Memory>

@@ -6,7 +6,7 @@ ghost use Rattle.std.specs.List.Sorted.{IsStrictlySortedBy};
 ghost use Rattle.std.specs.Map.{keys_of};
 ghost use Rattle.std.specs.Ordering.{nat_cmp};
 ghost use Rattle.zt_interest_index.specs.Buckets.{anchors_of, bucket_of};
-ghost use Rattle.zt_interest_index.specs.Holders.{AreHoldersAnd, IsIndexOf, found_in};
+ghost use Rattle.zt_interest_index.specs.Holders.{AreHoldersAnd, HasAllIn, IsIndexOf, found_in};
 ghost use Rattle.zt_interest_index.specs.Holdings.{asks_from, is_of};
 ghost use Rattle.zt_interest_index.specs.Index.{ChangesAt, IsWith, IsWithout, bucket_cmp, rows_at};
 
@@ -94,6 +94,19 @@ fn drop_bucket<K: Key>(buckets: &mut BTreeMap<Bucket, Holdings<K>>, bucket: Buck
     ensures { IsWithout bucket buckets.old.entries buckets.new.entries }
 {
     drop(buckets.remove(&bucket));
+}
+
+// The interests of a bucket.
+fn rows_in<K: Key>(
+    buckets: &BTreeMap<Bucket, Holdings<K>>,
+    bucket: Bucket,
+) -> &[((u32, u32), Option<K>)]
+    ensures { result.now ≡ rows_at bucket buckets.now.entries }
+{
+    match buckets.get(&bucket) {
+        None => &[],
+        Some(rows) => rows.as_slice(),
+    }
 }
 
 // Puts the faces among those found whose interests in a bucket are about the key. The only error is
@@ -227,6 +240,15 @@ impl<K: Key> InterestIndex<K> {
         let mut found = set_of(alloc, others)?;
         gather_all(&mut found, &self.buckets, numbers, expr)?;
         Ok(Some(listed(alloc, &found)?))
+    }
+
+    /// The interests in the expression, or those in all keys where it is `None`, each under its face and
+    /// id, and maybe interests in other expressions among them. A look-up, which takes no memory.
+    pub fn interests_in(&self, about: &Option<K>) -> &[((u32, u32), Option<K>)]
+        ensures { (held : List ((ℕ × ℕ) × Option K)) → IsIndexOf K.anchored self.now held →
+            HasAllIn about.now held result.now }
+    {
+        rows_in(&self.buckets, bucket_of(about))
     }
 
     /// An equal index. The only error is want of memory.

@@ -1,5 +1,6 @@
 mod ChosenRows
 mod Finals
 mod Gone
+mod HeldSouth
 mod Numbered
 mod North

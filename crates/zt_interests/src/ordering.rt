@@ -8,8 +8,8 @@ use std::cmp::Ordering;
 use zt_keys::{Key, Memory};
 use zt_state::RemoteInterest;
 
-// No expression comes first, then expressions in key order.
-fn expression_order<K: Key>(a: &Option<K>, b: &Option<K>) -> Ordering
+/// No expression comes first, then expressions in key order.
+pub(crate) fn expression_order<K: Key>(a: &Option<K>, b: &Option<K>) -> Ordering
     ensures { result ≡ expression_order K.cmp K.matching a.now b.now }
 {
     match (a, b) {

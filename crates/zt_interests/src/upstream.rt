@@ -1,18 +1,22 @@
 // An interest ends upstream, and the end of what was sent upstream ends asks.
-ghost use Rattle.std.specs.Prelude.{◌≡◌, ℕ, ◌&&◌, ◌++◌, IfOk, OnOk, map, not};
+ghost use Rattle.std.specs.Prelude.{◌≡◌, ℕ, ◌&&◌, ◌++◌, ◌==◌, IfOk, OnOk, map, not};
 ghost use Rattle.std.specs.List.{list_any};
 ghost use Rattle.zt_interests.specs.Chosen.{all_chosen, chosen};
+ghost use Rattle.zt_interests.specs.Held.{holds_south_as, is_held_as};
 ghost use Rattle.zt_model.specs.Routing.{asks_same, end_upstream, finish, finish_to};
 ghost use Rattle.zt_model.specs.Routing.{is_finished_by, is_held_south, stands};
 ghost use Rattle.zt_model.specs.Rows.{Ask, InterestRow};
 ghost use Rattle.zt_model.specs.Telling.{was_sent_as};
 ghost use Rattle.zt_region.specs.Region.{is_north};
+ghost use Rattle.zt_protocol.specs.Interest.{has_tokens};
 ghost use Rattle.zt_protocol.specs.declared.messages.Message.TheVariants as message;
 
+use crate::ordering::expression_order;
 use crate::routing::is_north;
+use bitflags::Flags;
 use std::alloc::Global;
 use zt_keys::{Key, Memory};
-use zt_protocol::{InterestId, Message};
+use zt_protocol::{InterestId, InterestOptions, Message};
 use zt_state::{AskState, FaceState, GatewayState, RemoteInterest};
 use zt_tokens::{FaceRule, find_face, say_at};
 
@@ -31,12 +35,76 @@ fn holds_south<K: Key>(f: &FaceState<K>, interest: &RemoteInterest<K>) -> bool
     !is_north(f) && holds(f, interest)
 }
 
-// Whether some south-bound face holds such an interest, in any mode.
+// Whether some south-bound face holds such an interest, in any mode, asking each.
 #[tactic(auto, unfolding(zt_model::specs::Routing::is_held_south))]
-fn is_held_south<K: Key>(g: &GatewayState<K>, interest: &RemoteInterest<K>) -> bool
+fn does_each_hold_south<K: Key>(g: &GatewayState<K>, interest: &RemoteInterest<K>) -> bool
     ensures { result ≡ is_held_south K.cmp K.matching g.now interest.now }
 {
     g.faces().iter().any(|f| holds_south(f, interest))
+}
+
+// Whether the face holds such an interest under the id.
+fn holds_as<K: Key>(f: &FaceState<K>, id: InterestId, interest: &RemoteInterest<K>) -> bool
+    ensures { result
+        ≡ list_any (λ row. id == row.0 && asks_same K.cmp K.matching interest.now row.1) f.now.held }
+{
+    match f.held().find(id) {
+        None => false,
+        Some(held) => interest.asks_same(held),
+    }
+}
+
+// Whether the face, to the south, holds such an interest under the id.
+fn holds_south_as<K: Key>(f: &FaceState<K>, id: InterestId, interest: &RemoteInterest<K>) -> bool
+    ensures { result ≡ holds_south_as K.cmp K.matching interest.now id f.now }
+{
+    !is_north(f) && holds_as(f, id, interest)
+}
+
+// Whether an interest in an expression, of a face under an id, is such an interest of a face to the south.
+fn is_held_as<K: Key>(
+    g: &GatewayState<K>,
+    interest: &RemoteInterest<K>,
+    row: &((u32, u32), Option<K>),
+) -> bool
+    ensures { result ≡ is_held_as K.cmp K.matching g.now interest.now row.now }
+{
+    if !expression_order(interest.expr(), &row.1).is_eq() {
+        return false;
+    }
+    match find_face(g, row.0.0) {
+        None => false,
+        Some(f) => holds_south_as(f, row.0.1, interest),
+    }
+}
+
+// Whether one of these is such an interest of a face to the south.
+fn is_one_held_as<K: Key>(
+    g: &GatewayState<K>,
+    interest: &RemoteInterest<K>,
+    rows: &[((u32, u32), Option<K>)],
+) -> bool
+    ensures { result ≡ list_any (is_held_as K.cmp K.matching g.now interest.now) rows.now }
+{
+    rows.iter().any(|row| is_held_as(g, interest, row))
+}
+
+// Whether an interest is one in tokens.
+fn is_in_tokens<K: Key>(interest: &RemoteInterest<K>) -> bool
+    ensures { result ≡ has_tokens interest.now.options }
+{
+    interest.options().contains(InterestOptions::TOKENS)
+}
+
+// Whether some south-bound face holds such an interest, in any mode. One in tokens can be looked up.
+fn is_held_south<K: Key>(g: &GatewayState<K>, interest: &RemoteInterest<K>) -> bool
+    ensures { result ≡ is_held_south K.cmp K.matching g.now interest.now }
+{
+    if is_in_tokens(interest) {
+        is_one_held_as(g, interest, g.interests_in(interest.expr()))
+    } else {
+        does_each_hold_south(g, interest)
+    }
 }
 
 // Adds that the interest under this id ends at the face, where it asks for the same.

@@ -12,7 +12,7 @@ use Rattle.zt_region.specs.declared.region.Region.{Region}
 use Rattle.zt_region.specs.declared.region.WhatAmI.{WhatAmI}
 use Rattle.zt_region.specs.declared.region.Zid.{Zid}
 use Rattle.zt_region.specs.South.{PlainSouth}
-use Rattle.zt_protocol.specs.Plain.{PlainCall, PlainEntry, PlainLine, plain_entry, Trees, NewSession, Gateway, Session, Face as FaceLine, Link as LinkLine, Unlink, Step, Speak, Moment, SetTreesAt}
+use Rattle.zt_protocol.specs.Plain.{PlainCall, PlainEntry, PlainLine, plain_entry, Trees, NewSession, Gateway, Session, Face as FaceLine, Step, Speak, Moment, SetTreesAt}
 use Rattle.zt_protocol.specs.declared.entries.Sent.{Sent}
 use Rattle.zt_protocol.specs.declared.errors.Refusal.{Refusal}
 use Rattle.zt_protocol.specs.declared.errors.Refusal.TheVariants as refusal

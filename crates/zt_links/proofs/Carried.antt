@@ -15,7 +15,7 @@ use Rattle.zt_laws.specs.Sound.{is_placed, opens_face, rows_after_call}
 use Rattle.zt_laws.proofs.CallsOrder.{altered_faces}
 use Rattle.zt_laws.proofs.Gateways.{PrintsSends, after_hearing_nothing, prints_map, prints_sorted}
 use Rattle.zt_laws.proofs.LinesOrder.{after_prints, faces_placed, faces_still_placed, gateway_in_order, opened_faces}
-use Rattle.zt_laws.proofs.Lists.{each_always, each_weaker, map-map, map_alike}
+use Rattle.zt_laws.proofs.Lists.{each_weaker, map-map}
 use Rattle.zt_laws.proofs.Numbered.{at_nth_alike}
 use Rattle.zt_laws.proofs.Sorting.{printed}
 use Rattle.zt_laws.proofs.Places.{placed_new, placed_still}

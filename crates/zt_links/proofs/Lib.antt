@@ -3,8 +3,10 @@ pub mod Accepted
 pub mod Carried
 pub mod Climbing
 pub mod Closings
+pub mod Firsts
 pub mod LinkCauses
 pub mod Joined
+pub mod Joints
 pub mod Linked
 pub mod Members
 pub mod Placed

@@ -1,5 +1,5 @@
 -- Why a link between two gateways isn't made, by what its two ends come to.
-use Rattle.std.proofs.Common.{◌≡◌, ℕ, ◌+◌, Bool, true, false, ◌||◌, not, nat_le, length, List, [], ◌∷◌, ◌++◌, Option, Some, None, Ok, Err, refl, ap, sym, ◌∙◌}
+use Rattle.std.proofs.Common.{◌≡◌, ℕ, ◌+◌, Bool, true, false, ◌||◌, not, nat_le, length, List, [], ◌∷◌, ◌++◌, Option, Some, None, refl, ap, sym, ◌∙◌}
 use Rattle.std.specs.List.{list_any}
 use Rattle.std.specs.Option.{option_to_list}
 use Rattle.std.specs.declared.cmp.Ordering.{Ordering}
@@ -12,7 +12,7 @@ use Rattle.zt_model.specs.Linking.{LinkEnd, closes_loop, end_call, end_region, i
 use Rattle.zt_model.specs.Lists.{is_some_and, nth}
 use Rattle.zt_model.specs.Refusals.{GREATEST_NUMBER, is_north_taken, spends_ids}
 use Rattle.zt_model.specs.Strategy.{fits}
-use Rattle.zt_links.specs.Lines.{cause_if, cause_of_line, closes_loop_at, later_cause, opened_by_call, call_to_open, or_cause, regions_cause}
+use Rattle.zt_links.specs.Lines.{cause_if, cause_of_line, later_cause, opened_by_call, call_to_open, or_cause, regions_cause}
 use Rattle.zt_links.proofs.Refusing.{link_cause}
 
 or_nothing : (b : Bool) → b ≡ (b || false)

@@ -1,6 +1,5 @@
 -- Members by their numbers from 1, and by their places.
-use Rattle.std.proofs.Common.{◌≡◌, ℕ, zero, suc, ◌+◌, ◌-◌, ◌<◌, ◌==◌, false, List, [], ◌∷◌, length, get_or, set, Some, None, refl, ap, sym, ◌∙◌, arith, ne_eqb}
-use Rattle.zt_model.specs.Fabric.{at_nth}
+use Rattle.std.proofs.Common.{◌≡◌, ℕ, zero, suc, ◌+◌, ◌-◌, ◌<◌, ◌==◌, false, List, [], ◌∷◌, length, get_or, Some, None, refl, ap, sym, ◌∙◌, arith, ne_eqb}
 use Rattle.zt_model.specs.Lists.{nth}
 
 pub nth_at : {A : Type 0} (place : ℕ) (xs : List A) (d : A) → place < length xs → nth (place + 1) xs ≡ Some (get_or xs place d)
@@ -18,15 +17,6 @@ nth_zero (x ∷ xs) = nth_zero xs
 pub nth_beyond : {A : Type 0} (n : ℕ) (xs : List A) → length xs < n → nth n xs ≡ None
 nth_beyond n [] lt = refl
 nth_beyond n (x ∷ xs) lt = rw (ne_eqb n 1 (omega arith)) (nth_beyond (n - 1) xs (omega arith))
-
--- a member written at its place is the member of its number changed
-pub set_at : {A : Type 0} (change : A → A) (place : ℕ) (xs : List A) (x y : A) → place < length xs → x ≡ get_or xs place x → y ≡ change x → set xs place y ≡ at_nth (place + 1) change xs
-set_at change place [] x y lt at_ is = absurd (omega arith)
-set_at change zero (z ∷ xs) x y lt at_ is = ap (λ b. b ∷ xs) (is ∙ ap change at_)
-set_at change (suc place) (z ∷ xs) x y lt at_ is =
-    let apart : (suc place + 1 == 1) ≡ false = ne_eqb (suc place + 1) 1 (omega arith) in
-    let less : suc place + 1 - 1 ≡ place + 1 = omega arith in
-    rw (apart, less) (ap (λ rest. z ∷ rest) (set_at change place xs x y (omega arith) at_ is))
 
 -- the member at a place has the number above it
 pub member_there : {A : Type 0} (n at : ℕ) (xs ys : List A) (x : A) → n ≡ at + 1 → ys ≡ xs → at < length xs → x ≡ get_or ys at x → nth n xs ≡ Some x

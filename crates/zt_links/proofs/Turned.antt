@@ -1,5 +1,5 @@
 -- A line that makes two calls: each is carried out at its gateway, and undone where the line fails.
-use Rattle.std.proofs.Common.{◌≡◌, ℕ, ◌+◌, ◌-◌, ◌==◌, ◌≢◌, Bool, false, true, not, List, [], ◌∷◌, ◌++◌, map, filter, length, Option, Some, None, is_none, option_map, refl, sym, ap, ◌∙◌, append_assoc, arith, eqb-true, ne_eqb}
+use Rattle.std.proofs.Common.{◌≡◌, ℕ, ◌+◌, ◌-◌, ◌==◌, ◌≢◌, Bool, false, true, List, [], ◌∷◌, ◌++◌, map, length, Option, Some, None, is_none, option_map, refl, sym, ap, ◌∙◌, append_assoc, arith, eqb-true, ne_eqb}
 use Rattle.std.proofs.lemmas.Bool.{eqb-false}
 use Rattle.std.proofs.lemmas.List.{length-append}
 use Rattle.std.specs.Cmp.{IsTotalOrder}
@@ -19,7 +19,7 @@ use Rattle.zt_laws.proofs.Gateways.{prints_map}
 use Rattle.zt_laws.proofs.Lists.{by_test}
 use Rattle.zt_laws.proofs.Sorting.{printed}
 use Rattle.zt_queues.specs.Waiting.{with_printed}
-use Rattle.zt_links.specs.Lines.{joined, opened_by_call, opened_end, row_after, said_by_opening}
+use Rattle.zt_links.specs.Lines.{opened_by_call, opened_end, row_after, said_by_opening}
 use Rattle.zt_links.proofs.Carried.{call_there, end_nowhere, opened_heard}
 
 -- ---- a gateway's rows are put back

@@ -12,7 +12,6 @@ use crate::copying::{copy_name, copy_south};
 use crate::joining::link;
 use crate::links::sending_end;
 use crate::making::{make_call, open_face};
-use crate::places::member_at;
 use crate::state::{FabricState, NodeState};
 use crate::unlinking::unlink;
 use std::alloc::Global;
@@ -26,7 +25,7 @@ use zt_twins::TwinState;
 pub(crate) fn taken_of<K: Key>(s: &FabricState<K>, link: u32, back: bool) -> Option<u32>
     ensures { taken_by result s.now ≡ without_message link back s.now }
 {
-    match member_at(s.links(), link) {
+    match s.link_at(link) {
         Some(link) => Some(sending_end(link, back)),
         None => None,
     }

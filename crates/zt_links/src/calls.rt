@@ -9,7 +9,6 @@ ghost use Rattle.zt_links.specs.Lines.{is_opening, made_at};
 
 use crate::copying::{copy_keys, copy_queryables};
 use crate::links::{oldest, speaking_end};
-use crate::places::member_at;
 use crate::state::FabricState;
 use std::alloc::Global;
 use std::marker::Model;
@@ -201,12 +200,12 @@ fn call_at_face<K: Key>(
     let Some(face) = face_of(call) else {
         return Ok(None);
     };
-    let Some(place) = member_at(s.places.as_slice(), face) else {
+    let Some(place) = s.place_at(face) else {
         return Ok(None);
     };
     Ok(Some(CallMade {
-        gateway: place.gateway,
-        call: call_with_face(alloc, call, place.face)?,
+        gateway: place.gateway(),
+        call: call_with_face(alloc, call, place.face())?,
     }))
 }
 
@@ -214,8 +213,8 @@ fn call_at_face<K: Key>(
 fn face_at<K: Key>(s: &FabricState<K>, gateway: u32, face: u32) -> u32
     ensures { result ≡ face_at s.now gateway face }
 {
-    match member_at(s.places.as_slice(), face) {
-        Some(place) if place.gateway == gateway => place.face,
+    match s.place_at(face) {
+        Some(place) if place.gateway() == gateway => place.face(),
         _ => 0,
     }
 }
@@ -252,20 +251,20 @@ fn call_of_step<K: Key>(
         ≡ call_of_step s.now back (nth link s.now.links)) }
     ensures still { IfOk result (λ made. IfSome made (λ m. opens_face m.1 ≡ false)) }
 {
-    let Some(link) = member_at(s.links.as_slice(), link) else {
+    let Some(link) = s.link_at(link) else {
         return Ok(None);
     };
     let Some(message) = oldest(s, link, back) else {
         return Ok(None);
     };
-    let Some(place) = member_at(s.places.as_slice(), speaking_end(link, back)) else {
+    let Some(place) = s.place_at(speaking_end(link, back)) else {
         return Ok(None);
     };
-    let Some(call) = call_of_message(alloc, message, place.face)? else {
+    let Some(call) = call_of_message(alloc, message, place.face())? else {
         return Ok(None);
     };
     Ok(Some(CallMade {
-        gateway: place.gateway,
+        gateway: place.gateway(),
         call,
     }))
 }

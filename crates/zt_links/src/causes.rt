@@ -152,7 +152,7 @@ pub(crate) fn speak_cause<K: Key>(
 fn waits<K: Key>(s: &FabricState<K>, link: u32, back: bool) -> bool
     ensures { result ≡ is_some_and (nth link s.now.links) (λ l. is_some (oldest s.now l back)) }
 {
-    match member_at(s.links.as_slice(), link) {
+    match s.link_at(link) {
         Some(link) => oldest(s, link, back).is_some(),
         None => false,
     }

@@ -1,5 +1,5 @@
 // Tests of the two ends of a link that is to be.
-ghost use Rattle.std.specs.Prelude.{◌≡◌, ◌&&◌, Ok, Err, not, length, IfOk};
+ghost use Rattle.std.specs.Prelude.{◌≡◌, ◌&&◌, Ok, Err, not, length};
 ghost use Rattle.std.specs.List.{list_any};
 ghost use Rattle.zt_region.specs.Region.{is_north, whatami_eq};
 ghost use Rattle.zt_region.specs.declared.region.WhatAmI.TheVariants.{Client};
@@ -11,9 +11,9 @@ ghost use Rattle.zt_model.specs.Strategy.{fits};
 use crate::causes::has_region;
 use crate::linking::climbs_to;
 use crate::state::{FabricState, NodeState};
-use zt_keys::{Key, Memory};
+use zt_keys::Key;
 use zt_region::{Bound, Region, RegionError, WhatAmI};
-use zt_state::FaceState;
+use zt_state::GatewayState;
 
 /// Whether a face fits: its region, the gateway's mode, the remote's mode and the remote's bound.
 fn fits(own: WhatAmI, region: Region, remote: WhatAmI, bound: Bound) -> bool
@@ -55,10 +55,10 @@ pub(crate) fn misfits<K: Key>(
     }
 }
 
-fn has_north_face<K: Key>(faces: &[FaceState<K>]) -> bool
-    ensures { result ≡ list_any (λ f. is_north f.region) faces.now }
+fn has_north_face<K: Key>(rows: &GatewayState<K>) -> bool
+    ensures { result ≡ list_any (λ f. is_north f.region) rows.now.faces }
 {
-    faces.iter().any(|f| f.region() == Region::North)
+    !rows.north().is_empty()
 }
 
 /// Whether the gateway of an end is a client's that has a face to the north already.
@@ -72,7 +72,7 @@ pub(crate) fn takes_north<K: Key>(
         Ok((region, _)) => {
             node.rows().mode() == WhatAmI::Client
                 && *region == Region::North
-                && has_north_face(node.rows().faces())
+                && has_north_face(node.rows())
         }
         Err(_) => false,
     }
@@ -85,18 +85,16 @@ pub(crate) fn closes_loop<K: Key>(
     answer: &Result<(Region, Bound), RegionError>,
     beyond: u32,
     gateway: u32,
-) -> Result<bool, Memory>
-    ensures { IfOk result (λ closes. closes ≡ is_answer answer.now (λ region bound.
-        whatami_eq node.now.rows.mode Client && (is_north region && climbs_to (length s.now.gateways) s.now beyond gateway))) }
+) -> bool
+    ensures { result ≡ is_answer answer.now (λ region bound.
+        whatami_eq node.now.rows.mode Client && (is_north region && climbs_to (length s.now.gateways) s.now beyond gateway)) }
 {
     match answer {
         Ok((region, _)) => {
-            if node.rows().mode() == WhatAmI::Client && *region == Region::North {
-                climbs_to(s, s.gateways().len(), beyond, gateway)
-            } else {
-                Ok(false)
-            }
+            node.rows().mode() == WhatAmI::Client
+                && *region == Region::North
+                && climbs_to(s, s.gateways().len(), beyond, gateway)
         }
-        Err(_) => Ok(false),
+        Err(_) => false,
     }
 }

@@ -55,14 +55,11 @@ fn closes_loops<K: Key>(
     two: u32,
     b: &NodeState<K>,
     far: &Result<(Region, Bound), RegionError>,
-) -> Result<bool, Memory>
-    ensures { IfOk result (λ closes. closes
-        ≡ (closes_loop_at s.now a.now near.now two one || closes_loop_at s.now b.now far.now one two)) }
+) -> bool
+    ensures { result
+        ≡ (closes_loop_at s.now a.now near.now two one || closes_loop_at s.now b.now far.now one two) }
 {
-    if closes_loop(s, a, near, two, one)? {
-        return Ok(true);
-    }
-    closes_loop(s, b, far, one, two)
+    closes_loop(s, a, near, two, one) || closes_loop(s, b, far, one, two)
 }
 
 /// Whether the calls that open the faces of a link need more ids than are left.
@@ -112,7 +109,7 @@ fn later_cause<K: Key>(
     ensures { IfOk result (λ cause. cause
         ≡ later_cause K.cmp K.matching one two first back s.now a.now near.now b.now far.now) }
 {
-    if closes_loops(s, one, a, near, two, b, far)? {
+    if closes_loops(s, one, a, near, two, b, far) {
         return Ok(Some(Refusal::WouldLoop));
     }
     if spends_at_ends(alloc, s, one, a, near, first, two, b, far, back)? {

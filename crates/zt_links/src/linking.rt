@@ -1,23 +1,22 @@
 // The two ends of a link: the regions of their faces, and the calls that open them.
-ghost use Rattle.std.specs.Prelude.{◌≡◌, ◌<◌, ◌^◌, ◌&&◌, ◌||◌, ◌+◌, ◌++◌, false, true, map, Some, None, Ok, Err, IfOk, OnErr, OnOk, option_map};
+ghost use Rattle.std.specs.Prelude.{◌≡◌, ◌<◌, ◌≤◌, ◌^◌, ◌||◌, ◌+◌, ◌++◌, false, true, length, map, Some, None, Ok, Err, IfOk, OnErr, OnOk, option_map};
 ghost use Rattle.zt_model.specs.Fabric.{call_at, is_unknown_gateway, sorted_by_face};
 ghost use Rattle.zt_laws.specs.Order.{FabricIsInOrder};
 ghost use Rattle.zt_laws.specs.Sound.{opens_face, rows_after_call};
-ghost use Rattle.std.specs.Option.{option_copied};
 ghost use Rattle.zt_region.specs.Region.{is_north};
 ghost use Rattle.zt_protocol.specs.Plain.{NewTransport, plain_call};
 ghost use Rattle.zt_region.specs.South.{plain_peer, plain_south, subregion_count};
+ghost use Rattle.zt_places.specs.Found.{AreBelow};
 ghost use Rattle.zt_links.specs.Lines.{agreed, joined, opened_by_call, opened_end, row_after, said_by_opening, undone, without_last_place};
-ghost use Rattle.zt_model.specs.Linking.{climbs_to, with_link, end_region, gateway_above, gateway_beyond, is_end_of, peer_of};
+ghost use Rattle.zt_model.specs.Linking.{climbs_to, with_link, end_region, gateway_above, gateway_beyond, peer_of};
 ghost use Rattle.zt_model.specs.Lists.{first_where, is_some_and, nth};
 ghost use Rattle.zt_model.specs.Refusals.{spends_ids};
 
 use crate::copying::copy_name;
-use crate::links::is_end_of;
 use crate::making::next_face;
-use crate::places::{member_at, number_of_place, place_of_number};
+use crate::places::{member_at, place_of_number};
 use crate::sorting::sort_by_face;
-use crate::state::{FabricState, LinkState, NodeState};
+use crate::state::{FabricState, NodeState};
 use crate::turning::{Turned, hear_call, undo_opening};
 use std::alloc::Global;
 use zt_calls::carry_out;
@@ -28,7 +27,7 @@ use zt_region::{
     Bound, Region, RegionError, SouthConf, TransportPeer, WhatAmI, compute_region_of,
     compute_transient_bound_of,
 };
-use zt_state::{FaceState, GatewayState};
+use zt_state::GatewayState;
 
 /// A gateway as the other end of a link sees it. The only error is want of memory.
 fn peer_of<K: Key>(alloc: Global, node: &NodeState<K>) -> Result<TransportPeer, Memory>
@@ -121,76 +120,57 @@ pub(crate) fn end_call<K: Key>(
 fn gateway_beyond<K: Key>(s: &FabricState<K>, face: u32) -> Option<u32>
     ensures { result ≡ gateway_beyond s.now face }
 {
-    let link = open_link_of(s.links(), face)?;
-    let other = if face == link.one { link.two } else { link.one };
-    match member_at(s.places(), other) {
-        Some(place) => Some(place.gateway),
+    let link = s.open_link_of(face)?;
+    let other = if face == link.one() {
+        link.two()
+    } else {
+        link.one()
+    };
+    match s.place_at(other) {
+        Some(place) => Some(place.gateway()),
         None => None,
     }
 }
 
-/// The open link that a face ends.
-fn open_link_of(links: &[LinkState], face: u32) -> Option<&LinkState>
-    ensures { option_copied result ≡ first_where (λ link. link.is_open && is_end_of face link) links.now }
+/// The number of the first face to the north.
+fn north_face<K: Key>(rows: &GatewayState<K>) -> Option<u32>
+    ensures { result
+        ≡ option_map (λ f. f.number) (first_where (λ f. is_north f.region) rows.now.faces) }
 {
-    for link in links {
-        if link.is_open && is_end_of(link, face) {
-            return Some(link);
-        }
-    }
-    None
-}
-
-/// The first face to the north.
-fn north_face<K: Key>(faces: &[FaceState<K>]) -> Option<&FaceState<K>>
-    ensures { option_copied result ≡ first_where (λ f. is_north f.region) faces.now }
-{
-    for f in faces {
-        if f.region() == Region::North {
-            return Some(f);
-        }
-    }
-    None
+    rows.north().first().copied()
 }
 
 /// The gateway above a client gateway, by its north link.
-fn gateway_above<K: Key>(s: &FabricState<K>, gateway: u32) -> Result<Option<u32>, Memory>
-    ensures { IfOk result (λ above. above ≡ gateway_above s.now gateway) }
+fn gateway_above<K: Key>(s: &FabricState<K>, gateway: u32) -> Option<u32>
+    ensures { result ≡ gateway_above s.now gateway }
 {
-    let Some(node) = member_at(s.gateways(), gateway) else {
-        return Ok(None);
-    };
+    let node = member_at(s.gateways(), gateway)?;
     if node.rows().mode() != WhatAmI::Client {
-        return Ok(None);
+        return None;
     }
-    match north_face(node.rows().faces()) {
-        None => Ok(None),
-        Some(f) => Ok(gateway_beyond(s, number_of_place(s.places(), gateway, f.number())?)),
+    match north_face(node.rows()) {
+        None => None,
+        Some(face) => gateway_beyond(s, s.places().number(gateway, face)),
     }
 }
 
 /// Whether a gateway is another or lies above it, at most so many links away.
-pub(crate) fn climbs_to<K: Key>(
-    s: &FabricState<K>,
-    most: usize,
-    from: u32,
-    to: u32,
-) -> Result<bool, Memory>
-    ensures { IfOk result (λ climbs. climbs ≡ climbs_to most s.now from to) }
+pub(crate) fn climbs_to<K: Key>(s: &FabricState<K>, most: usize, from: u32, to: u32) -> bool
+    ensures { result ≡ climbs_to most s.now from to }
 {
     let mut left = most;
     let mut at = from;
     while left > 0 {
         if at == to {
-            return Ok(true);
+            return true;
         }
-        match gateway_above(s, at)? {
-            None => return Ok(false),
+        match gateway_above(s, at) {
+            None => return false,
             Some(above) => at = above,
         }
         left -= 1;
     }
-    Ok(at == to)
+    at == to
 }
 
 /// Opens the face at an end of a link, whose gateway exists. After want of memory nothing is changed.
@@ -206,6 +186,9 @@ fn open_end<K: Key>(
     ensures says { IfOk result (λ turned. turned.printed.items
         ≡ said_by_opening K.cmp K.matching gateway (plain_call call.now) s.old) }
     ensures does { OnOk result (s.new ≡ opened_end K.cmp K.matching gateway (plain_call call.now) s.old) }
+    ensures links { OnOk result (s.new.links ≡ s.old.links) }
+    ensures faces { OnOk result (length s.new.faces ≡ length s.old.faces + 1) }
+    ensures free { OnOk result (AreBelow (length s.new.faces) s.new.links) }
     ensures back { IfOk result (λ turned.
         without_last_place (undone turned.former turned.gateway s.new) ≡ s.old) }
     ensures err { OnErr result (s.new ≡ s.old) }
@@ -244,6 +227,9 @@ fn join<K: Key>(
     mut first: Vec<Sent<K>>,
     mut second: Vec<Sent<K>>,
 ) -> Result<Vec<Sent<K>>, Memory>
+    requires below { AreBelow face s.old.links }
+    requires rising { face < other }
+    requires placed { other ≤ length s.old.faces }
     ensures says { IfOk result (λ sent. sent.items ≡ sorted_by_face (first.items ++ second.items)) }
     ensures does { IfOk result (λ sent. s.new ≡ joined face other sent.items s.old) }
     ensures err { OnErr result (s.new ≡ s.old) }
@@ -272,6 +258,9 @@ fn open_other<K: Key>(
 ) -> Result<Vec<Sent<K>>, Memory>
     requires opens { opens_face (plain_call call.now) ≡ true }
     requires there { is_unknown_gateway s.old gateway ≡ false }
+    requires below { AreBelow face s.old.links }
+    requires rising { face < other }
+    requires placed { other ≤ length s.old.faces + 1 }
     requires order { FabricIsInOrder K.cmp K.matching s.old }
     ensures says { IfOk result (λ sent. sent.items ≡ sorted_by_face
         (first.items ++ said_by_opening K.cmp K.matching gateway (plain_call call.now) s.old)) }

@@ -2,25 +2,25 @@
 ghost use Rattle.std.specs.Prelude.{◌≡◌, Some};
 ghost use Rattle.std.specs.Option.{option_copied};
 ghost use Rattle.zt_model.specs.Fabric.{is_linked_face, is_open_link};
-ghost use Rattle.zt_model.specs.Linking.{is_end_of, oldest, sending_end, speaking_end};
+ghost use Rattle.zt_model.specs.Linking.{oldest, sending_end, speaking_end};
 
-use crate::places::member_at;
-use crate::state::{FabricState, LinkState};
+use crate::state::FabricState;
 use zt_keys::Key;
+use zt_places::LinkState;
 use zt_protocol::Message;
 
 /// The face whose messages a direction of a link takes.
 pub(crate) fn sending_end(link: &LinkState, back: bool) -> u32
     ensures { result ≡ sending_end link.now back }
 {
-    if back { link.two } else { link.one }
+    if back { link.two() } else { link.one() }
 }
 
 /// The face at the other end, which speaks them.
 pub(crate) fn speaking_end(link: &LinkState, back: bool) -> u32
     ensures { result ≡ speaking_end link.now back }
 {
-    if back { link.one } else { link.two }
+    if back { link.one() } else { link.two() }
 }
 
 /// The oldest message that waits in a direction of a link.
@@ -38,24 +38,15 @@ pub(crate) fn oldest<'a, K: Key>(
 pub(crate) fn is_open_link<K: Key>(s: &FabricState<K>, link: u32) -> bool
     ensures { result ≡ is_open_link s.now link }
 {
-    match member_at(s.links.as_slice(), link) {
-        Some(link) => link.is_open,
+    match s.link_at(link) {
+        Some(link) => link.is_open(),
         None => false,
     }
-}
-
-/// Whether a face ends the link.
-pub(crate) fn is_end_of(link: &LinkState, face: u32) -> bool
-    ensures { result ≡ is_end_of face link.now }
-{
-    face == link.one || face == link.two
 }
 
 /// Whether a face ends an open link.
 pub(crate) fn is_linked_face<K: Key>(s: &FabricState<K>, face: u32) -> bool
     ensures { result ≡ is_linked_face s.now (Some face) }
 {
-    s.links
-        .iter()
-        .any(|link| link.is_open && is_end_of(link, face))
+    s.open_link_of(face).is_some()
 }

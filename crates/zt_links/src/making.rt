@@ -3,6 +3,7 @@ ghost use Rattle.std.specs.Prelude.{◌≡◌, ◌+◌, ◌<◌, true, false, []
 ghost use Rattle.zt_model.specs.Fabric.{after_hearing, altered_at, call_at, opened_at, said_at, sorted_by_face, with_place, with_waiting};
 ghost use Rattle.zt_model.specs.Lists.{nth};
 ghost use Rattle.zt_model.specs.Places.{Node};
+ghost use Rattle.zt_model.specs.Says.{said};
 ghost use Rattle.zt_protocol.specs.Plain.{plain_call};
 ghost use Rattle.zt_laws.specs.Order.{FabricIsInOrder};
 ghost use Rattle.zt_laws.specs.Sound.{opens_face, rows_after_call};
@@ -15,13 +16,14 @@ use crate::sorting::sort_by_face;
 use crate::state::FabricState;
 use std::alloc::Global;
 use zt_keys::{Key, Memory};
-use zt_protocol::{Call, Sent};
+use zt_protocol::{Call, Message, Sent};
 use zt_state::GatewayState;
 
-/// A gateway after a call, and what the call says as it is printed.
+/// A gateway after a call, and what the call says, as the gateway's faces hear it and as it is printed.
 #[derive(Drop)]
 pub(crate) struct Prepared<K: Key> {
     pub(crate) rows: GatewayState<K>,
+    pub(crate) said: Vec<(u32, Message<K>)>,
     pub(crate) printed: Vec<Sent<K>>,
 }
 
@@ -46,14 +48,17 @@ pub(crate) fn prepare<K: Key>(
     requires counted { gateway ≡ at + 1 }
     ensures rows { IfOk result (λ prepared. (node : Node K) → nth gateway s.old.gateways ≡ Some node
         → prepared.rows ≡ rows_after_call K.cmp K.matching (plain_call call.now) node.rows) }
+    ensures said { IfOk result (λ prepared. (node : Node K) → nth gateway s.old.gateways ≡ Some node
+        → prepared.said.items ≡ said K.cmp K.matching (plain_call call.now) node.rows) }
     ensures printed { IfOk result (λ prepared. prepared.printed.items
         ≡ said_at K.cmp K.matching s.old (call_at s.old gateway (plain_call call.now))) }
     ensures same { s.new ≡ s.old }
 {
     let ahead = s.prepare_at(alloc, at, call)?;
-    let printed = print_all(alloc, s.places(), gateway, ahead.said)?;
+    let printed = print_all(alloc, s.places(), gateway, ahead.said.as_slice())?;
     Ok(Prepared {
         rows: ahead.state,
+        said: ahead.said,
         printed,
     })
 }
@@ -78,7 +83,7 @@ pub(crate) fn carry_at<K: Key>(
     let prepared = prepare(alloc, s, at, gateway, call)?;
     let sent = sort_by_face(prepared.printed)?;
     s.turn_waiting(alloc, taken, sent.as_slice())?;
-    s.commit_at(alloc, at, prepared.rows, call);
+    s.commit_at(alloc, at, prepared.rows, call, &prepared.said);
     Ok(sent)
 }
 

@@ -2,29 +2,27 @@
 ghost use Rattle.std.specs.Prelude.{◌≡◌, IfOk, map};
 ghost use Rattle.zt_laws.proofs.Sorting.{printed};
 
-use crate::places::number_of_place;
-use crate::state::PlaceState;
 use std::alloc::Global;
 use zt_keys::{Key, Memory};
+use zt_places::Places;
 use zt_protocol::{Message, Sent};
 
-/// A gateway's messages as they are printed, in the order sent.
+/// Copies of a gateway's messages as they are printed, in the order sent. The only error is want of
+/// memory.
 pub(crate) fn print_all<K: Key>(
     alloc: Global,
-    places: &[PlaceState],
+    places: &Places,
     gateway: u32,
-    sends: Vec<(u32, Message<K>)>,
+    sends: &[(u32, Message<K>)],
 ) -> Result<Vec<Sent<K>>, Memory>
-    ensures { IfOk result (λ printed_. printed_.items ≡ map (printed places.now gateway) sends.items) }
+    ensures { IfOk result (λ printed_. printed_.items ≡ map (printed places.now gateway) sends.now) }
 {
     let mut printed = Vec::new(alloc);
-    let mut rest = sends.into_iter();
-    while let Some((face, message)) = rest.next() {
-        let number = number_of_place(places, gateway, face)?;
+    for (face, message) in sends {
         printed.push(Sent {
             gateway,
-            face: number,
-            message,
+            face: places.number(gateway, *face),
+            message: message.copy(alloc)?,
         })?;
     }
     Ok(printed)

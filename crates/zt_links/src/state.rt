@@ -1,9 +1,10 @@
 // What a fabric keeps: gateways, the places of their faces, links, and what waits on them.
-ghost use Rattle.std.specs.Prelude.{◌≡◌, ◌+◌, ◌-◌, ◌<◌, ◌++◌, [], ◌∷◌, false, true, None, Some, if◌then◌else◌, length, take, vec_len, IfOk, OnOk, OnErr};
+ghost use Rattle.std.specs.Prelude.{◌≡◌, ◌+◌, ◌-◌, ◌<◌, ◌≤◌, ◌&&◌, ◌++◌, [], ◌∷◌, false, true, None, Some, if◌then◌else◌, length, take, vec_len, IfOk, OnOk, OnErr};
 ghost use Rattle.std.specs.Option.{option_copied};
 ghost use Rattle.zt_model.specs.Fabric.{at_nth, empty_fabric, with_gateway, with_rows, with_waiting};
-ghost use Rattle.zt_model.specs.Linking.{with_taken};
-ghost use Rattle.zt_model.specs.Lists.{nth, without_id};
+ghost use Rattle.zt_model.specs.Linking.{is_end_of, with_taken};
+ghost use Rattle.zt_model.specs.Lists.{first_where, nth, without_id};
+ghost use Rattle.zt_places.specs.Found.{AreBelow};
 ghost use Rattle.zt_links.specs.Lines.{taken_by, without_last_link, without_last_place};
 ghost use Rattle.zt_queues.specs.Waiting.{first_waiting};
 ghost use Rattle.zt_region.specs.South.{plain_south as plain_south_of};
@@ -12,9 +13,11 @@ ghost use Rattle.zt_model.specs.Says.{said};
 ghost use Rattle.zt_protocol.specs.Plain.{plain_call};
 ghost use Rattle.zt_laws.specs.Sound.{rows_after_call};
 
+use crate::places::member_at;
 use std::alloc::Global;
 use std::marker::Model;
 use zt_keys::{Key, Memory};
+use zt_places::{LinkState, Links, PlaceState, Places};
 use zt_protocol::{Call, Message, Sent};
 use zt_queues::Queues;
 use zt_region::SouthConf;
@@ -55,63 +58,32 @@ impl<K: Key> NodeState<K> {
     }
 }
 
-/// Where a face is: its gateway, and its number there.
-#[derive(Drop)]
-pub(crate) struct PlaceState {
-    pub(crate) gateway: u32,
-    pub(crate) face: u32,
-}
-
-impl Model for PlaceState {
-    ghost use Rattle.zt_model.specs.Places.{Place};
-
-    ghost Value = { Place };
-
-    ghost view = { λ p. record { gateway = p.gateway; face = p.face } };
-}
-
-/// The two faces that a link joins, and whether it is open.
-#[derive(Drop)]
-pub(crate) struct LinkState {
-    pub(crate) one: u32,
-    pub(crate) two: u32,
-    pub(crate) is_open: bool,
-}
-
-impl Model for LinkState {
-    ghost use Rattle.zt_model.specs.Places.{Link};
-
-    ghost Value = { Link };
-
-    ghost view = { λ l. record { one = l.one; two = l.two; is_open = l.is_open } };
-}
-
 /// Gateways, the places of all faces, the links and what waits on them, each numbered from 1 in order
 /// of making.
 #[derive(Drop)]
 pub(crate) struct FabricState<K: Key> {
     pub(crate) gateways: Vec<NodeState<K>>,
-    pub(crate) places: Vec<PlaceState>,
-    pub(crate) links: Vec<LinkState>,
+    pub(crate) places: Places,
+    pub(crate) links: Links,
     // What waits at each place.
     pub(crate) queues: Queues<K>,
 }
 
 impl<K: Key> Model for FabricState<K> {
-    ghost use Rattle.std.specs.Prelude.{◌≡◌, length};
     ghost use Rattle.zt_model.specs.Places.{Fabric as FabricValue};
+    ghost use Rattle.zt_links.specs.Joints.{StandTogether};
     ghost use Rattle.zt_queues.specs.Waiting.{waiting_from};
 
     ghost Value = { FabricValue K };
 
     ghost view = { λ s. record {
       gateways = s.gateways.items;
-      faces = s.places.items;
-      links = s.links.items;
+      faces = s.places;
+      links = s.links;
       waiting = waiting_from 1 s.queues;
     } };
 
-    ghost invariant = { λ s. length s.queues ≡ length s.places.items };
+    ghost invariant = { λ s. StandTogether s.queues s.places s.links };
 }
 
 impl<K: Key> FabricState<K> {
@@ -121,8 +93,8 @@ impl<K: Key> FabricState<K> {
     {
         FabricState {
             gateways: Vec::new(alloc),
-            places: Vec::new(alloc),
-            links: Vec::new(alloc),
+            places: Places::new(alloc),
+            links: Links::new(alloc),
             queues: Queues::new(alloc),
         }
     }
@@ -135,10 +107,10 @@ impl<K: Key> FabricState<K> {
     }
 
     /// The places of the faces.
-    pub(crate) fn places(&self) -> &[PlaceState]
+    pub(crate) fn places(&self) -> &Places
         ensures { result.now ≡ self.now.faces }
     {
-        self.places.as_slice()
+        &self.places
     }
 
     /// The links.
@@ -146,6 +118,28 @@ impl<K: Key> FabricState<K> {
         ensures { result.now ≡ self.now.links }
     {
         self.links.as_slice()
+    }
+
+    /// The place of a face.
+    pub(crate) fn place_at(&self, face: u32) -> Option<&PlaceState>
+        ensures { option_copied result ≡ nth face self.now.faces }
+    {
+        member_at(self.places.as_slice(), face)
+    }
+
+    /// The link of a number.
+    pub(crate) fn link_at(&self, link: u32) -> Option<&LinkState>
+        ensures { option_copied result ≡ nth link self.now.links }
+    {
+        member_at(self.links.as_slice(), link)
+    }
+
+    /// The open link that a face ends.
+    pub(crate) fn open_link_of(&self, face: u32) -> Option<&LinkState>
+        ensures { option_copied result
+            ≡ first_where (λ link. link.is_open && is_end_of face link) self.now.links }
+    {
+        self.links.find_open(face)
     }
 
     /// The oldest message that waits, from a face that ends a link, for the other end.
@@ -179,13 +173,16 @@ impl<K: Key> FabricState<K> {
         at: usize,
         rows: GatewayState<K>,
         call: &Call<K>,
+        sends: &[(u32, Message<K>)],
     )
         requires within { at < length self.old.gateways }
         requires after { (node : Node K) → nth (at + 1) self.old.gateways ≡ Some node
             → rows ≡ rows_after_call K.cmp K.matching (plain_call call.now) node.rows }
+        requires said { (node : Node K) → nth (at + 1) self.old.gateways ≡ Some node
+            → sends.now ≡ said K.cmp K.matching (plain_call call.now) node.rows }
         ensures { self.new ≡ with_rows (at + 1) (λ _. rows) self.old }
     {
-        commit_in(alloc, &mut self.gateways, at, rows, call);
+        commit_in(alloc, &mut self.gateways, at, rows, call, sends);
     }
 
     /// A gateway's rows are replaced; answers the former ones.
@@ -215,6 +212,7 @@ impl<K: Key> FabricState<K> {
     ) -> Result<(), Memory>
         ensures ok { OnOk result (self.new
             ≡ record self.old { faces = self.old.faces ++ record { gateway = gateway; face = face } ∷ [] }) }
+        ensures free { OnOk result (AreBelow (length self.new.faces) self.new.links) }
         ensures back { OnOk result (without_last_place self.new ≡ self.old) }
         ensures err { OnErr result (self.new ≡ self.old) }
     {
@@ -235,6 +233,7 @@ impl<K: Key> FabricState<K> {
           faces = self.old.faces ++ record { gateway = gateway; face = face } ∷ [];
           waiting = self.old.waiting ++ (length self.old.faces + 1, []) ∷ [];
         }) }
+        ensures free { OnOk result (AreBelow (length self.new.faces) self.new.links) }
         ensures back { OnOk result (without_last_place self.new ≡ self.old) }
         ensures err { OnErr result (self.new ≡ self.old) }
     {
@@ -248,34 +247,34 @@ impl<K: Key> FabricState<K> {
         )
     }
 
-    /// The last place is taken away again, with what waits there.
+    /// The last place, which no link has yet, is taken away again, with what waits there.
     pub(crate) fn pop_place(&mut self)
+        requires { AreBelow (length self.old.faces) self.old.links }
         ensures { self.new ≡ without_last_place self.old }
     {
         pop_both(&mut self.places, &mut self.queues);
     }
 
-    /// An open link between two faces is put behind the others. After want of memory nothing is changed.
+    /// An open link between two faces, which come behind those of all others, is put behind these. After want
+    /// of memory nothing is changed.
     pub(crate) fn push_link(&mut self, one: u32, two: u32) -> Result<(), Memory>
+        requires below { AreBelow one self.old.links }
+        requires rising { one < two }
+        requires placed { two ≤ length self.old.faces }
         ensures ok { OnOk result (self.new ≡ record self.old {
           links = self.old.links ++ record { one = one; two = two; is_open = true } ∷ [];
         }) }
         ensures back { OnOk result (without_last_link self.new ≡ self.old) }
         ensures err { OnErr result (self.new ≡ self.old) }
     {
-        self.links.push(LinkState {
-            one,
-            two,
-            is_open: true,
-        })?;
-        Ok(())
+        self.links.push(one, two)
     }
 
     /// The last link is taken away again.
     pub(crate) fn pop_link(&mut self)
         ensures { self.new ≡ without_last_link self.old }
     {
-        let _ = self.links.pop();
+        self.links.pop();
     }
 
     /// A link is closed.
@@ -284,7 +283,7 @@ impl<K: Key> FabricState<K> {
         ensures { self.new
             ≡ record self.old { links = at_nth (at + 1) (λ l. record l { is_open = false }) self.old.links } }
     {
-        shut_link_at(&mut self.links, at);
+        self.links.shut(at);
     }
 
     /// The oldest message of a face's link is taken, and then messages wait, each where its face ends an
@@ -319,20 +318,20 @@ impl<K: Key> FabricState<K> {
 /// One more place, and what waits there: nothing yet. After want of memory nothing is changed.
 fn push_both<K: Key>(
     alloc: Global,
-    places: &mut Vec<PlaceState>,
+    places: &mut Places,
     queues: &mut Queues<K>,
     gateway: u32,
     face: u32,
     ends_link: bool,
 ) -> Result<(), Memory>
-    ensures places { OnOk result (places.new.items
-        ≡ places.old.items ++ record { gateway = gateway; face = face } ∷ []) }
+    ensures places { OnOk result (places.new
+        ≡ places.old ++ record { gateway = gateway; face = face } ∷ []) }
     ensures queues { OnOk result (queues.new ≡ queues.old ++ (if ends_link then Some [] else None) ∷ []) }
-    ensures places_err { OnErr result (places.new.items ≡ places.old.items) }
+    ensures places_err { OnErr result (places.new ≡ places.old) }
     ensures queues_err { OnErr result (queues.new ≡ queues.old) }
 {
     queues.push(alloc, ends_link)?;
-    match places.push(PlaceState { gateway, face }) {
+    match places.push(gateway, face) {
         Ok(()) => Ok(()),
         Err(_) => {
             queues.pop();
@@ -342,11 +341,11 @@ fn push_both<K: Key>(
 }
 
 /// The last place goes, with what waits there.
-fn pop_both<K: Key>(places: &mut Vec<PlaceState>, queues: &mut Queues<K>)
-    ensures places { places.new.items ≡ take (length places.old.items - 1) places.old.items }
+fn pop_both<K: Key>(places: &mut Places, queues: &mut Queues<K>)
+    ensures places { places.new ≡ take (length places.old - 1) places.old }
     ensures queues { queues.new ≡ take (length queues.old - 1) queues.old }
 {
-    let _ = places.pop();
+    places.pop();
     queues.pop();
 }
 
@@ -373,14 +372,17 @@ fn commit_in<K: Key>(
     at: usize,
     rows: GatewayState<K>,
     call: &Call<K>,
+    sends: &[(u32, Message<K>)],
 )
     requires within { at < vec_len gateways.old }
     requires after { (node : Node K) → nth (at + 1) gateways.old.items ≡ Some node
         → rows ≡ rows_after_call K.cmp K.matching (plain_call call.now) node.rows }
+    requires said { (node : Node K) → nth (at + 1) gateways.old.items ≡ Some node
+        → sends.now ≡ said K.cmp K.matching (plain_call call.now) node.rows }
     ensures { gateways.new.items ≡ at_nth (at + 1) (λ node. record node { rows = rows }) gateways.old.items }
 {
     let node = &mut gateways[at];
-    node.twin.commit(alloc, rows, call);
+    node.twin.commit(alloc, rows, call, sends);
 }
 
 fn put_rows_at<K: Key>(
@@ -394,12 +396,4 @@ fn put_rows_at<K: Key>(
 {
     let node = &mut gateways[at];
     node.twin.put(rows)
-}
-
-fn shut_link_at(links: &mut Vec<LinkState>, at: usize)
-    requires { at < vec_len links.old }
-    ensures { links.new.items ≡ at_nth (at + 1) (λ l. record l { is_open = false }) links.old.items }
-{
-    let link = &mut links[at];
-    link.is_open = false;
 }

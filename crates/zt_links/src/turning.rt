@@ -1,8 +1,9 @@
 // Calls that are carried out at a gateway for a line that makes two, and undone where the line fails.
-ghost use Rattle.std.specs.Prelude.{◌≡◌, IfOk, OnErr, OnOk};
+ghost use Rattle.std.specs.Prelude.{◌≡◌, length, IfOk, OnErr, OnOk};
 ghost use Rattle.zt_model.specs.Fabric.{call_at, said_at, with_rows};
 ghost use Rattle.zt_protocol.specs.Plain.{plain_call};
 ghost use Rattle.zt_laws.specs.Sound.{rows_after_call};
+ghost use Rattle.zt_places.specs.Found.{AreBelow};
 ghost use Rattle.zt_links.specs.Lines.{undone, without_last_place};
 
 use crate::making::prepare;
@@ -75,12 +76,14 @@ fn put_back<K: Key>(s: &mut FabricState<K>, gateway: u32, rows: GatewayState<K>)
     }
 }
 
-/// A face that was opened for a link is taken away again, and its gateway keeps what it kept before.
+/// A face that was opened for a link, which isn't made yet, is taken away again, and its gateway keeps what
+/// it kept before.
 pub(crate) fn undo_opening<K: Key>(
     s: &mut FabricState<K>,
     gateway: u32,
     former: Option<GatewayState<K>>,
 )
+    requires { AreBelow (length s.old.faces) s.old.links }
     ensures { s.new ≡ without_last_place (undone former gateway s.old) }
 {
     undo(s, gateway, former);

@@ -6,12 +6,13 @@ ghost use Rattle.zt_protocol.specs.Plain.{Unlink};
 ghost use Rattle.zt_links.specs.Lines.{for_others, parted, undone};
 ghost use Rattle.zt_laws.specs.Order.{FabricIsInOrder};
 
-use crate::places::{member_at, place_of_number};
+use crate::places::place_of_number;
 use crate::sorting::sort_by_face;
-use crate::state::{FabricState, LinkState};
+use crate::state::FabricState;
 use crate::turning::{Turned, hear_call, undo};
 use std::alloc::Global;
 use zt_keys::{Key, Memory};
+use zt_places::LinkState;
 use zt_protocol::{Call, Sent};
 
 /// A face is closed. After want of memory nothing is changed.
@@ -23,15 +24,15 @@ fn close_face<K: Key>(alloc: Global, s: &mut FabricState<K>, face: u32) -> Resul
     ensures back { IfOk result (λ turned. undone turned.former turned.gateway s.new ≡ s.old) }
     ensures err { OnErr result (s.new ≡ s.old) }
 {
-    let Some(place) = member_at(s.places(), face) else {
+    let Some(place) = s.place_at(face) else {
         return Ok(Turned {
             gateway: 0,
             former: None,
             printed: Vec::new(alloc),
         });
     };
-    let gateway = place.gateway;
-    let call = Call::CloseFace { face: place.face };
+    let gateway = place.gateway();
+    let call = Call::CloseFace { face: place.face() };
     hear_call(alloc, s, gateway, &call)
 }
 
@@ -165,7 +166,7 @@ fn close_both<K: Key>(
 fn ends_of(link: &LinkState) -> (u32, u32)
     ensures { result ≡ (link.now.one, link.now.two) }
 {
-    (link.one, link.two)
+    (link.one(), link.two())
 }
 
 /// Closes a link, and the faces at its ends. After want of memory nothing is changed.

@@ -2,6 +2,5 @@ mod Clashes
 mod Counted
 mod Greetings
 mod Loops
-mod Ordered
-mod Rows
+mod Origins
 mod Treeless

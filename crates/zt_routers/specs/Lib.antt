@@ -3,4 +3,4 @@ pub mod First
 pub mod Greeting
 pub mod Hiding
 pub mod KeysOf
-pub mod Shown
+pub mod LeftOut

@@ -1,46 +1,52 @@
 // Expressions and routers in order.
-ghost use Rattle.std.specs.Prelude.{◌≡◌, ◌&&◌, ◌≤◌, IfNone, IfOk, IfSome, OnOk, if◌then◌else◌, insert, length};
+ghost use Rattle.std.specs.Prelude.{◌≡◌, ◌≤◌, IfNone, IfOk, IfSome, OnOk, insert, length};
 ghost use Rattle.std.specs.Ordering.{nat_cmp};
 ghost use Rattle.zt_model.specs.Lists.{in_key_order, with_key};
-ghost use Rattle.zt_model.specs.Trees.{is_left_out, is_listed, left_out, routed_expressions};
+ghost use Rattle.zt_model.specs.Trees.{left_out, routed_expressions};
 ghost use Rattle.zt_protocol.specs.Plain.{trees_of};
-ghost use Rattle.zt_region.specs.Region.{region_eq, zid_eq};
+ghost use Rattle.zt_routed.specs.Routed.{rows_of};
+ghost use Rattle.zt_routers.specs.LeftOut.{exprs_left_out};
+ghost use Rattle.zt_tokens.specs.Gathered.{with_keys};
 
 use std::alloc::Global;
 use std::cmp::Ordering;
+use std::collections::BTreeSet;
 use zt_keys::{Key, Memory};
 use zt_protocol::TreeTable;
 use zt_region::{NodeId, Region, Zid};
-use zt_state::{GatewayState, RoutedToken};
+use zt_routed::{Origin, is_left_out};
+use zt_state::GatewayState;
 use zt_tokens::KeysInOrder;
 
-// Whether the table lists the router.
-fn is_listed(router: Zid, table: &TreeTable) -> bool
-    ensures { result ≡ is_listed router (trees_of table.now) }
+// Puts keys in their places among those in order. The only error is want of memory.
+fn add_keys<K: Key>(
+    alloc: Global,
+    keys: &BTreeSet<K>,
+    exprs: &mut KeysInOrder<K>,
+) -> Result<(), Memory>
+    ensures { OnOk result (exprs.new ≡ with_keys K.cmp keys.now.keys exprs.old) }
 {
-    table.routers.iter().any(|entry| router == entry.1)
+    for key in keys.iter().rev() {
+        exprs.insert(alloc, key)?;
+    }
+    Ok(())
 }
 
-// Whether the row is one of the region whose source the table doesn't list.
-fn is_left_out<K: Key>(row: &RoutedToken<K>, region: Region, table: &TreeTable) -> bool
-    ensures { result ≡ is_left_out K.cmp region (trees_of table.now) row.now }
-{
-    region == row.region() && !is_listed(row.source(), table)
-}
-
-// Puts the row's expression among those in order, if the table leaves the row out.
+// Puts the keys of an origin in their places among those in order, if the table leaves the origin out.
+// The only error is want of memory.
 fn add_left_out<K: Key>(
     alloc: Global,
-    row: &RoutedToken<K>,
     region: Region,
     table: &TreeTable,
+    origin: Origin,
+    keys: &BTreeSet<K>,
     exprs: &mut KeysInOrder<K>,
 ) -> Result<(), Memory>
     ensures { OnOk result (exprs.new
-        ≡ (if is_left_out K.cmp region (trees_of table.now) row.now then with_key K.cmp row.now.expr exprs.old else exprs.old)) }
+        ≡ with_keys K.cmp (exprs_left_out K.cmp region (trees_of table.now) (rows_of (origin, keys.now))) exprs.old) }
 {
-    if is_left_out(row, region, table) {
-        exprs.insert(alloc, row.expr())?;
+    if is_left_out(region, table, origin) {
+        add_keys(alloc, keys, exprs)?;
     }
     Ok(())
 }
@@ -56,29 +62,11 @@ pub fn left_out<K: Key>(
     ensures { IfOk result (λ exprs. exprs.items
         ≡ left_out K.cmp region (trees_of table.now) g.now) }
 {
-    let rows = g.routed();
     let mut exprs = KeysInOrder::new(alloc);
-    for place in (0..rows.len()).rev() {
-        add_left_out(alloc, &rows[place], region, table, &mut exprs)?;
+    for (origin, keys) in g.routed().sources().iter().rev() {
+        add_left_out(alloc, region, table, *origin, keys, &mut exprs)?;
     }
     exprs.into_vec(alloc)
-}
-
-// Puts the row's expression among those in order, if it is one of the source in the region.
-fn add_routed<K: Key>(
-    alloc: Global,
-    row: &RoutedToken<K>,
-    region: Region,
-    source: Zid,
-    exprs: &mut KeysInOrder<K>,
-) -> Result<(), Memory>
-    ensures { OnOk result (exprs.new
-        ≡ (if region_eq region row.now.region && zid_eq source row.now.source then with_key K.cmp row.now.expr exprs.old else exprs.old)) }
-{
-    if region == row.region() && source == row.source() {
-        exprs.insert(alloc, row.expr())?;
-    }
-    Ok(())
 }
 
 // The expressions of a source's rows in a region, in key order.
@@ -91,12 +79,7 @@ pub(crate) fn routed_expressions<K: Key>(
     ensures { IfOk result (λ exprs. exprs.items
         ≡ routed_expressions K.cmp g.now region source) }
 {
-    let rows = g.routed();
-    let mut exprs = KeysInOrder::new(alloc);
-    for place in (0..rows.len()).rev() {
-        add_routed(alloc, &rows[place], region, source, &mut exprs)?;
-    }
-    exprs.into_vec(alloc)
+    g.routed().expressions(alloc, region, source)
 }
 
 // The place of a router among routers in order of node id, unless its node id is there.

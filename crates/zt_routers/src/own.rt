@@ -1,35 +1,30 @@
 // What the gateway itself shows in router regions.
-ghost use Rattle.std.specs.Prelude.{◌≡◌, ◌++◌, [], ◌∷◌, IfOk, OnOk, filter, map};
+ghost use Rattle.std.specs.Prelude.{◌≡◌, ◌&&◌, ◌++◌, [], ◌∷◌, IfOk, OnOk, filter, map};
+ghost use Rattle.std.specs.List.Sorted.{IsStrictlySortedBy};
+ghost use Rattle.zt_region.specs.Region.{zid_eq};
+ghost use Rattle.zt_model.specs.Lists.{is_among};
 ghost use Rattle.zt_model.specs.Parts.{to_each};
 ghost use Rattle.zt_model.specs.Strategy.{is_router_hat, strategy_of};
-ghost use Rattle.zt_routers.specs.Hiding.{hidden_among, is_own_of};
-ghost use Rattle.zt_routers.specs.Shown.{IsShownAsSaid};
-ghost use Rattle.zt_model.specs.Trees.{hide_to, is_hidden, is_newly_shown, is_own_row, is_routed_row, row_at, router_regions, show_to};
+ghost use Rattle.zt_routed.specs.Routed.{rows_of};
+ghost use Rattle.zt_routers.specs.Hiding.{hidden_among};
+ghost use Rattle.zt_model.specs.Trees.{hide_to, is_hidden, is_newly_shown, is_own_row, router_regions, show_to};
 
 use crate::passing::{pass_to, unpass_to};
 use crate::tables::{children_in, node_in};
 use std::alloc::Global;
+use std::collections::BTreeSet;
 use zt_keys::{Key, Memory};
 use zt_protocol::Message;
-use zt_region::{Region, Zid};
-use zt_state::{FaceState, GatewayState, RoutedToken};
+use zt_region::Region;
+use zt_routed::Origin;
+use zt_state::{FaceState, GatewayState};
 use zt_tokens::{is_router_region, is_visible};
-
-// Whether the row is that of the source's token of the expression in the region.
-#[tactic(auto, using(crate::proofs::Rows::is_row_at))]
-fn is_row_at<K: Key>(row: &RoutedToken<K>, region: Region, source: Zid, expr: &K) -> bool
-    ensures { result ≡ is_routed_row K.cmp (row_at K.cmp region source expr.now) row.now }
-{
-    region == row.region() && source == row.source() && expr == row.expr()
-}
 
 // Whether the gateway shows the expression in the region.
 fn is_own_row<K: Key>(g: &GatewayState<K>, region: Region, expr: &K) -> bool
     ensures { result ≡ is_own_row K.cmp g.now region expr.now }
 {
-    g.routed()
-        .iter()
-        .any(|row| is_row_at(row, region, g.zid(), expr))
+    g.routed().contains(region, g.zid(), expr)
 }
 
 // Whether the region is newly shown a token of the region `source`.
@@ -51,30 +46,6 @@ fn is_hidden<K: Key>(g: &GatewayState<K>, source: Region, expr: &K, region: Regi
     is_router_region(g.mode(), region) && region != source && !is_visible(g, region, expr)
 }
 
-// Whether the region is newly shown the token, where that may be known already of the region that was
-// asked of last: faces of one region often stand together, and to find a row the gateway's rows are gone
-// through.
-fn is_shown_again<K: Key>(
-    g: &GatewayState<K>,
-    source: Region,
-    expr: &K,
-    region: Region,
-    last: &mut Option<(Region, bool)>,
-) -> bool
-    requires { IsShownAsSaid K.cmp g.now source expr.now last.old }
-    ensures answer { result ≡ is_newly_shown K.cmp g.now source expr.now region }
-    ensures last { IsShownAsSaid K.cmp g.now source expr.now last.new }
-{
-    if let Some((known, is_shown)) = *last {
-        if known == region {
-            return is_shown;
-        }
-    }
-    let is_shown = is_newly_shown(g, source, expr, region);
-    *last = Some((region, is_shown));
-    is_shown
-}
-
 // Adds what a face is told where the gateway shows the token.
 #[tactic(auto, unfolding(zt_model::specs::Trees::show_to))]
 fn show_to<K: Key>(
@@ -83,15 +54,12 @@ fn show_to<K: Key>(
     source: Region,
     expr: &K,
     f: &FaceState<K>,
-    last: &mut Option<(Region, bool)>,
     sends: &mut Vec<(u32, Message<K>)>,
 ) -> Result<(), Memory>
-    requires { IsShownAsSaid K.cmp g.now source expr.now last.old }
-    ensures sends { OnOk result (sends.new.items ≡ sends.old.items
+    ensures { OnOk result (sends.new.items ≡ sends.old.items
         ++ map (λ m. (f.now.number, m)) (show_to K.cmp g.now source expr.now f.now)) }
-    ensures last { IsShownAsSaid K.cmp g.now source expr.now last.new }
 {
-    if is_shown_again(g, source, expr, f.region(), last) {
+    if is_newly_shown(g, source, expr, f.region()) {
         let children = children_in(g, f.region());
         let node_id = node_in(alloc, g, f.region(), g.zid())?;
         pass_to(
@@ -124,9 +92,8 @@ pub fn show<K: Key>(
     if g.trees().is_empty() {
         return Ok(sends);
     }
-    let mut last = None;
     for f in g.faces() {
-        show_to(alloc, g, source, expr, f, &mut last, &mut sends)?;
+        show_to(alloc, g, source, expr, f, &mut sends)?;
     }
     Ok(sends)
 }
@@ -168,11 +135,39 @@ pub fn newly_shown<K: Key>(
     Ok(regions)
 }
 
-// Whether the row is the gateway's own, of the expression.
-fn is_own_of<K: Key>(g: &GatewayState<K>, expr: &K, row: &RoutedToken<K>) -> bool
-    ensures { result ≡ is_own_of K.cmp g.now.zid expr.now row.now }
+// Whether the origin is the gateway itself, in a region that can't see the expression any more, which is
+// among its keys there.
+fn is_hidden_at<K: Key>(
+    g: &GatewayState<K>,
+    source: Region,
+    expr: &K,
+    origin: Origin,
+    keys: &BTreeSet<K>,
+) -> bool
+    ensures { result ≡ (zid_eq origin.source g.now.zid
+        && (is_among K.cmp expr.now keys.now.keys && is_hidden K.cmp g.now source expr.now origin.region)) }
 {
-    row.source() == g.zid() && expr == row.expr()
+    origin.source == g.zid() && keys.contains(expr) && is_hidden(g, source, expr, origin.region)
+}
+
+// Adds the region of an origin, if the gateway has an own row of the expression there and the region can't
+// see it any more. The only error is want of memory.
+fn add_hidden<K: Key>(
+    g: &GatewayState<K>,
+    source: Region,
+    expr: &K,
+    origin: Origin,
+    keys: &BTreeSet<K>,
+    regions: &mut Vec<Region>,
+) -> Result<(), Memory>
+    requires { IsStrictlySortedBy K.cmp keys.now.keys }
+    ensures { OnOk result (regions.new.items ≡ regions.old.items
+        ++ hidden_among K.cmp g.now source expr.now (rows_of (origin, keys.now))) }
+{
+    if is_hidden_at(g, source, expr, origin, keys) {
+        regions.push(origin.region)?;
+    }
+    Ok(())
 }
 
 /// The router regions in which the gateway has an own row of an expression that they can't see any
@@ -187,10 +182,8 @@ pub fn hidden_regions<K: Key>(
         ≡ hidden_among K.cmp g.now source expr.now g.now.routed) }
 {
     let mut regions = Vec::new(alloc);
-    for row in g.routed() {
-        if is_own_of(g, expr, row) && is_hidden(g, source, expr, row.region()) {
-            regions.push(row.region())?;
-        }
+    for (origin, keys) in g.routed().sources() {
+        add_hidden(g, source, expr, *origin, keys, &mut regions)?;
     }
     Ok(regions)
 }

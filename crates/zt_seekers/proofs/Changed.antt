@@ -1,10 +1,11 @@
 -- Faces that change, open and go, beside what is looked up.
-use Rattle.std.proofs.Common.{◌≡◌, ℕ, ◌==◌, Bool, true, false, not, ◌&&◌, ◌||◌, if◌then◌else◌, List, [], ◌∷◌, ◌++◌, ap, filter, flat_map, map, refl, subst, sym, ◌∙◌}
+use Rattle.std.proofs.Common.{◌≡◌, ℕ, ◌+◌, ◌-◌, ◌==◌, Bool, true, false, not, ◌&&◌, ◌||◌, if◌then◌else◌, List, [], ◌∷◌, ◌++◌, ap, arith, filter, flat_map, map, refl, subst, sym, ◌∙◌}
 use Rattle.std.proofs.lemmas.List.{map-append}
 use Rattle.std.proofs.lemmas.List.Elements.{filter-append}
 use Rattle.std.specs.List.{AllByRecursion, list_any}
 use Rattle.std.specs.List.Sorted.{IsStrictlySortedBy}
 use Rattle.std.specs.Ordering.{nat_cmp}
+use Rattle.std.specs.declared.cmp.Ordering.{Ordering}
 use Rattle.zt_keys.specs.Test.{by_test}
 use Rattle.zt_keys.specs.declared.anchor.Anchor.{Anchor}
 use Rattle.zt_region.specs.Region.{is_north}
@@ -13,6 +14,7 @@ use Rattle.zt_interest_index.specs.Held.{indexed-none}
 use Rattle.zt_interest_index.specs.Holders.{IsIndexOf}
 use Rattle.zt_interest_index.specs.Holdings.{asks_from}
 use Rattle.zt_model.specs.Rows.{ById, Face, InterestRow}
+use Rattle.zt_model.specs.Visible.{keeps}
 use Rattle.zt_model.specs.Wants.{seeks}
 use Rattle.std.specs.FinMap.Entries.{put}
 use Rattle.std.proofs.lemmas.List.Folds.{list_any-append}
@@ -22,7 +24,9 @@ use Rattle.zt_interest_index.specs.Holdings.{is_of}
 use Rattle.zt_interest_index.specs.declared.bucket.Bucket.{Bucket}
 use Rattle.zt_model.specs.Hearing.{put_if}
 use Rattle.zt_model.specs.Routing.{asked_as, unheld}
-use Rattle.zt_seekers.specs.Seekers.{AreSeekers, IsOnlyOne, Leaves, Reseeks, Seeking, TokenRow, north_numbers, token_rows, token_rows_of}
+use Rattle.zt_seekers.specs.Seekers.{AreSeekers, IsOnlyOne, Leaves, Reseeks, Seeking, TokenRow, count_told, no_seekers, north_numbers, token_rows, token_rows_of}
+use Rattle.zt_seekers.specs.Told.{IsRetold, counted, is_kept}
+use Rattle.zt_seekers.proofs.Counted.{count-changed, count-gone, count-kept, count-more}
 use Rattle.zt_seekers.proofs.Held.{dropped, index_alike, kept, put_all}
 use Rattle.zt_seekers.proofs.Numbers.{chosen_in, chosen_sorted, in_tests, is_in, seeks_any, sorted_same}
 
@@ -65,43 +69,51 @@ module _ {K : Type 0} where
   rows_more [] f none = ap (λ (held : ById (InterestRow K)). token_rows_of f.number held ++ []) none
   rows_more (x ∷ xs) f none = ap (λ rows. token_rows x ++ rows) (rows_more xs f none)
 
-  module _ (anchored : Anchor → K → Option ℕ) where
-    pub seekers-none : AreSeekers anchored (record { north = []; index = [] }) []
-    seekers-none = record { north = refl; index = indexed-none anchored }
+  -- how many faces keep an expression, where the face of a number keeps what it was told
+  told_kept : (cmp : K → K → Ordering) (e : K) (n : ℕ) (change : Face K → Face K) → ((x : Face K) → (change x).told ≡ x.told) → (fs : List (Face K))
+      → count_told cmp (map (λ x. if n == x.number then change x else x) fs) e ≡ count_told cmp fs e
+  told_kept cmp e n change told fs = count-kept (λ (x : Face K). x.number) n (λ x. keeps cmp x e) change (λ x. ap (is_kept cmp e) (told x)) fs
 
-    -- a change that keeps the number, the region and what the face holds
-    pub seekers-quiet : (n : ℕ) (change : Face K → Face K) → ((x : Face K) → (change x).number ≡ x.number) → ((x : Face K) → (change x).region ≡ x.region) → ((x : Face K) → (change x).held ≡ x.held)
-        → (seeking : Seeking K) (fs : List (Face K)) → AreSeekers anchored seeking fs → AreSeekers anchored seeking (map (λ x. if n == x.number then change x else x) fs)
-    seekers-quiet n change number region held seeking fs are = record {
+  module _ (cmp : K → K → Ordering) (anchored : Anchor → K → Option ℕ) where
+    pub seekers-none : AreSeekers cmp anchored no_seekers []
+    seekers-none = record { north = refl; index = indexed-none anchored; told = λ e. refl }
+
+    -- a change that keeps the number, the region, what the face holds and what it was told
+    pub seekers-quiet : (n : ℕ) (change : Face K → Face K) → ((x : Face K) → (change x).number ≡ x.number) → ((x : Face K) → (change x).region ≡ x.region) → ((x : Face K) → (change x).held ≡ x.held) → ((x : Face K) → (change x).told ≡ x.told)
+        → (seeking : Seeking K) (fs : List (Face K)) → AreSeekers cmp anchored seeking fs → AreSeekers cmp anchored seeking (map (λ x. if n == x.number then change x else x) fs)
+    seekers-quiet n change number region held told seeking fs are = record {
       north = are.north ∙ sym (north_kept n change number region fs);
       index = subst (IsIndexOf anchored seeking.index) (sym (kept n change number held fs)) are.index;
+      told = λ e. are.told e ∙ sym (told_kept cmp e n change told fs);
     }
 
-    -- a face more that holds nothing yet
-    pub seekers-opened : (f : Face K) → f.held ≡ [] → (seeking : Seeking K) (fs : List (Face K)) → AreSeekers anchored seeking fs
-        → AreSeekers anchored (record seeking { north = seeking.north ++ north_numbers (f ∷ []) }) (fs ++ f ∷ [])
-    seekers-opened f none seeking fs are = record {
+    -- a face more that holds nothing and was told nothing yet
+    pub seekers-opened : (f : Face K) → f.held ≡ [] → f.told ≡ [] → (seeking : Seeking K) (fs : List (Face K)) → AreSeekers cmp anchored seeking fs
+        → AreSeekers cmp anchored (record seeking { north = seeking.north ++ north_numbers (f ∷ []) }) (fs ++ f ∷ [])
+    seekers-opened f none untold seeking fs are = record {
       north = ap (λ ns. ns ++ north_numbers (f ∷ [])) are.north ∙ sym (north_more fs f);
       index = subst (IsIndexOf anchored seeking.index) (sym (rows_more fs f none)) are.index;
+      told = λ e. are.told e ∙ sym (count-more (λ x. keeps cmp x e) fs f (ap (is_kept cmp e) untold));
     }
 
     -- the interest of an id goes
-    pub seekers-unheld : (f : Face K) (id : ℕ) (old new : Seeking K) → new.north ≡ old.north
+    pub seekers-unheld : (f : Face K) (id : ℕ) (old new : Seeking K) → new.north ≡ old.north → new.told ≡ old.told
         → ((fs : List (Face K)) → IsOnlyOne f fs → IsIndexOf anchored old.index (flat_map token_rows fs) → IsIndexOf anchored new.index (filter (λ row. not (is_of f.number id row)) (flat_map token_rows fs)))
-        → Reseeks anchored f (unheld id) old new
-    seekers-unheld f id old new same drops = record {
+        → Reseeks cmp anchored f (unheld id) old new
+    seekers-unheld f id old new same still drops = record {
       at = λ fs one are. record {
         north = same ∙ are.north ∙ sym (north_kept f.number (unheld id) (λ x. refl) (λ x. refl) fs);
         index = subst (IsIndexOf anchored new.index) (dropped f.number id (unheld id) (λ x. refl) (λ x. refl) fs) (drops fs one are.index);
+        told = λ e. ap (λ (told : List (K × ℕ)). counted cmp told e) still ∙ are.told e ∙ sym (told_kept cmp e f.number (unheld id) (λ x. refl) fs);
       };
     }
 
     -- an interest comes in place of the one of its id
-    pub seekers-held : (f : Face K) (id : ℕ) (i : InterestRow K) (pendings : List (ℕ × ℕ)) → is_future i.mode ≡ true → IsInOrder f.held → (old : Seeking K) (mid : List (Bucket × List (TokenRow K))) (new : Seeking K) → new.north ≡ old.north
+    pub seekers-held : (f : Face K) (id : ℕ) (i : InterestRow K) (pendings : List (ℕ × ℕ)) → is_future i.mode ≡ true → IsInOrder f.held → (old : Seeking K) (mid : List (Bucket × List (TokenRow K))) (new : Seeking K) → new.north ≡ old.north → new.told ≡ old.told
         → ((fs : List (Face K)) → IsOnlyOne f fs → IsIndexOf anchored old.index (flat_map token_rows fs) → IsIndexOf anchored mid (filter (λ row. not (is_of f.number id row)) (flat_map token_rows fs)))
         → ((held : List (TokenRow K)) → IsIndexOf anchored mid held → IsIndexOf anchored new.index (token_rows_of f.number ((id, i) ∷ []) ++ held))
-        → Reseeks anchored f (asked_as pendings id i) old new
-    seekers-held f id i pendings future sorted old mid new same drops puts =
+        → Reseeks cmp anchored f (asked_as pendings id i) old new
+    seekers-held f id i pendings future sorted old mid new same still drops puts =
         let change = asked_as pendings id i in
         let held : (x : Face K) → (change x).held ≡ put nat_cmp id i x.held = λ x. ap (λ b. put_if b id i x.held) future in
         record {
@@ -114,6 +126,7 @@ module _ {K : Type 0} where
                 ∙ ap (λ b. (b && list_any test (token_rows_of f.number ((id, i) ∷ []))) || list_any test (filter (λ row. not (is_of f.number id row)) (flat_map token_rows fs))) (sym one.found)
                 ∙ sym (put_all test f.number id i change (λ x. refl) held fs (ordered fs one.only)))
                 (puts (filter (λ row. not (is_of f.number id row)) (flat_map token_rows fs)) (drops fs one are.index));
+            told = λ e. ap (λ (told : List (K × ℕ)). counted cmp told e) still ∙ are.told e ∙ sym (told_kept cmp e f.number change (λ x. refl) fs);
           };
         }
       where
@@ -122,24 +135,42 @@ module _ {K : Type 0} where
         ordered (x ∷ xs) only = (λ t. subst (λ (y : Face K). IsInOrder y.held) (sym (only.0 t)) sorted, ordered xs only.1)
 
     -- an interest that asks for what is there now alone isn't held
-    pub seekers-unchanged : (f : Face K) (id : ℕ) (i : InterestRow K) (pendings : List (ℕ × ℕ)) → is_future i.mode ≡ false → (seeking : Seeking K) → Reseeks anchored f (asked_as pendings id i) seeking seeking
+    pub seekers-unchanged : (f : Face K) (id : ℕ) (i : InterestRow K) (pendings : List (ℕ × ℕ)) → is_future i.mode ≡ false → (seeking : Seeking K) → Reseeks cmp anchored f (asked_as pendings id i) seeking seeking
     seekers-unchanged f id i pendings never seeking = record {
-      at = λ fs one are. seekers-quiet f.number (asked_as pendings id i) (λ x. refl) (λ x. refl) (λ x. ap (λ b. put_if b id i x.held) never) seeking fs are;
+      at = λ fs one are. seekers-quiet f.number (asked_as pendings id i) (λ x. refl) (λ x. refl) (λ x. ap (λ b. put_if b id i x.held) never) (λ x. refl) seeking fs are;
     }
 
+    -- what the face was told changes, and nothing else that is looked up
+    pub seekers-retold : (f : Face K) (change : Face K → Face K) → ((x : Face K) → (change x).number ≡ x.number) → ((x : Face K) → (change x).region ≡ x.region) → ((x : Face K) → (change x).held ≡ x.held)
+        → (old new : Seeking K) → new.north ≡ old.north → new.index ≡ old.index → IsRetold cmp f.told (change f).told (counted cmp old.told) (counted cmp new.told) → Reseeks cmp anchored f change old new
+    seekers-retold f change number region held old new same still retold = record {
+      at = λ fs one are. record {
+        north = same ∙ are.north ∙ sym (north_kept f.number change number region fs);
+        index = rw still (subst (IsIndexOf anchored old.index) (sym (kept f.number change number held fs)) are.index);
+        told = λ e. after-change _ _ _ _ _ _ (retold.at e) (are.told e) (count-changed (λ (x : Face K). x.number) f.number (λ x. keeps cmp x e) f change fs one.alone);
+      };
+    }
+      where
+        after-change : (new old was now before after : ℕ) → new ≡ (old + after) - before → old ≡ was → now + before ≡ was + after → new ≡ now
+        after-change new old was now before after a b c = omega (arith, a, b, c)
+
     -- the face goes
-    pub seekers-closed : (f : Face K) (old new : Seeking K) → new.north ≡ filter (λ m. not (f.number == m)) old.north
+    pub seekers-closed : (f : Face K) (old new : Seeking K) → new.north ≡ filter (λ m. not (f.number == m)) old.north → IsRetold cmp f.told [] (counted cmp old.told) (counted cmp new.told)
         → ((fs : List (Face K)) → IsOnlyOne f fs → IsIndexOf anchored old.index (flat_map token_rows fs) → IsIndexOf anchored new.index (flat_map token_rows (filter (λ x. not (f.number == x.number)) fs)))
-        → Leaves anchored f old new
-    seekers-closed f old new less drops = record {
+        → Leaves cmp anchored f old new
+    seekers-closed f old new less retold drops = record {
       at = λ fs one are. record {
         north = less ∙ ap (filter (λ m. not (f.number == m))) are.north ∙ north_less f.number fs;
         index = drops fs one are.index;
+        told = λ e. after-close _ _ _ _ _ (retold.at e) (are.told e) (count-gone (λ (x : Face K). x.number) f.number (λ x. keeps cmp x e) f fs one.alone);
       };
     }
+      where
+        after-close : (new old was now before : ℕ) → new ≡ (old + 0) - before → old ≡ was → now + before ≡ was → new ≡ now
+        after-close new old was now before a b c = omega (arith, a, b, c)
 
     -- those found are the faces that seek the expression
-    pub seekers-found : (matching : K → K → Bool) (e : K) (seeking : Seeking K) (found : List ℕ) (fs : List (Face K)) → IsStrictlySortedBy nat_cmp (map (λ f. f.number) fs) → AreSeekers anchored seeking fs
+    pub seekers-found : (matching : K → K → Bool) (e : K) (seeking : Seeking K) (found : List ℕ) (fs : List (Face K)) → IsStrictlySortedBy nat_cmp (map (λ f. f.number) fs) → AreSeekers cmp anchored seeking fs
         → IsStrictlySortedBy nat_cmp found → ((n : ℕ) → is_in n found ≡ (list_any (λ m. n == m) seeking.north || list_any (asks_from matching e n) (flat_map token_rows fs)))
         → found ≡ map (λ f. f.number) (filter (λ f. seeks matching f e) fs)
     seekers-found matching e seeking found fs rising are sorted among =

@@ -1,3 +1,7 @@
+mod Copied
 pub mod Held
 pub mod Numbers
 pub mod Changed
+mod Counted
+mod Heard
+mod Retold

@@ -1,18 +1,26 @@
 // The faces that may be told of tokens.
 ghost use Rattle.std.specs.Prelude.{◌≡◌, ◌++◌, ◌∷◌, ◌==◌, ℕ, [], filter, map, not, IfOk, IfSome, List, OnErr, OnOk};
+ghost use Rattle.std.specs.List.{flat_map};
 ghost use Rattle.std.specs.List.Sorted.{IsStrictlySortedBy};
 ghost use Rattle.std.specs.Ordering.{nat_cmp};
+ghost use Rattle.zt_interest_index.specs.Holders.{HasAllIn};
+ghost use Rattle.zt_model.specs.Hearing.{heard};
 ghost use Rattle.zt_model.specs.Routing.{asked_as, unheld};
 ghost use Rattle.zt_model.specs.Rows.{Face};
 ghost use Rattle.zt_model.specs.Wants.{seeks};
-ghost use Rattle.zt_seekers.specs.Seekers.{AreSeekers, Leaves, Reseeks, north_numbers};
+ghost use Rattle.zt_seekers.specs.Seekers.{AreSeekers, Leaves, Reseeks, no_seekers, north_numbers};
+ghost use Rattle.zt_seekers.specs.Seekers.{token_rows};
+ghost use Rattle.zt_seekers.specs.Told.{counted};
 
+use crate::hearing::{hear_message, untell_all};
 use crate::interests::{drop_all, drop_held, put_held};
+use crate::told::ToldCounts;
 use std::alloc::Global;
 use std::marker::Model;
 use zt_face::{FaceState, RemoteInterest};
 use zt_interest_index::InterestIndex;
 use zt_keys::{Key, Memory};
+use zt_protocol::Message;
 use zt_region::Region;
 
 // A number goes.
@@ -22,12 +30,13 @@ fn drop_number(numbers: &mut Vec<u32>, number: u32)
     numbers.retain(|n| number != *n);
 }
 
-/// The numbers of the faces to the north, in order, and an index of the interests in tokens that faces
-/// hold.
+/// The numbers of the faces to the north, in order, an index of the interests in tokens that faces
+/// hold, and how many faces were told each expression.
 #[derive(Drop)]
 pub struct Seekers<K: Key> {
     north: Vec<u32>,
     index: InterestIndex<K>,
+    told: ToldCounts<K>,
 }
 
 impl<K: Key> Model for Seekers<K> {
@@ -35,21 +44,22 @@ impl<K: Key> Model for Seekers<K> {
 
     ghost Value = { Seeking K };
 
-    ghost view = { λ s. record { north = s.north.items; index = s.index } };
+    ghost view = { λ s. record { north = s.north.items; index = s.index; told = s.told } };
 }
 
 impl<K: Key> Seekers<K> {
     /// Of no faces.
     pub fn new(alloc: Global) -> Self
-        ensures { result ≡ record { north = []; index = [] } }
+        ensures { result ≡ no_seekers }
     {
         Seekers {
             north: Vec::new(alloc),
             index: InterestIndex::new(alloc),
+            told: ToldCounts::new(alloc),
         }
     }
 
-    /// A face more that holds nothing yet, whose number is above those of the others. The only error is
+    /// A face more that holds nothing and was told nothing yet, whose number is above those of the others. The only error is
     /// want of memory, and then they stay.
     pub fn open(&mut self, f: &FaceState<K>) -> Result<(), Memory>
         ensures ok { OnOk result (self.new
@@ -64,10 +74,11 @@ impl<K: Key> Seekers<K> {
 
     /// The face goes.
     pub fn close(&mut self, f: &FaceState<K>)
-        ensures { Leaves K.anchored f.now self.old self.new }
+        ensures { Leaves K.cmp K.anchored f.now self.old self.new }
     {
         drop_number(&mut self.north, f.number());
         drop_all(&mut self.index, f);
+        untell_all(&mut self.told, f);
     }
 
     /// The face comes to hold an interest, if it asks for what comes later. The only error is want of
@@ -80,7 +91,7 @@ impl<K: Key> Seekers<K> {
         interest: &RemoteInterest<K>,
     ) -> Result<(), Memory>
         ensures { OnOk result ((pendings : List (ℕ × ℕ)) →
-            Reseeks K.anchored f.now (asked_as pendings id interest.now) self.old self.new) }
+            Reseeks K.cmp K.anchored f.now (asked_as pendings id interest.now) self.old self.new) }
     {
         if interest.mode().is_future() {
             drop_held(&mut self.index, f, id);
@@ -91,9 +102,29 @@ impl<K: Key> Seekers<K> {
 
     /// The face holds the interest of the id no more.
     pub fn unhold(&mut self, f: &FaceState<K>, id: u32)
-        ensures { Reseeks K.anchored f.now (unheld id) self.old self.new }
+        ensures { Reseeks K.cmp K.anchored f.now (unheld id) self.old self.new }
     {
         drop_held(&mut self.index, f, id);
+    }
+
+    /// The face hears a message. The only error is want of memory, or of numbers.
+    pub fn hear(
+        &mut self,
+        alloc: Global,
+        f: &FaceState<K>,
+        message: &Message<K>,
+    ) -> Result<(), Memory>
+        ensures { OnOk result ((moment : ℕ) → Reseeks K.cmp K.anchored f.now
+            (heard K.cmp moment message.now) self.old self.new) }
+    {
+        hear_message(alloc, &mut self.told, f, message)
+    }
+
+    /// How many faces keep the expression. A look-up.
+    pub fn told_count(&self, expr: &K) -> u32
+        ensures { result ≡ counted K.cmp self.now.told expr.now }
+    {
+        self.told.count(expr)
     }
 
     /// The numbers of the faces to the north, in order.
@@ -109,11 +140,21 @@ impl<K: Key> Seekers<K> {
     pub fn find(&self, alloc: Global, expr: &K) -> Result<Option<Vec<u32>>, Memory>
         ensures { IfOk result (λ found. IfSome found (λ numbers. (fs : List (Face K)) →
             IsStrictlySortedBy nat_cmp (map (λ f. f.number) fs) →
-            AreSeekers K.anchored self.now fs →
+            AreSeekers K.cmp K.anchored self.now fs →
             numbers.items
             ≡ map (λ f. f.number) (filter (λ f. seeks K.matching f expr.now) fs))) }
     {
         self.index.holders_and(alloc, expr, &self.north)
+    }
+
+    /// The interests in tokens of the expression, or in all tokens where it is `None`, each under its
+    /// face and id, and maybe interests in other expressions among them. A look-up, which takes no
+    /// memory.
+    pub fn interests_in(&self, about: &Option<K>) -> &[((u32, u32), Option<K>)]
+        ensures { (fs : List (Face K)) → AreSeekers K.cmp K.anchored self.now fs →
+            HasAllIn about.now (flat_map token_rows fs) result.now }
+    {
+        self.index.interests_in(about)
     }
 
     /// Equal look-ups. The only error is want of memory.
@@ -123,6 +164,7 @@ impl<K: Key> Seekers<K> {
         Ok(Seekers {
             north: self.north.to_vec(alloc)?,
             index: self.index.copy(alloc)?,
+            told: self.told.copy(alloc)?,
         })
     }
 }

@@ -13,7 +13,7 @@ use Rattle.zt_model.specs.Rows.{ById, Face, RoutedRow}
 use Rattle.zt_model.specs.Telling.{registered, unregistered}
 use Rattle.zt_model.specs.Visible.{rows_of_face}
 use Rattle.zt_keys.specs.declared.anchor.Anchor.{Anchor}
-use Rattle.zt_seekers.specs.Seekers.{AreSeekers, Seeking}
+use Rattle.zt_seekers.specs.Seekers.{AreSeekers, Seeking, no_seekers}
 use Rattle.zt_seekers.proofs.Changed.{seekers-none, seekers-quiet}
 use Rattle.zt_state.specs.Indexed.{HasLiveInOrder, IsIndexed, KeepsDeclared, KeepsLive, routed_live}
 use Rattle.zt_state.specs.Rising.{AreUpTo, IsRising}
@@ -46,27 +46,27 @@ module _ {K : Type 0} where
   pushed-order (g ∷ fs) f all here = (all.0, pushed-order fs f all.1 here)
 
 module _ {K : Type 0} (cmp : K → K → Ordering) (anchored : Anchor → K → Option ℕ) (zid : Zid) (made : ℕ) where
-  pub indexed-none : IsIndexed cmp anchored zid made [] [] [] (record { north = []; index = [] })
-  indexed-none = record { rising = tt; up_to = tt; in_order = tt; counts = counts-none cmp; seekers = seekers-none anchored }
+  pub indexed-none : IsIndexed cmp anchored zid made [] [] [] no_seekers
+  indexed-none = record { rising = tt; up_to = tt; in_order = tt; counts = counts-none cmp; seekers = seekers-none cmp anchored }
 
   module _ (routed : List (RoutedRow K)) (fs : List (Face K)) (old : List (K × List (Region × ℕ))) (seeking : Seeking K) (was : IsIndexed cmp anchored zid made routed fs old seeking) where
     -- other faces, with what is counted of them
     pub indexed-faces : (gs : List (Face K)) (new : List (K × List (Region × ℕ))) (found : Seeking K) → IsRising (λ f. f.number) gs → AreUpTo (λ f. f.number) made gs → AllByRecursion HasLiveInOrder gs
-        → Recounts cmp (flat_map rows_of_face fs) (flat_map rows_of_face gs) old new → AreSeekers anchored found gs → IsIndexed cmp anchored zid made routed gs new found
+        → Recounts cmp (flat_map rows_of_face fs) (flat_map rows_of_face gs) old new → AreSeekers cmp anchored found gs → IsIndexed cmp anchored zid made routed gs new found
     indexed-faces gs new found rising up in_order change seekers = record { rising = rising; up_to = up; in_order = in_order; counts = change.at (routed_live zid routed) was.counts; seekers = seekers }
 
     -- a change of what one face declares
-    pub indexed-changed : (n : ℕ) (change : Face K → Face K) (new : List (K × List (Region × ℕ))) → ((f : Face K) → (change f).number ≡ f.number) → ((f : Face K) → (change f).region ≡ f.region) → ((f : Face K) → (change f).held ≡ f.held)
+    pub indexed-changed : (n : ℕ) (change : Face K → Face K) (new : List (K × List (Region × ℕ))) → ((f : Face K) → (change f).number ≡ f.number) → ((f : Face K) → (change f).region ≡ f.region) → ((f : Face K) → (change f).held ≡ f.held) → ((f : Face K) → (change f).told ≡ f.told)
         → ((f : Face K) → HasLiveInOrder f → HasLiveInOrder (change f))
         → Recounts cmp (flat_map rows_of_face fs) (flat_map rows_of_face (map (λ f. if n == f.number then change f else f) fs)) old new
         → IsIndexed cmp anchored zid made routed (map (λ f. if n == f.number then change f else f) fs) new seeking
-    indexed-changed n change new kept region held order counted =
+    indexed-changed n change new kept region held told order counted =
         indexed-faces (map (λ f. if n == f.number then change f else f) fs) new seeking
         (changed-rising (λ (f : Face K). f.number) n change kept fs was.rising) (changed-up-to (λ (f : Face K). f.number) n made change kept fs was.up_to) (all-changed n change order fs was.in_order) counted
-        (seekers-quiet anchored n change kept region held seeking fs was.seekers)
+        (seekers-quiet cmp anchored n change kept region held told seeking fs was.seekers)
 
-    -- a change of what one face holds
-    pub indexed-held : (n : ℕ) (change : Face K → Face K) (found : Seeking K) → ((f : Face K) → KeepsDeclared f (change f)) → AreSeekers anchored found (map (λ f. if n == f.number then change f else f) fs)
+    -- a change of what one face holds or was told
+    pub indexed-held : (n : ℕ) (change : Face K → Face K) (found : Seeking K) → ((f : Face K) → KeepsDeclared f (change f)) → AreSeekers cmp anchored found (map (λ f. if n == f.number then change f else f) fs)
         → IsIndexed cmp anchored zid made routed (map (λ f. if n == f.number then change f else f) fs) old found
     indexed-held n change found kept seekers = record {
       rising = changed-rising (λ (f : Face K). f.number) n change (λ f. (kept f).number) fs was.rising;
@@ -79,10 +79,10 @@ module _ {K : Type 0} (cmp : K → K → Ordering) (anchored : Anchor → K → 
     pub indexed-quiet : (n : ℕ) (change : Face K → Face K) → ((f : Face K) → KeepsLive f (change f)) → IsIndexed cmp anchored zid made routed (map (λ f. if n == f.number then change f else f) fs) old seeking
     indexed-quiet n change kept =
         indexed-held n change seeking (λ f. record { number = (kept f).number; region = (kept f).region; live = (kept f).live })
-        (seekers-quiet anchored n change (λ f. (kept f).number) (λ f. (kept f).region) (λ f. (kept f).held) seeking fs was.seekers)
+        (seekers-quiet cmp anchored n change (λ f. (kept f).number) (λ f. (kept f).region) (λ f. (kept f).held) (λ f. (kept f).told) seeking fs was.seekers)
 
     -- a face less
-    pub indexed-closed : (n : ℕ) (new : List (K × List (Region × ℕ))) (found : Seeking K) → Recounts cmp (flat_map rows_of_face fs) (flat_map rows_of_face (others n fs)) old new → AreSeekers anchored found (others n fs)
+    pub indexed-closed : (n : ℕ) (new : List (K × List (Region × ℕ))) (found : Seeking K) → Recounts cmp (flat_map rows_of_face fs) (flat_map rows_of_face (others n fs)) old new → AreSeekers cmp anchored found (others n fs)
         → IsIndexed cmp anchored zid made routed (others n fs) new found
     indexed-closed n new found counted seekers =
         indexed-faces (others n fs) new found
@@ -91,7 +91,7 @@ module _ {K : Type 0} (cmp : K → K → Ordering) (anchored : Anchor → K → 
         (filtered-all (λ (f : Face K). f.number) HasLiveInOrder (λ f. not (n == f.number)) fs was.in_order) counted seekers
 
     -- a face more, that declares nothing yet
-    pub indexed-opened : (f : Face K) (found : Seeking K) → f.number ≡ made + 1 → f.live ≡ [] → AreSeekers anchored found (fs ++ f ∷ []) → IsIndexed cmp anchored zid (made + 1) routed (fs ++ f ∷ []) old found
+    pub indexed-opened : (f : Face K) (found : Seeking K) → f.number ≡ made + 1 → f.live ≡ [] → AreSeekers cmp anchored found (fs ++ f ∷ []) → IsIndexed cmp anchored zid (made + 1) routed (fs ++ f ∷ []) old found
     indexed-opened f found next none seekers = record {
       rising = pushed-rising (λ (x : Face K). x.number) made fs f was.up_to (omega (arith, next)) was.rising;
       up_to = pushed-up-to (λ (x : Face K). x.number) made fs f was.up_to next;

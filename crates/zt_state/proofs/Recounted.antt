@@ -221,39 +221,6 @@ module _ {K : Type 0} (zid : Zid) where
       ap (map (λ (row : RoutedRow K). (row.region, row.expr))) (filter-append (λ (row : RoutedRow K). not (zid_eq row.source zid)) xs ys)
       ∙ map-append (λ (row : RoutedRow K). (row.region, row.expr)) (filter (λ row. not (zid_eq row.source zid)) xs) (filter (λ row. not (zid_eq row.source zid)) ys)
 
-  -- one row more
-  pub live-more : (rows : List (RoutedRow K)) (i : ℕ) (row : RoutedRow K) → i < length rows → row ≡ get_or rows i row → routed_live zid (take (i + 1) rows) ≡ routed_live zid (take i rows) ++ routed_live zid (row ∷ [])
-  live-more rows i row lt is =
-      ap (routed_live zid) (take_more rows i row lt) ∙ routed-both (take i rows) (get_or rows i row ∷ []) ∙ ap (λ r. routed_live zid (take i rows) ++ routed_live zid (r ∷ [])) (sym is)
-
-  pub kept-more : (stays : RoutedRow K → Bool) (rows : List (RoutedRow K)) (i : ℕ) (row : RoutedRow K) → i < length rows → row ≡ get_or rows i row
-      → routed_live zid (filter stays (take (i + 1) rows)) ≡ routed_live zid (filter stays (take i rows)) ++ routed_live zid (filter stays (row ∷ []))
-  kept-more stays rows i row lt is =
-      ap (λ rs. routed_live zid (filter stays rs)) (take_more rows i row lt)
-      ∙ ap (routed_live zid) (filter-append stays (take i rows) (get_or rows i row ∷ []))
-      ∙ routed-both (filter stays (take i rows)) (filter stays (get_or rows i row ∷ []))
-      ∙ ap (λ r. routed_live zid (filter stays (take i rows)) ++ routed_live zid (filter stays (r ∷ []))) (sym is)
-
-  module _ (cmp : K → K → Ordering) where
-    pub inserted-same : (rows : List (RoutedRow K)) (place : ℕ) (row : RoutedRow K) → SameRows cmp (routed_live zid (insert rows place row)) (routed_live zid (row ∷ []) ++ routed_live zid rows)
-    inserted-same rows place row = record {
-      at = λ e region.
-          let front = take place rows in
-          let back = drop place rows in
-          let one = routed_live zid (row ∷ []) in
-          let split = ap (routed_live zid) (sym (take-append-drop place rows)) ∙ routed-both front back in
-          let whole = routed-both front (row ∷ back) in
-          let next = routed-both (row ∷ []) back in
-          let a = count-both cmp e region (routed_live zid front) (routed_live zid (row ∷ back)) in
-          let b = count-both cmp e region one (routed_live zid back) in
-          let c = count-both cmp e region one (routed_live zid rows) in
-          let d = count-both cmp e region (routed_live zid front) (routed_live zid back) in
-          let all = ap (count_by (is_row_at cmp e region)) whole in
-          let more = ap (count_by (is_row_at cmp e region)) next in
-          let was = ap (count_by (is_row_at cmp e region)) split in
-          omega (arith, a, b, c, d, all, more, was);
-    }
-
 -- ---- what is found, and what is counted in place of it
 pub all-found : {A : Type 0} (P : A → Type 0) (p : A → Bool) (xs : List A) (x : A) → AllByRecursion P xs → first_where p xs ≡ Some x → P x
 all-found P p [] x all is = cc

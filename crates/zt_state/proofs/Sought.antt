@@ -6,6 +6,7 @@ use Rattle.std.proofs.lemmas.Option.{same_Some}
 use Rattle.std.specs.List.{AllByRecursion, list_any}
 use Rattle.std.specs.List.Sorted.{IsStrictlySortedBy}
 use Rattle.std.specs.Ordering.{nat_cmp}
+use Rattle.std.specs.declared.cmp.Ordering.{Ordering}
 use Rattle.std.specs.declared.cmp.Ordering.TheVariants.{Less}
 use Rattle.zt_keys.specs.Test.{by_test}
 use Rattle.zt_keys.specs.declared.anchor.Anchor.{Anchor}
@@ -49,19 +50,34 @@ module _ {K : Type 0} where
       (λ _. same_Some _ _ (rw t at is), all-weaker (λ (y : Face K). (n == y.number) ≡ false) (λ (y : Face K). (n == y.number) ≡ true → y ≡ f) (λ y apart tied. cc) xs none))
       (λ t. (λ tied. cc, only-found n f xs rising.1 (rw t at is)))
 
+  none-passed : (n : ℕ) (fs : List (Face K)) → AllByRecursion (λ x. (n == x.number) ≡ false) fs → filter (λ x. n == x.number) fs ≡ []
+  none-passed n [] none = refl
+  none-passed n (x ∷ xs) none = let apart = none.0 in rw apart (none-passed n xs none.1)
+
+  alone-found : (n : ℕ) (f : Face K) (fs : List (Face K)) → IsRising (λ x. x.number) fs → first_where (λ x. n == x.number) fs ≡ Some f → filter (λ x. n == x.number) fs ≡ f ∷ []
+  alone-found n f [] rising is = cc
+  alone-found n f (x ∷ xs) rising is =
+      by_test (n == x.number)
+      (λ t.
+      let none = subst (λ (m : ℕ). AllByRecursion (λ (y : Face K). (m == y.number) ≡ false) xs) (sym (eqb-true n x.number t)) (none-above (λ (y : Face K). y.number) x.number xs rising.0) in
+      let here : x ≡ f = same_Some _ _ (rw t at is) in
+      rw t (λ i. here i ∷ none-passed n xs none i))
+      (λ t. rw t (alone-found n f xs rising.1 (rw t at is)))
+
   only-one : (n : ℕ) (f : Face K) (fs : List (Face K)) → IsRising (λ x. x.number) fs → first_where (λ x. n == x.number) fs ≡ Some f → IsOnlyOne f fs
   only-one n f fs rising is =
       let same = number-found n f fs is in
       record {
         found = subst (λ (m : ℕ). list_any (λ (x : Face K). m == x.number) fs ≡ true) same (any-found n f fs is);
         only = subst (λ (m : ℕ). AllByRecursion (λ (x : Face K). (m == x.number) ≡ true → x ≡ f) fs) same (only-found n f fs rising is);
+        alone = subst (λ (m : ℕ). filter (λ (x : Face K). m == x.number) fs ≡ f ∷ []) same (alone-found n f fs rising is);
       }
 
-  module _ (anchored : Anchor → K → Option ℕ) (n : ℕ) (f : Face K) (fs : List (Face K)) (rising : IsRising (λ x. x.number) fs) (is : first_where (λ x. n == x.number) fs ≡ Some f) (old new : Seeking K) (are : AreSeekers anchored old fs) where
-    pub sought-changed : (change : Face K → Face K) → Reseeks anchored f change old new → AreSeekers anchored new (map (λ x. if n == x.number then change x else x) fs)
+  module _ (cmp : K → K → Ordering) (anchored : Anchor → K → Option ℕ) (n : ℕ) (f : Face K) (fs : List (Face K)) (rising : IsRising (λ x. x.number) fs) (is : first_where (λ x. n == x.number) fs ≡ Some f) (old new : Seeking K) (are : AreSeekers cmp anchored old fs) where
+    pub sought-changed : (change : Face K → Face K) → Reseeks cmp anchored f change old new → AreSeekers cmp anchored new (map (λ x. if n == x.number then change x else x) fs)
     sought-changed change changes =
-        subst (λ (m : ℕ). AreSeekers anchored new (map (λ (x : Face K). if m == x.number then change x else x) fs)) (sym (number-found n f fs is)) (changes.at fs (only-one n f fs rising is) are)
+        subst (λ (m : ℕ). AreSeekers cmp anchored new (map (λ (x : Face K). if m == x.number then change x else x) fs)) (sym (number-found n f fs is)) (changes.at fs (only-one n f fs rising is) are)
 
-    pub sought-closed : Leaves anchored f old new → AreSeekers anchored new (filter (λ x. not (n == x.number)) fs)
+    pub sought-closed : Leaves cmp anchored f old new → AreSeekers cmp anchored new (filter (λ x. not (n == x.number)) fs)
     sought-closed leaves =
-        subst (λ (m : ℕ). AreSeekers anchored new (filter (λ (x : Face K). not (m == x.number)) fs)) (sym (number-found n f fs is)) (leaves.at fs (only-one n f fs rising is) are)
+        subst (λ (m : ℕ). AreSeekers cmp anchored new (filter (λ (x : Face K). not (m == x.number)) fs)) (sym (number-found n f fs is)) (leaves.at fs (only-one n f fs rising is) are)

@@ -5,7 +5,8 @@
 --                                                 counts are those of the live tokens, and the faces that may be told of
 --                                                 tokens are found
 --     KeepsDeclared f g                           the face keeps its number, its region and its tokens
---     KeepsLive f g                               the face keeps its number, its region, its tokens and its interests
+--     KeepsLive f g                               the face keeps its number, its region, its tokens, its interests and
+--                                                 what it was told
 use Rattle.std.specs.Prelude.{◌≡◌, ℕ, true, not, List, ◌++◌, Option, map, filter}
 use Rattle.std.specs.FinMap.Entries.{is_sorted}
 use Rattle.std.specs.List.{AllByRecursion, flat_map}
@@ -32,7 +33,7 @@ pub record IsIndexed {K : Type 0} (cmp : K → K → Ordering) (anchored : Ancho
   pub up_to : AreUpTo (λ f. f.number) made faces
   pub in_order : AllByRecursion HasLiveInOrder faces
   pub counts : AreCountsOf cmp live (flat_map rows_of_face faces ++ routed_live zid routed)
-  pub seekers : AreSeekers anchored seeking faces
+  pub seekers : AreSeekers cmp anchored seeking faces
 
 pub record KeepsDeclared {K : Type 0} (f g : Face K) : Type 0 where
   pub number : g.number ≡ f.number
@@ -44,3 +45,4 @@ pub record KeepsLive {K : Type 0} (f g : Face K) : Type 0 where
   pub region : g.region ≡ f.region
   pub live : g.live ≡ f.live
   pub held : g.held ≡ f.held
+  pub told : g.told ≡ f.told

@@ -1,18 +1,18 @@
--- Changes of a face that keep its number, its region, its tokens and its interests.
+-- Changes of a face that keep its number, its region and its tokens.
 use Rattle.std.specs.Prelude.{ℕ, refl}
 use Rattle.std.specs.declared.cmp.Ordering.{Ordering}
 use Rattle.zt_protocol.specs.declared.messages.Message.{Message}
 use Rattle.zt_protocol.specs.declared.messages.Message.TheVariants.{DeclareToken, UndeclareToken, DeclareFinal, Interest, InterestFinal, DeclareSubscriber, DeclareQueryable}
 use Rattle.zt_model.specs.Hearing.{heard}
 use Rattle.zt_model.specs.Rows.{Face}
-use Rattle.zt_state.specs.Indexed.{KeepsLive}
+use Rattle.zt_state.specs.Indexed.{KeepsDeclared}
 
--- no message changes what a face declares or holds
-pub heard-keeps : {K : Type 0} (cmp : K → K → Ordering) (now : ℕ) (m : Message K) (f : Face K) → KeepsLive f (heard cmp now m f)
-heard-keeps cmp now (DeclareToken id e interest node) f = record { number = refl; region = refl; live = refl; held = refl }
-heard-keeps cmp now (UndeclareToken id e node) f = record { number = refl; region = refl; live = refl; held = refl }
-heard-keeps cmp now (DeclareFinal interest) f = record { number = refl; region = refl; live = refl; held = refl }
-heard-keeps cmp now (Interest id mode options e) f = record { number = refl; region = refl; live = refl; held = refl }
-heard-keeps cmp now (InterestFinal id) f = record { number = refl; region = refl; live = refl; held = refl }
-heard-keeps cmp now (DeclareSubscriber id e interest) f = record { number = refl; region = refl; live = refl; held = refl }
-heard-keeps cmp now (DeclareQueryable id e info interest) f = record { number = refl; region = refl; live = refl; held = refl }
+-- no message changes what a face declares
+pub heard-keeps : {K : Type 0} (cmp : K → K → Ordering) (now : ℕ) (m : Message K) (f : Face K) → KeepsDeclared f (heard cmp now m f)
+heard-keeps cmp now (DeclareToken id e interest node) f = record { number = refl; region = refl; live = refl }
+heard-keeps cmp now (UndeclareToken id e node) f = record { number = refl; region = refl; live = refl }
+heard-keeps cmp now (DeclareFinal interest) f = record { number = refl; region = refl; live = refl }
+heard-keeps cmp now (Interest id mode options e) f = record { number = refl; region = refl; live = refl }
+heard-keeps cmp now (InterestFinal id) f = record { number = refl; region = refl; live = refl }
+heard-keeps cmp now (DeclareSubscriber id e interest) f = record { number = refl; region = refl; live = refl }
+heard-keeps cmp now (DeclareQueryable id e info interest) f = record { number = refl; region = refl; live = refl }

@@ -46,6 +46,8 @@ impl<K: Key> FaceChange<K> for Unhold {
 
     ghost keeps_number = { λ _ _. refl };
 
+    ghost keeps_next = { λ _ _. refl };
+
     fn change(&self, f: &mut FaceState<K>) {
         f.unhold(self.0);
     }
@@ -61,10 +63,10 @@ fn ask_in<K: Key>(
     interest: &RemoteInterest<K>,
     pendings: &[(u32, u32)],
 ) -> Result<(), Memory>
-    requires { AreSeekers K.anchored seekers.old faces.old }
+    requires { AreSeekers K.cmp K.anchored seekers.old faces.old }
     ensures faces { OnOk result (faces.new ≡ map (λ f. if face == f.number
         then asked_as pendings.now id interest.now f else f) faces.old) }
-    ensures seekers { OnOk result (AreSeekers K.anchored seekers.new faces.new) }
+    ensures seekers { OnOk result (AreSeekers K.cmp K.anchored seekers.new faces.new) }
 {
     let Some(f) = faces.find(face) else {
         return Ok(());
@@ -80,9 +82,9 @@ fn ask_in<K: Key>(
 
 // The face of the number holds an interest no more.
 fn unhold_in<K: Key>(faces: &mut Faces<K>, seekers: &mut Seekers<K>, face: u32, id: InterestId)
-    requires { AreSeekers K.anchored seekers.old faces.old }
+    requires { AreSeekers K.cmp K.anchored seekers.old faces.old }
     ensures faces { faces.new ≡ map (λ f. if face == f.number then unheld id f else f) faces.old }
-    ensures seekers { AreSeekers K.anchored seekers.new faces.new }
+    ensures seekers { AreSeekers K.cmp K.anchored seekers.new faces.new }
 {
     let Some(f) = faces.find(face) else {
         return;

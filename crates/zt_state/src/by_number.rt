@@ -43,20 +43,27 @@ fn change_at<K: Key, C: FaceChange<K>>(faces: &mut Vec<FaceState<K>>, place: usi
     change.change(&mut faces[place]);
 }
 
-// Changes the face at a place. The only error is want of memory, and then no face is left.
+// Changes the face at a place, whose next id may be higher then. The only error is want of memory,
+// and then no face is left.
 fn add_at<K: Key, C: FaceAddition<K>>(
     alloc: Global,
     faces: &mut Vec<FaceState<K>>,
+    highest_next: &mut u32,
     place: usize,
     addition: &C,
 ) -> Result<(), Memory>
-    requires { place < length faces.old.items }
+    requires place { place < length faces.old.items }
+    requires up_to { AreUpTo (λ f. f.next) highest_next.old faces.old.items }
     ensures ok { OnOk result ((f : Face K) → faces.new.items
         ≡ set faces.old.items place (C.added addition.now (get_or faces.old.items place f))) }
+    ensures up_to { AreUpTo (λ f. f.next) highest_next.new faces.new.items }
     ensures err { OnErr result (faces.new.items ≡ []) }
 {
     match addition.add(alloc, &mut faces[place]) {
-        Ok(()) => Ok(()),
+        Ok(()) => {
+            *highest_next = (*highest_next).max(faces[place].next());
+            Ok(())
+        }
         Err(error) => {
             faces.clear();
             Err(error)
@@ -75,20 +82,24 @@ fn change_in<K: Key, C: FaceChange<K>>(faces: &mut Vec<FaceState<K>>, number: u3
     }
 }
 
-// Changes the face of a number. The only error is want of memory, and then no face is left.
+// Changes the face of a number, whose next id may be higher then. The only error is want of memory,
+// and then no face is left.
 fn add_in<K: Key, C: FaceAddition<K>>(
     alloc: Global,
     faces: &mut Vec<FaceState<K>>,
+    highest_next: &mut u32,
     number: u32,
     addition: &C,
 ) -> Result<(), Memory>
-    requires { IsRising (λ f. f.number) faces.old.items }
+    requires rising { IsRising (λ f. f.number) faces.old.items }
+    requires up_to { AreUpTo (λ f. f.next) highest_next.old faces.old.items }
     ensures ok { OnOk result (faces.new.items
         ≡ map (λ f. if number == f.number then C.added addition.now f else f) faces.old.items) }
+    ensures up_to { AreUpTo (λ f. f.next) highest_next.new faces.new.items }
     ensures err { OnErr result (faces.new.items ≡ []) }
 {
     match place_of(faces.as_slice(), number) {
-        Some(place) => add_at(alloc, faces, place, addition),
+        Some(place) => add_at(alloc, faces, highest_next, place, addition),
         None => Ok(()),
     }
 }
@@ -107,18 +118,21 @@ fn remove_in<K: Key>(faces: &mut Vec<FaceState<K>>, number: u32)
 #[derive(Drop)]
 pub struct Faces<K: Key> {
     faces: Vec<FaceState<K>>,
+    // No face's next id is above it. It stays when faces go.
+    highest_next: u32,
 }
 
 impl<K: Key> Model for Faces<K> {
     ghost use Rattle.std.specs.Prelude.{List};
     ghost use Rattle.zt_model.specs.Rows.{Face};
-    ghost use Rattle.zt_state.specs.Rising.{IsRising};
+    ghost use Rattle.zt_state.specs.Rising.{AreUpTo, IsRising};
 
     ghost Value = { List (Face K) };
 
     ghost view = { λ a. a.faces.items };
 
-    ghost invariant = { λ a. IsRising (λ f. f.number) a.faces.items };
+    ghost invariant = { λ a. IsRising (λ f. f.number) a.faces.items
+        × AreUpTo (λ f. f.next) a.highest_next a.faces.items };
 }
 
 impl<K: Key> Faces<K> {
@@ -128,7 +142,15 @@ impl<K: Key> Faces<K> {
     {
         Faces {
             faces: Vec::new(alloc),
+            highest_next: 0,
         }
+    }
+
+    /// A number that no face's next id is above.
+    pub fn highest_next(&self) -> u32
+        ensures { AreUpTo (λ f. f.next) result self.now }
+    {
+        self.highest_next
     }
 
     /// The faces, in order of number.
@@ -165,7 +187,13 @@ impl<K: Key> Faces<K> {
             ≡ map (λ f. if number == f.number then C.added addition.now f else f) self.old) }
         ensures err { OnErr result (self.new ≡ []) }
     {
-        add_in(alloc, &mut self.faces, number, addition)
+        add_in(
+            alloc,
+            &mut self.faces,
+            &mut self.highest_next,
+            number,
+            addition,
+        )
     }
 
     /// A face more, whose number is the next above `made`. The only error is want of memory, and then the
@@ -176,7 +204,9 @@ impl<K: Key> Faces<K> {
         ensures ok { OnOk result (self.new ≡ self.old ++ face ∷ []) }
         ensures err { OnErr result (self.new ≡ self.old) }
     {
+        let next = face.next();
         self.faces.push(face)?;
+        self.highest_next = self.highest_next.max(next);
         Ok(())
     }
 
@@ -193,6 +223,7 @@ impl<K: Key> Faces<K> {
     {
         Ok(Faces {
             faces: copy_all(alloc, self.faces.as_slice())?,
+            highest_next: self.highest_next,
         })
     }
 }

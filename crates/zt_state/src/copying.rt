@@ -1,19 +1,13 @@
 // Copies of what a gateway keeps.
 ghost use Rattle.std.specs.Prelude.{◌≡◌, IfOk};
 
-use crate::gateway::{GatewayState, KeptTable, RoutedToken};
+use crate::gateway::{GatewayState, KeptTable};
 use std::alloc::Global;
 use zt_face::{Duplicate, copy_all, copy_keys};
 use zt_keys::{Key, Memory};
 use zt_region::Admission;
 
 impl Duplicate for KeptTable {
-    fn duplicate(&self, alloc: Global) -> Result<Self, Memory> {
-        self.copy(alloc)
-    }
-}
-
-impl<K: Key> Duplicate for RoutedToken<K> {
     fn duplicate(&self, alloc: Global) -> Result<Self, Memory> {
         self.copy(alloc)
     }
@@ -42,7 +36,7 @@ impl<K: Key> GatewayState<K> {
             moment: self.moment,
             made: self.made,
             trees: copy_all(alloc, self.trees.as_slice())?,
-            routed: copy_all(alloc, self.routed.as_slice())?,
+            routed: self.routed.copy(alloc)?,
             dictionary: copy_keys(alloc, self.dictionary.as_slice())?,
             faces: self.faces.copy(alloc)?,
             live: self.live.copy(alloc)?,

@@ -21,6 +21,8 @@ impl<K: Key> FaceChange<K> for EndPending {
 
     ghost keeps_number = { λ _ _. refl };
 
+    ghost keeps_next = { λ _ _. refl };
+
     fn change(&self, f: &mut FaceState<K>) {
         f.end_pending(self.0);
     }
@@ -29,7 +31,7 @@ impl<K: Key> FaceChange<K> for EndPending {
 impl<K: Key> QuietChange<K> for EndPending {
     ghost use Rattle.std.specs.Prelude.{refl};
 
-    ghost keeps_live = { λ _ _. record { number = refl; region = refl; live = refl; held = refl } };
+    ghost keeps_live = { λ _ _. record { number = refl; region = refl; live = refl; held = refl; told = refl } };
 }
 
 #[derive(Drop)]
@@ -43,6 +45,8 @@ impl<K: Key> FaceChange<K> for FinaliseInitial {
 
     ghost keeps_number = { λ _ _. refl };
 
+    ghost keeps_next = { λ _ _. refl };
+
     fn change(&self, f: &mut FaceState<K>) {
         f.finalise_initial(self.0);
     }
@@ -51,7 +55,7 @@ impl<K: Key> FaceChange<K> for FinaliseInitial {
 impl<K: Key> QuietChange<K> for FinaliseInitial {
     ghost use Rattle.std.specs.Prelude.{refl};
 
-    ghost keeps_live = { λ _ _. record { number = refl; region = refl; live = refl; held = refl } };
+    ghost keeps_live = { λ _ _. record { number = refl; region = refl; live = refl; held = refl; told = refl } };
 }
 
 #[derive(Drop)]
@@ -65,6 +69,8 @@ impl<K: Key> FaceChange<K> for DropAsks {
 
     ghost keeps_number = { λ _ _. refl };
 
+    ghost keeps_next = { λ _ _. refl };
+
     fn change(&self, f: &mut FaceState<K>) {
         f.drop_asks();
     }
@@ -73,7 +79,7 @@ impl<K: Key> FaceChange<K> for DropAsks {
 impl<K: Key> QuietChange<K> for DropAsks {
     ghost use Rattle.std.specs.Prelude.{refl};
 
-    ghost keeps_live = { λ _ _. record { number = refl; region = refl; live = refl; held = refl } };
+    ghost keeps_live = { λ _ _. record { number = refl; region = refl; live = refl; held = refl; told = refl } };
 }
 
 #[tactic(auto, unfolding(zt_model::specs::Parts::with_face))]

@@ -1,14 +1,17 @@
 // A gateway with its faces.
-ghost use Rattle.std.specs.Prelude.{◌≡◌, [], filter, map, IfOk, IfSome};
+ghost use Rattle.std.specs.Prelude.{◌≡◌, [], filter, length, map, IfOk, IfSome};
+ghost use Rattle.std.specs.List.{flat_map};
 ghost use Rattle.std.specs.Option.{option_copied};
 ghost use Rattle.zt_model.specs.Fabric.{new_rows};
 ghost use Rattle.zt_model.specs.Parts.{find_face};
-ghost use Rattle.zt_model.specs.Visible.{live_rows};
+ghost use Rattle.zt_model.specs.Visible.{keeps, live_rows};
 ghost use Rattle.zt_model.specs.Wants.{seeks};
 ghost use Rattle.zt_indexes.specs.Rows.{AreCountsOf};
+ghost use Rattle.zt_interest_index.specs.Holders.{HasAllIn};
+ghost use Rattle.zt_seekers.specs.Seekers.{token_rows};
 ghost use Rattle.zt_region.specs.Region.{is_north};
 ghost use Rattle.zt_protocol.specs.Plain.{trees_of};
-ghost use Rattle.zt_state.specs.Rising.{IsRising};
+ghost use Rattle.zt_state.specs.Rising.{AreUpTo, IsRising};
 
 use crate::by_number::Faces;
 use std::alloc::Global;
@@ -18,69 +21,8 @@ use zt_indexes::LiveCounts;
 use zt_keys::{Key, Memory};
 use zt_protocol::TreeTable;
 use zt_region::{Admission, Region, WhatAmI, Zid};
+use zt_routed::RoutedTokens;
 use zt_seekers::Seekers;
-
-/// A token of a router region, under the router that it comes from; the gateway's own rows stand under
-/// its own number.
-#[derive(Drop)]
-pub struct RoutedToken<K: Key> {
-    region: Region,
-    source: Zid,
-    expr: K,
-}
-
-impl<K: Key> Model for RoutedToken<K> {
-    ghost use Rattle.zt_model.specs.Rows.{RoutedRow};
-
-    ghost Value = { RoutedRow K };
-
-    ghost view = { λ r. record { region = r.region; source = r.source; expr = r.expr } };
-}
-
-impl<K: Key> RoutedToken<K> {
-    /// A token of a region and a source.
-    pub fn new(region: Region, source: Zid, expr: K) -> Self
-        ensures { result ≡ record { region = region; source = source; expr = expr } }
-    {
-        RoutedToken {
-            region,
-            source,
-            expr,
-        }
-    }
-
-    /// The router region.
-    pub fn region(&self) -> Region
-        ensures { result ≡ self.now.region }
-    {
-        self.region
-    }
-
-    /// The router that declares the token.
-    pub fn source(&self) -> Zid
-        ensures { result ≡ self.now.source }
-    {
-        self.source
-    }
-
-    /// The token's expression.
-    pub fn expr(&self) -> &K
-        ensures { result.now ≡ self.now.expr }
-    {
-        &self.expr
-    }
-
-    /// An equal row. The only error is want of memory.
-    pub fn copy(&self, alloc: Global) -> Result<Self, Memory>
-        ensures { IfOk result (λ copy. copy ≡ self.now) }
-    {
-        Ok(RoutedToken {
-            region: self.region,
-            source: self.source,
-            expr: self.expr.copy(alloc)?,
-        })
-    }
-}
 
 /// The trees of a router region as they were handed in.
 #[derive(Drop)]
@@ -134,7 +76,7 @@ pub struct GatewayState<K: Key> {
     pub(crate) moment: u64,
     pub(crate) made: u32,
     pub(crate) trees: Vec<(Region, KeptTable)>,
-    pub(crate) routed: Vec<RoutedToken<K>>,
+    pub(crate) routed: RoutedTokens<K>,
     pub(crate) dictionary: Vec<K>,
     pub(crate) faces: Faces<K>,
     pub(crate) live: LiveCounts<K>,
@@ -156,12 +98,12 @@ impl<K: Key> Model for GatewayState<K> {
       moment = g.moment;
       made = g.made;
       trees = g.trees.items;
-      routed = g.routed.items;
+      routed = g.routed;
       dictionary = g.dictionary.items;
       faces = g.faces;
     } };
 
-    ghost invariant = { λ g. IsIndexed K.cmp K.anchored g.zid g.made g.routed.items g.faces g.live g.seekers };
+    ghost invariant = { λ g. IsIndexed K.cmp K.anchored g.zid g.made g.routed g.faces g.live g.seekers };
 }
 
 impl<K: Key> GatewayState<K> {
@@ -185,7 +127,7 @@ impl<K: Key> GatewayState<K> {
             moment: 0,
             made: 0,
             trees: Vec::new(alloc),
-            routed: Vec::new(alloc),
+            routed: RoutedTokens::new(alloc),
             dictionary: Vec::new(alloc),
             faces: Faces::new(alloc),
             live: LiveCounts::new(alloc),
@@ -242,6 +184,13 @@ impl<K: Key> GatewayState<K> {
         self.made
     }
 
+    /// A number that no open face's next id is above. It never falls while a face is open.
+    pub fn highest_next(&self) -> u32
+        ensures { AreUpTo (λ f. f.next) result self.now.faces }
+    {
+        self.faces.highest_next()
+    }
+
     /// The tables that were handed in, by region.
     pub fn trees(&self) -> &[(Region, KeptTable)]
         ensures { result.now ≡ self.now.trees }
@@ -250,7 +199,7 @@ impl<K: Key> GatewayState<K> {
     }
 
     /// The tokens of the router regions.
-    pub fn routed(&self) -> &[RoutedToken<K>]
+    pub fn routed(&self) -> &RoutedTokens<K>
         ensures { result.now ≡ self.now.routed }
     {
         &self.routed
@@ -287,6 +236,23 @@ impl<K: Key> GatewayState<K> {
             ≡ map (λ f. f.number) (filter (λ f. seeks K.matching f expr.now) self.now.faces))) }
     {
         self.seekers.find(alloc, expr)
+    }
+
+    /// How many faces were told the expression and not told that it is gone. A look-up.
+    pub fn told_count(&self, expr: &K) -> u32
+        ensures { result ≡ length (filter (λ f. keeps K.cmp f expr.now) self.now.faces) }
+    {
+        self.seekers.told_count(expr)
+    }
+
+    /// The interests in tokens of the expression, or in all tokens where it is `None`, each under its
+    /// face and id, and maybe interests in other expressions among them. A look-up, which takes no
+    /// memory.
+    pub fn interests_in(&self, about: &Option<K>) -> &[((u32, u32), Option<K>)]
+        ensures rising { IsRising (λ f. f.number) self.now.faces }
+        ensures all { HasAllIn about.now (flat_map token_rows self.now.faces) result.now }
+    {
+        self.seekers.interests_in(about)
     }
 
     /// The open face of this number. A search by halves.

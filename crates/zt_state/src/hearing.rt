@@ -1,14 +1,17 @@
 // What faces hear: what a message changes at the face that it is sent to.
-ghost use Rattle.std.specs.Prelude.{◌≡◌, ◌∷◌, [], OnOk};
+ghost use Rattle.std.specs.Prelude.{◌≡◌, ◌==◌, ◌∷◌, [], if◌then◌else◌, map, OnOk};
 ghost use Rattle.zt_model.specs.Hearing.{heard, rows_heard};
 ghost use Rattle.zt_model.specs.Parts.{with_face};
+ghost use Rattle.zt_seekers.specs.Seekers.{AreSeekers};
 
+use crate::by_number::Faces;
 use crate::gateway::GatewayState;
-use crate::walk::{FaceAddition, QuietAddition};
+use crate::walk::{FaceAddition, empty};
 use std::alloc::Global;
 use zt_face::FaceState;
 use zt_keys::{Key, Memory};
 use zt_protocol::Message;
+use zt_seekers::Seekers;
 
 // A message that is sent to a face at a moment.
 #[derive(Drop)]
@@ -30,10 +33,25 @@ impl<'a, K: Key> FaceAddition<K> for Hears<'a, K> {
     }
 }
 
-impl<'a, K: Key> QuietAddition<K> for Hears<'a, K> {
-    ghost use Rattle.zt_state.specs.Keeps.{heard-keeps};
-
-    ghost keeps_live = { λ c f. heard-keeps K.cmp c.moment c.message.now f };
+// The face of the number is sent a message. The only error is want of memory, or of ids.
+fn hear_in<K: Key>(
+    alloc: Global,
+    faces: &mut Faces<K>,
+    seekers: &mut Seekers<K>,
+    face: u32,
+    moment: u64,
+    message: &Message<K>,
+) -> Result<(), Memory>
+    requires { AreSeekers K.cmp K.anchored seekers.old faces.old }
+    ensures faces { OnOk result (faces.new ≡ map (λ f. if face == f.number
+        then heard K.cmp moment message.now f else f) faces.old) }
+    ensures seekers { OnOk result (AreSeekers K.cmp K.anchored seekers.new faces.new) }
+{
+    let Some(f) = faces.find(face) else {
+        return Ok(());
+    };
+    seekers.hear(alloc, f, message)?;
+    faces.add(alloc, face, &Hears { moment, message })
 }
 
 impl<K: Key> GatewayState<K> {
@@ -43,11 +61,26 @@ impl<K: Key> GatewayState<K> {
         ensures { OnOk result (self.new
             ≡ with_face face (heard K.cmp self.old.moment message.now) self.old) }
     {
-        let hears = Hears {
-            moment: self.moment,
+        match hear_in(
+            alloc,
+            &mut self.faces,
+            &mut self.seekers,
+            face,
+            self.moment,
             message,
-        };
-        self.add_to_face(alloc, face, &hears)
+        ) {
+            Ok(()) => Ok(()),
+            Err(error) => {
+                empty(
+                    alloc,
+                    &mut self.faces,
+                    &mut self.routed,
+                    &mut self.live,
+                    &mut self.seekers,
+                );
+                Err(error)
+            }
+        }
     }
 
     /// A face hears a message that it is sent. The only error is want of memory, or of ids.

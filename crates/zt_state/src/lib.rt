@@ -1,5 +1,5 @@
 //! What a gateway keeps, in memory: its settings, its faces with their rows, and the rows of its
-//! router regions, in plain lists. Contracts see them as the values of the definitions.
+//! router regions. Contracts see them as the values of the definitions.
 #![tactic(auto)]
 
 mod asking;
@@ -15,7 +15,7 @@ mod routed;
 mod rows;
 mod walk;
 
-pub use gateway::{GatewayState, KeptTable, RoutedToken};
+pub use gateway::{GatewayState, KeptTable};
 pub use zt_face::{
     AskState, FaceState, LocalTokens, PendingInterest, RemoteInterest, RowsById, is_among,
 };

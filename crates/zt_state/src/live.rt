@@ -55,6 +55,8 @@ impl<K: Key> FaceChange<K> for Unregisters {
 
     ghost keeps_number = { λ _ _. refl };
 
+    ghost keeps_next = { λ _ _. refl };
+
     fn change(&self, f: &mut FaceState<K>) {
         f.unregister(self.0);
     }
@@ -141,11 +143,11 @@ fn close_in<K: Key>(
     seekers: &mut Seekers<K>,
     face: u32,
 )
-    requires { AreSeekers K.anchored seekers.old faces.old }
+    requires { AreSeekers K.cmp K.anchored seekers.old faces.old }
     ensures faces { faces.new ≡ filter (λ f. not (face == f.number)) faces.old }
     ensures counts { Recounts K.cmp (flat_map rows_of_face faces.old)
         (flat_map rows_of_face faces.new) live.old live.new }
-    ensures seekers { AreSeekers K.anchored seekers.new faces.new }
+    ensures seekers { AreSeekers K.cmp K.anchored seekers.new faces.new }
 {
     let Some(f) = faces.find(face) else {
         return;

@@ -90,7 +90,7 @@ impl<'a, K: Key> FaceAddition<K> for SetsEntities<'a, K> {
 impl<'a, K: Key> QuietAddition<K> for SetsEntities<'a, K> {
     ghost use Rattle.std.specs.Prelude.{refl};
 
-    ghost keeps_live = { λ _ _. record { number = refl; region = refl; live = refl; held = refl } };
+    ghost keeps_live = { λ _ _. record { number = refl; region = refl; live = refl; held = refl; told = refl } };
 }
 
 impl<K: Key> GatewayState<K> {

@@ -14,7 +14,7 @@ use zt_keys::{Key, Memory};
 use zt_region::{Bound, Region, WhatAmI, Zid};
 use zt_seekers::Seekers;
 
-// A face opens that holds nothing yet, under a number above `made`. The only error is want of memory.
+// A face opens that holds nothing and was told nothing yet, under a number above `made`. The only error is want of memory.
 fn open_in<K: Key>(
     faces: &mut Faces<K>,
     seekers: &mut Seekers<K>,
@@ -24,9 +24,10 @@ fn open_in<K: Key>(
     requires up_to { AreUpTo (λ f. f.number) made faces.old }
     requires above { made < face.number }
     requires holds { face.held ≡ [] }
-    requires seekers { AreSeekers K.anchored seekers.old faces.old }
+    requires told { face.told ≡ [] }
+    requires seekers { AreSeekers K.cmp K.anchored seekers.old faces.old }
     ensures faces { OnOk result (faces.new ≡ faces.old ++ face ∷ []) }
-    ensures seekers { OnOk result (AreSeekers K.anchored seekers.new faces.new) }
+    ensures seekers { OnOk result (AreSeekers K.cmp K.anchored seekers.new faces.new) }
 {
     seekers.open(&face)?;
     faces.push(face, made)
@@ -49,6 +50,7 @@ impl<K: Key> GatewayState<K> {
         requires next { face.number ≡ self.old.made + 1 }
         requires declares { face.live ≡ [] }
         requires holds { face.held ≡ [] }
+        requires told { face.told ≡ [] }
         ensures { OnOk result (self.new ≡ record self.old {
           made = self.old.made + 1;
           faces = self.old.faces ++ face ∷ [];

@@ -3,3 +3,4 @@ pub mod Gathering
 pub mod Answers
 pub mod Chosen
 pub mod Unsought
+mod Unheard

@@ -1,10 +1,13 @@
 // Faces hear that tokens are gone.
-ghost use Rattle.std.specs.Prelude.{◌≡◌, ◌++◌, IfOk, OnOk, None, false, map, true};
+ghost use Rattle.std.specs.Prelude.{◌≡◌, ◌++◌, IfOk, OnOk, None, false, filter, length, map, true};
 ghost use Rattle.zt_model.specs.Parts.{told_id};
 ghost use Rattle.zt_model.specs.Wants.{wants};
 ghost use Rattle.zt_model.specs.Telling.{forget, forget_to, forget_untold};
+ghost use Rattle.zt_model.specs.Visible.{keeps};
+ghost use Rattle.zt_tokens.specs.Walks.{is_kept_at};
 
-use crate::questions::{is_client_region, is_routed, is_visible, shows, wants};
+use crate::questions::{find_face, is_client_region, is_routed, is_visible, keeps, shows, wants};
+use crate::walking::{FaceRule, say_at, say_each};
 use std::alloc::Global;
 use zt_keys::{Key, Memory};
 use zt_protocol::Message;
@@ -72,8 +75,60 @@ fn forget_to<K: Key>(
     Ok(())
 }
 
+// What a face hears of an expression that is gone from a region.
+#[derive(Drop)]
+struct Forgets<'a, K: Key> {
+    source: Region,
+    expr: &'a K,
+}
+
+impl<'a, K: Key> FaceRule<K> for Forgets<'a, K> {
+    ghost use Rattle.zt_model.specs.Telling.{forget_to};
+
+    ghost given = { λ t g. forget_to K.cmp K.matching g t.source t.expr.now };
+
+    fn say(
+        &self,
+        alloc: Global,
+        g: &GatewayState<K>,
+        f: &FaceState<K>,
+        sends: &mut Vec<(u32, Message<K>)>,
+    ) -> Result<(), Memory> {
+        forget_to(alloc, g, self.source, self.expr, f, sends)
+    }
+}
+
+// Whether the face of the number is open and keeps the expression.
+fn is_kept_at<K: Key>(g: &GatewayState<K>, expr: &K, number: u32) -> bool
+    ensures { result ≡ is_kept_at K.cmp expr.now g.now.faces number }
+{
+    match find_face(g, number) {
+        Some(f) => keeps(f, expr),
+        None => false,
+    }
+}
+
+// How many faces of these numbers keep the expression.
+fn count_kept<K: Key>(g: &GatewayState<K>, expr: &K, numbers: &[u32]) -> usize
+    ensures { result ≡ length (filter (is_kept_at K.cmp expr.now g.now.faces) numbers.now) }
+{
+    numbers
+        .iter()
+        .filter(|number| is_kept_at(g, expr, **number))
+        .count()
+}
+
+// Whether as many faces of these numbers keep the expression as faces do altogether.
+fn are_all_kept<K: Key>(g: &GatewayState<K>, expr: &K, numbers: &[u32]) -> bool
+    ensures { result ≡ true → length (filter (λ f. keeps K.cmp f expr.now) g.now.faces)
+        ≡ length (filter (is_kept_at K.cmp expr.now g.now.faces) numbers.now) }
+{
+    count_kept(g, expr, numbers) == g.told_count(expr) as usize
+}
+
 /// The faces that can't see an expression any more hear that it is gone from a region: Zenoh's
-/// `unpropagate_token`. The only error is want of memory.
+/// `unpropagate_token`. Those alone are asked that seek it, unless another one was told it. The only error
+/// is want of memory.
 pub fn forget<K: Key>(
     alloc: Global,
     g: &GatewayState<K>,
@@ -83,9 +138,9 @@ pub fn forget<K: Key>(
     ensures { IfOk result (λ sends. sends.items
         ≡ forget K.cmp K.matching source expr.now g.now) }
 {
-    let mut sends = Vec::new(alloc);
-    for f in g.faces() {
-        forget_to(alloc, g, source, expr, f, &mut sends)?;
+    let forgets = Forgets { source, expr };
+    match g.find_seekers(alloc, expr)? {
+        Some(numbers) if are_all_kept(g, expr, &numbers) => say_at(alloc, g, &numbers, &forgets),
+        _ => say_each(alloc, g, &forgets),
     }
-    Ok(sends)
 }

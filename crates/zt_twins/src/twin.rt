@@ -7,15 +7,16 @@ ghost use Rattle.zt_protocol.specs.Plain.{plain_call};
 use std::alloc::Global;
 use std::marker::Model;
 use std::mem;
-use zt_calls::carry_out;
+use zt_calls::{alter, carry_out};
 use zt_keys::{Key, Memory};
 use zt_protocol::{Call, Message};
 use zt_state::GatewayState;
 
 /// What a gateway keeps, and mostly a second, equal state to carry the next call out on. Where the call
 /// lacks memory the second state is dropped, and the gateway is as it was; where it is done the two change
-/// places, and the former state is brought up to date by the same call. So no call copies what the gateway
-/// keeps, but the first one, and the next one where there is no second state.
+/// places, and the former state is brought up to date: it changes what the call itself changes, and its
+/// faces hear what the call said. So no call copies what the gateway keeps, but the first one, and the next
+/// one where there is no second state, and what a call says is found out once.
 #[derive(Drop)]
 pub struct TwinState<K: Key> {
     state: GatewayState<K>,
@@ -65,17 +66,38 @@ fn carry_on<K: Key>(
     carry_out(alloc, state, call)
 }
 
-// A state after a call, unless memory lacks.
+// Changes what a call itself changes, and lets the faces hear what it says. Want of memory, and of a number
+// for the face that it opens, leave the state in between.
+fn follow<K: Key>(
+    alloc: Global,
+    state: &mut GatewayState<K>,
+    call: &Call<K>,
+    sends: &[(u32, Message<K>)],
+) -> Result<(), Memory>
+    requires { sends.now ≡ said K.cmp K.matching (plain_call call.now) state.old }
+    ensures { OnOk result (state.new
+        ≡ rows_after_call K.cmp K.matching (plain_call call.now) state.old) }
+{
+    if opens_face(call) && state.made() == u32::MAX {
+        return Err(Memory);
+    }
+    alter(alloc, state, call)?;
+    state.hear_all(alloc, sends)
+}
+
+// A state after a call that says this, unless memory lacks.
 fn caught_up<K: Key>(
     alloc: Global,
     mut state: GatewayState<K>,
     call: &Call<K>,
+    sends: &[(u32, Message<K>)],
 ) -> Option<GatewayState<K>>
+    requires { sends.now ≡ said K.cmp K.matching (plain_call call.now) state }
     ensures { IfSome result (λ after. after
         ≡ rows_after_call K.cmp K.matching (plain_call call.now) state) }
 {
-    match carry_on(alloc, &mut state, call) {
-        Ok(_) => Some(state),
+    match follow(alloc, &mut state, call, sends) {
+        Ok(()) => Some(state),
         Err(_) => None,
     }
 }
@@ -130,21 +152,35 @@ impl<K: Key> TwinState<K> {
         mem::replace(&mut self.state, state)
     }
 
-    /// Brings a former state up to date by the call that came after it, so that it is the second one.
-    /// Where memory lacks for that there is none.
-    pub fn catch_up(&mut self, alloc: Global, former: GatewayState<K>, call: &Call<K>)
-        requires { self.old ≡ rows_after_call K.cmp K.matching (plain_call call.now) former }
+    /// Brings a former state up to date by the call that came after it, and by what that said, so that it
+    /// is the second one. Where memory lacks for that there is none.
+    pub fn catch_up(
+        &mut self,
+        alloc: Global,
+        former: GatewayState<K>,
+        call: &Call<K>,
+        sends: &[(u32, Message<K>)],
+    )
+        requires after { self.old ≡ rows_after_call K.cmp K.matching (plain_call call.now) former }
+        requires said { sends.now ≡ said K.cmp K.matching (plain_call call.now) former }
         ensures { self.new ≡ self.old }
     {
-        self.spare = caught_up(alloc, former, call);
+        self.spare = caught_up(alloc, former, call, sends);
     }
 
     /// The gateway keeps what a call that was prepared leaves.
-    pub fn commit(&mut self, alloc: Global, state: GatewayState<K>, call: &Call<K>)
-        requires { state ≡ rows_after_call K.cmp K.matching (plain_call call.now) self.old }
+    pub fn commit(
+        &mut self,
+        alloc: Global,
+        state: GatewayState<K>,
+        call: &Call<K>,
+        sends: &[(u32, Message<K>)],
+    )
+        requires after { state ≡ rows_after_call K.cmp K.matching (plain_call call.now) self.old }
+        requires said { sends.now ≡ said K.cmp K.matching (plain_call call.now) self.old }
         ensures { self.new ≡ state }
     {
         let former = self.put(state);
-        self.catch_up(alloc, former, call);
+        self.catch_up(alloc, former, call, sends);
     }
 }

@@ -27,7 +27,8 @@ fn refuse<K: Key, L>(
 ) -> Result<(), Memory>
     requires { length answers.old.items + length lines.now < 2 ^ 32 }
     ensures { OnOk result (map answered answers.new.items
-        ≡ map answered answers.old.items ++ numbered_from (length answers.old.items + 1) (map (λ _. Err refusal) lines.now)) }
+        ≡ map answered answers.old.items
+        ++ numbered_from (length answers.old.items + 1) (map (λ _. Err refusal) lines.now)) }
 {
     for _ in lines {
         let line = answers.len() as u64 + 1;
@@ -50,7 +51,8 @@ pub fn all_refused<K: Key>(
 ) -> Result<Vec<Answer<K>>, Memory>
     requires { length makings.now + length calls.now < 2 ^ 31 }
     ensures { IfOk result (λ answers. map answered answers.items ≡ numbered_from 1 (Err refusal
-        ∷ (map (λ _. Err Refusal.UnknownGateway) makings.now ++ map (λ _. Err Refusal.UnknownFace) calls.now))) }
+        ∷ (map (λ _. Err Refusal.UnknownGateway) makings.now
+        ++ map (λ _. Err Refusal.UnknownFace) calls.now))) }
 {
     let mut answers = Vec::new(alloc);
     refuse(&mut answers, &[()], refusal)?;
@@ -65,7 +67,8 @@ pub fn answer_makings<K: Key>(
     entries: Vec<Entry<K>>,
 ) -> Result<Vec<Answer<K>>, Memory>
     requires { length entries.items < 2 ^ 31 }
-    ensures { IfOk result (λ answers. map answered answers.items ≡ numbered_from 1 (Ok [] ∷ map plain_entry entries.items)) }
+    ensures { IfOk result (λ answers. map answered answers.items
+        ≡ numbered_from 1 (Ok [] ∷ map plain_entry entries.items)) }
 {
     let mut answers = Vec::new(alloc);
     answers.push(Answer {
@@ -103,7 +106,9 @@ pub fn answer_journal<K: Key>(
 ) -> Result<(), Memory>
     requires { length lines.now ≡ length journal.entries.items }
     ensures { OnOk result (map answered answers.new.items
-        ≡ map answered answers.old.items ++ with_lines lines.now (map (λ entry. plain_outcome entry.outcome) journal.entries.items)) }
+        ≡ map answered answers.old.items
+        ++ with_lines lines.now
+        (map (λ entry. plain_outcome entry.outcome) journal.entries.items)) }
 {
     let mut place = 0;
     for entry in journal.entries {

@@ -77,8 +77,10 @@ fn part_of<K: Key>(
     calls: Vec<Numbered<K>>,
 ) -> Result<(Vec<Numbered<K>>, Vec<Numbered<K>>), Memory>
     requires { 0 < workers }
-    ensures own { IfOk result (λ parts. map numbered parts.0.items ≡ part workers worker (map numbered calls.items)) }
-    ensures others { IfOk result (λ parts. map numbered parts.1.items ≡ apart workers worker (map numbered calls.items)) }
+    ensures own { IfOk result (λ parts. map numbered parts.0.items
+        ≡ part workers worker (map numbered calls.items)) }
+    ensures others { IfOk result (λ parts. map numbered parts.1.items
+        ≡ apart workers worker (map numbered calls.items)) }
 {
     let mut own = Vec::new(alloc);
     let mut others = Vec::new(alloc);
@@ -88,7 +90,8 @@ fn part_of<K: Key>(
     Ok((own, others))
 }
 
-/// Deals the calls to as many workers, each of which has a pass of its own. The only error is want of memory.
+/// Deals the calls to as many workers, each of which has a pass of its own. The only error is want
+/// of memory.
 pub fn deal<K: Key>(
     alloc: Global,
     shared: &SharedGateway<K>,
@@ -100,7 +103,8 @@ pub fn deal<K: Key>(
     requires fresh { HasMade shared.now first.opening 0 [] first }
     requires begins { first.opening.entries ≡ [] }
     requires first_ids { HaveFirstIds (map numbered calls.items) }
-    ensures jobs { IfOk result (λ jobs. EachFrom (IsJob shared.now first.opening workers (map numbered calls.items)) 0 jobs.items) }
+    ensures jobs { IfOk result (λ jobs. EachFrom
+        (IsJob shared.now first.opening workers (map numbered calls.items)) 0 jobs.items) }
     ensures len { IfOk result (λ jobs. vec_len jobs ≡ workers) }
 {
     let mut jobs = Vec::new(alloc);

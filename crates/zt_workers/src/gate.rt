@@ -1,7 +1,7 @@
 // What workers pass before and after each line.
 
-/// Is told of each line that a worker carries out. A gate may hold a worker up, so tests use one to see that
-/// workers run at the same time.
+/// Is told of each line that a worker carries out. A gate may hold a worker up, so tests use one to
+/// see that workers run at the same time.
 pub trait Gate {
     /// The worker is about to carry out the line of this number.
     fn before(&self, line: u64);

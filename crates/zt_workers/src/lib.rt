@@ -1,5 +1,6 @@
-//! Scripts that many workers carry out on one gateway. The script of such a run makes one gateway, then opens faces
-//! of it, and then lets faces speak: these lines are dealt to workers by the numbers of their faces.
+//! Scripts that many workers carry out on one gateway. The script of such a run makes one gateway,
+//! then opens faces of it, and then lets faces speak: these lines are dealt to workers by the
+//! numbers of their faces.
 #![tactic(auto)]
 
 mod answering;

@@ -49,18 +49,21 @@ fn opening_call<K>(line: &Line<K>) -> Call<K>
     }
 }
 
-// Carries out a prepared call, and answers its messages.
+// Carries out a call that was prepared, and answers its messages.
 fn carry_out<K: Key>(
     alloc: Global,
     gateway: &mut Gateway<K>,
+    call: &Call<K>,
     prepared: Prepared<K>,
 ) -> Result<Entry<K>, Memory>
-    requires { prepared.before ≡ gateway.old }
-    ensures entry { IfOk result (λ entry. plain_entry entry ≡ Ok (map sent_alone (by_face prepared.said))) }
+    requires accepted { cause_of K.cmp K.matching (plain_call call.now) gateway.old.rows ≡ None }
+    requires planned { prepared ≡ planned K.cmp K.matching (plain_call call.now) gateway.old }
+    ensures entry { IfOk result (λ entry. plain_entry entry
+        ≡ Ok (map sent_alone (by_face prepared.said))) }
     ensures done { OnOk result (gateway.new ≡ record prepared.after { waiting = [] }) }
 {
     let sent = sent_by(alloc, &prepared)?;
-    gateway.commit(prepared);
+    gateway.commit_call(prepared, call);
     gateway.clear_outbox();
     Ok(Entry { outcome: Ok(sent) })
 }
@@ -85,16 +88,23 @@ fn make_face<K: Key>(
 ) -> Result<Entry<K>, Memory>
     requires first { HasFirstIds (plain_line line.now) }
     requires quiet { gateway.old.waiting ≡ [] }
-    ensures entry { IfOk result (λ entry. plain_entry entry ≡ made_entry K.cmp K.matching (plain_line line.now) gateway.old.rows) }
-    ensures done { OnOk result (gateway.new ≡ record { rows = made_rows K.cmp K.matching (plain_line line.now) gateway.old.rows; waiting = [] }) }
+    ensures entry { IfOk result (λ entry. plain_entry entry
+        ≡ made_entry K.cmp K.matching (plain_line line.now) gateway.old.rows) }
+    ensures done { OnOk result (gateway.new
+        ≡ record {
+          rows = made_rows K.cmp K.matching
+              (plain_line line.now) gateway.old.rows;
+          waiting = [];
+        }) }
 {
     if gateway_named(line) != 1 {
         return Ok(Entry {
             outcome: Err(Refusal::UnknownGateway),
         });
     }
-    match gateway.prepare(&opening_call(line)) {
-        Ok(prepared) => carry_out(alloc, gateway, prepared),
+    let call = opening_call(line);
+    match gateway.prepare(&call) {
+        Ok(prepared) => carry_out(alloc, gateway, &call, prepared),
         Err(error) => refused(error),
     }
 }
@@ -107,8 +117,14 @@ pub fn make_faces<K: Key>(
 ) -> Result<Vec<Entry<K>>, Memory>
     requires first { Each HasFirstIds (map plain_line lines.now) }
     requires quiet { gateway.old.waiting ≡ [] }
-    ensures entries { IfOk result (λ entries. map plain_entry entries.items ≡ made_entries K.cmp K.matching (map plain_line lines.now) gateway.old.rows) }
-    ensures done { OnOk result (gateway.new ≡ record { rows = rows_made K.cmp K.matching (map plain_line lines.now) gateway.old.rows; waiting = [] }) }
+    ensures entries { IfOk result (λ entries. map plain_entry entries.items
+        ≡ made_entries K.cmp K.matching (map plain_line lines.now) gateway.old.rows) }
+    ensures done { OnOk result (gateway.new
+        ≡ record {
+          rows = rows_made K.cmp K.matching
+              (map plain_line lines.now) gateway.old.rows;
+          waiting = [];
+        }) }
 {
     let mut entries = Vec::new(alloc);
     for line in lines {

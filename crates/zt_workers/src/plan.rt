@@ -16,7 +16,8 @@ pub struct Numbered<K> {
     pub call: Call<K>,
 }
 
-/// A script that isn't empty: the settings of its gateway, the lines that open faces, and those that speak.
+/// A script that isn't empty: the settings of its gateway, the lines that open faces, and those
+/// that speak.
 #[derive(Drop)]
 pub struct Plan<K> {
     pub gateway: GatewayBuilder,
@@ -53,13 +54,16 @@ fn begun<K: Key>(alloc: Global, line: Line<K>) -> Option<Plan<K>>
     }
 }
 
-// Adds the line of this number behind the others, where it has a place there, and answers whether it has.
+// Adds the line of this number behind the others, where it has a place there, and answers whether
+// it has.
 fn add_behind<K: Key>(plan: &mut Plan<K>, number: u64, line: Line<K>) -> Result<bool, Memory>
     requires form { IsPlan plan.old }
     requires number { number ≡ length (plan_lines plan.old) + 1 }
-    ensures lines { IfOk result (λ added. added ≡ true → plan_lines plan.new ≡ plan_lines plan.old ++ plain_line line ∷ []) }
+    ensures lines { IfOk result (λ added. added ≡ true → plan_lines plan.new ≡ plan_lines plan.old
+        ++ plain_line line ∷ []) }
     ensures form { IfOk result (λ added. added ≡ true → IsPlan plan.new) }
-    ensures other { IfOk result (λ added. added ≡ false → HasNoPlace (plan_lines plan.old) (plain_line line)) }
+    ensures other { IfOk result (λ added. added
+        ≡ false → HasNoPlace (plan_lines plan.old) (plain_line line)) }
 {
     match line {
         Line::Session { .. } | Line::Face { .. } => {
@@ -77,8 +81,8 @@ fn add_behind<K: Key>(plan: &mut Plan<K>, number: u64, line: Line<K>) -> Result<
     }
 }
 
-/// Adds the line of this number behind the others, where it has a place there, and answers whether it has. The only
-/// error is want of memory.
+/// Adds the line of this number behind the others, where it has a place there, and answers whether
+/// it has. The only error is want of memory.
 pub fn add_line<K: Key>(
     alloc: Global,
     plan: &mut Option<Plan<K>>,

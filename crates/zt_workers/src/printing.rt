@@ -27,7 +27,8 @@ fn count<K>(report: &mut Report, entry: &Entry<K>)
 /// The text of the answers and of their totals, and these. The only error is want of memory.
 pub fn print_all<K: Key>(alloc: Global, answers: &[Answer<K>]) -> Result<(String, Report), Memory>
     requires { length answers.now < 2 ^ 63 }
-    ensures text { IfOk result (λ printed. string_bytes printed.0 ≡ transcript_text K.printed (map answered answers.now)) }
+    ensures text { IfOk result (λ printed. string_bytes printed.0
+        ≡ transcript_text K.printed (map answered answers.now)) }
     ensures totals { IfOk result (λ printed. printed.1 ≡ totals_of (map answered answers.now)) }
 {
     let mut text = String::new(alloc);

@@ -19,10 +19,10 @@ use zt_streams::{Sink, Source};
 // The status of a program whose words ask for nothing that it does.
 const UNKNOWN_WORDS: u8 = 64;
 
-/// All that the program does: with one word, a decimal number from 1 to 16, that many workers carry out the script that
-/// the source gives. The result is its status: 0 where the whole transcript was written, 1 to 5 for a bad line, a
-/// script that is too long, a fault of the source, a fault of the sink and want of memory. With other words the status
-/// is 64, and nothing is read or written.
+/// All that the program does: with one word, a decimal number from 1 to 16, that many workers carry
+/// out the script that the source gives. The result is its status: 0 where the whole transcript was
+/// written, 1 to 5 for a bad line, a script that is too long, a fault of the source, a fault of the
+/// sink and want of memory. With other words the status is 64, and nothing is read or written.
 pub fn drive_tool<R: Threads + Wait + Sync, S: Source, T: Sink>(
     rt: &R,
     alloc: Global,
@@ -30,15 +30,22 @@ pub fn drive_tool<R: Threads + Wait + Sync, S: Source, T: Sink>(
     source: &mut S,
     sink: &mut T,
 ) -> u8
-    ensures drives { (workers : ℕ) → workers_asked (map string_bytes words.now) ≡ Some workers → (answer : Result Report RunError) × (result ≡ status_of answer)
-        × Answers ⟦<KeyExpr as Ord>⟧.cmp ⟦<KeyExpr as Key>⟧.matching ⟦<KeyExpr as Key>⟧.reading ⟦<KeyExpr as Key>⟧.printed
+    ensures drives { (workers : ℕ) → workers_asked (map string_bytes words.now)
+        ≡ Some workers → (answer : Result Report RunError) × (result ≡ status_of answer)
+        × Answers ⟦<KeyExpr as Ord>⟧.cmp ⟦<KeyExpr as Key>⟧.matching ⟦<KeyExpr as Key>⟧.reading
+        ⟦<KeyExpr as Key>⟧.printed
         (streams (S.left source.old) (S.faults source.old) (T.written sink.old) (T.faults sink.old))
-        (streams (S.left source.new) (S.faults source.new) (T.written sink.new) (T.faults sink.new)) answer
-        × CountsFaults (streams (S.left source.old) (S.faults source.old) (T.written sink.old) (T.faults sink.old))
-        (streams (S.left source.new) (S.faults source.new) (T.written sink.new) (T.faults sink.new)) answer }
-    ensures complete { (workers : ℕ) → workers_asked (map string_bytes words.now) ≡ Some workers → GivesDriven ⟦<KeyExpr as Key>⟧.reading
+        (streams (S.left source.new) (S.faults source.new) (T.written sink.new)
+        (T.faults sink.new)) answer
+        × CountsFaults (streams (S.left source.old) (S.faults source.old) (T.written sink.old)
+        (T.faults sink.old))
+        (streams (S.left source.new) (S.faults source.new) (T.written sink.new)
+        (T.faults sink.new)) answer }
+    ensures complete { (workers : ℕ) → workers_asked (map string_bytes words.now)
+        ≡ Some workers → GivesDriven ⟦<KeyExpr as Key>⟧.reading
         (streams (S.left source.old) (S.faults source.old) (T.written sink.old) (T.faults sink.old))
-        (streams (S.left source.new) (S.faults source.new) (T.written sink.new) (T.faults sink.new)) → (result ≡ 0) ⊎ (result ≡ 5) }
+        (streams (S.left source.new) (S.faults source.new) (T.written sink.new)
+        (T.faults sink.new)) → (result ≡ 0) ⊎ (result ≡ 5) }
     ensures reads { S.reads source.new ≤ S.reads source.old + 1048577 }
     ensures unknown { workers_asked (map string_bytes words.now) ≡ None → result ≡ 64 }
     ensures unread { workers_asked (map string_bytes words.now) ≡ None → source.new ≡ source.old }

@@ -23,7 +23,8 @@ fn take_line<K: Key>(alloc: Global, reading: &mut Reading<K>, text: &[u8]) -> Re
     requires form { IsReading reading.old }
     requires room { reading.old.lines < SCRIPT_BYTES }
     ensures ok { OnOk result (TakesText K.reading text.now reading.old reading.new) }
-    ensures err { IfErr result (λ error. LineStops K.reading (script_lines reading.old.plan) text.now (reading.old.lines + 1) error) }
+    ensures err { IfErr result (λ error. LineStops K.reading
+        (script_lines reading.old.plan) text.now (reading.old.lines + 1) error) }
 {
     let number = reading.lines + 1;
     let line = match read_line(alloc, text) {
@@ -71,7 +72,8 @@ fn take_rest<K: Key>(
     requires room { reading.old.lines + length feeder.old ≤ SCRIPT_BYTES }
     ensures ok { OnOk result ((texts : List (List ℕ)) → HasRead K.reading texts reading.old
         → HasRead K.reading (texts ++ last_line (rest_of feeder.old)) reading.new) }
-    ensures err { IfErr result (λ error. (texts : List (List ℕ)) → HasRead K.reading texts reading.old
+    ensures err { IfErr result (λ error. (texts : List (List ℕ)) →
+        HasRead K.reading texts reading.old
         → TextsStop K.reading (texts ++ last_line (rest_of feeder.old)) error) }
 {
     let Some(line) = feeder.finish() else {
@@ -80,8 +82,9 @@ fn take_rest<K: Key>(
     take_line(alloc, reading, line)
 }
 
-/// Reads the lines of a script. `BadLine` comes for the first line that isn't one of the grammar or has no place where
-/// it stands, and `TooLong` where all whole lines are good but the script is longer than what was read of it.
+/// Reads the lines of a script. `BadLine` comes for the first line that isn't one of the grammar or
+/// has no place where it stands, and `TooLong` where all whole lines are good but the script is
+/// longer than what was read of it.
 pub fn read_plan<K: Key>(alloc: Global, script: &Script) -> Result<Option<Plan<K>>, RunError>
     requires { vec_len script.now.bytes ≤ SCRIPT_BYTES }
     ensures ok { IfOk result (ReadsScript K.reading script.now.bytes.items script.now.longer) }

@@ -21,7 +21,8 @@ use zt_shared::{Journal, Pass, SharedGateway};
 // The passes and the queues of lines of all workers.
 fn parted<K: Key>(alloc: Global, all: Vec<Done<K>>) -> Result<(Vec<Pass<K>>, Vec<Vec<u64>>), Memory>
     ensures passes { IfOk result (λ parts. parts.0.items ≡ map (λ done. done.pass) all.items) }
-    ensures queues { IfOk result (λ parts. map (λ queue. queue.items) parts.1.items ≡ map (λ done. done.lines.items) all.items) }
+    ensures queues { IfOk result (λ parts. map (λ queue. queue.items) parts.1.items
+        ≡ map (λ done. done.lines.items) all.items) }
 {
     let mut passes = Vec::new(alloc);
     let mut queues = Vec::new(alloc);
@@ -44,7 +45,8 @@ pub fn journal_of<R: Threads + Wait + Sync, K: Key + Send + Sync, G: Gate + Sync
     requires some { 0 < workers }
     requires quiet { gateway.waiting ≡ [] }
     requires speak { Each Speaks (map call_of calls.items) }
-    ensures { IfOk result (λ made. IsMadeByWorkers K.cmp K.matching workers (map numbered calls.items) gateway.rows
+    ensures { IfOk result (λ made. IsMadeByWorkers K.cmp K.matching workers
+        (map numbered calls.items) gateway.rows
         (map journalled made.0.entries.items) made.1.items) }
 {
     let (shared, first) = SharedGateway::new(alloc, gateway)?;

@@ -89,8 +89,8 @@ fn collected<D: Drop>(alloc: Global, results: Vec<Result<D, Memory>>) -> Result<
     Ok(all)
 }
 
-// Does each job on a thread of its own, and waits for all. The closure takes one reference, so that its proof stays
-// small whatever the work is.
+// Does each job on a thread of its own, and waits for all. The closure takes one reference, so that
+// its proof stays small whatever the work is.
 fn each_done<R: Threads + Sync, J: Send + Drop, D: Send + Drop, W: Worker<J, D> + Sync>(
     rt: &R,
     alloc: Global,
@@ -111,7 +111,8 @@ fn each_done<R: Threads + Sync, J: Send + Drop, D: Send + Drop, W: Worker<J, D> 
     collected(alloc, results)
 }
 
-/// Lets the workers work, each on a thread of its own, and waits for all. The only error is want of memory.
+/// Lets the workers work, each on a thread of its own, and waits for all. The only error is want of
+/// memory.
 pub fn work_all<R: Threads + Wait + Sync, K: Key + Send + Sync, G: Gate + Sync>(
     rt: &R,
     alloc: Global,

@@ -11,6 +11,6 @@ returns g c =
     let matching = g.K.Key.matching in
     let change = with_face c.args.face (ended c.args.id) in
     let rule = finish c.args.face c.args.id in
-    does-then cmp matching c.say.result (Alter change ∷ []) (Say rule ∷ []) c.args.g.now c.end_pending.new.self c.say.new.g c.args.speech.now c.args.speech.now c.say.new.speech
+    does-then cmp matching c.finish_asks.result (Alter change ∷ []) (Say rule ∷ []) c.args.g.now c.end_pending.new.self c.finish_asks.new.g c.args.speech.now c.args.speech.now c.finish_asks.new.speech
     (does-alter cmp matching change c.args.g.now c.end_pending.new.self c.args.speech.now c.end_pending.ensures)
-    (on_ok_weaker c.say.result (λ said. said rule (sym c.in_ok-finals.ensures)) c.say.ensures)
+    c.finish_asks.ensures

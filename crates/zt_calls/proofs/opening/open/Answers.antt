@@ -20,8 +20,8 @@ returns g c =
     let final = to_face n (opening_final cmp matching) in
     let s = c.args.speech.now in
     let one = does-alter cmp matching change c.args.g.now c.open_face.new.self s c.in_ok-open_face.ensures in
-    let two = does-both cmp matching (Alter change ∷ []) (Say interests ∷ []) c.args.g.now c.open_face.new.self c.say.new.g s s c.say.new.speech one (c.in_ok-say.ensures interests (sym c.in_ok-interests.ensures)) in
-    let three = does-both cmp matching (Alter change ∷ Say interests ∷ []) (Say tokens ∷ []) c.args.g.now c.say.new.g c.say-2.new.g s c.say.new.speech c.say-2.new.speech two (c.in_ok-say-2.ensures tokens (sym c.in_ok-tokens.ensures)) in
-    subst (λ (made : ℕ). OnOk c.say-3.result (Does cmp matching (Alter change ∷ Say (interests_to (made + 1)) ∷ Say (tokens_to (made + 1)) ∷ Say (to_face (made + 1) (opening_final cmp matching)) ∷ []) c.args.g.now c.say-3.new.g s c.say-3.new.speech)) c.made-face.ensures
-    (does-then cmp matching c.say-3.result (Alter change ∷ Say interests ∷ Say tokens ∷ []) (Say final ∷ []) c.args.g.now c.say-2.new.g c.say-3.new.g s c.say-2.new.speech c.say-3.new.speech three
-    (on_ok_weaker c.say-3.result (λ said. said final (sym c.in_ok-finals.ensures)) c.say-3.ensures))
+    let two = does-both cmp matching (Alter change ∷ []) (Say interests ∷ []) c.args.g.now c.open_face.new.self c.send_interests.new.g s s c.send_interests.new.speech one c.in_ok-send_interests.ensures in
+    let three = does-both cmp matching (Alter change ∷ Say interests ∷ []) (Say tokens ∷ []) c.args.g.now c.send_interests.new.g c.send_tokens.new.g s c.send_interests.new.speech c.send_tokens.new.speech two c.in_ok-send_tokens.ensures in
+    subst (λ (made : ℕ). OnOk c.send_final.result (Does cmp matching (Alter change ∷ Say (interests_to (made + 1)) ∷ Say (tokens_to (made + 1)) ∷ Say (to_face (made + 1) (opening_final cmp matching)) ∷ []) c.args.g.now c.send_final.new.g s c.send_final.new.speech)) c.made-face.ensures
+    (does-then cmp matching c.send_final.result (Alter change ∷ Say interests ∷ Say tokens ∷ []) (Say final ∷ []) c.args.g.now c.send_tokens.new.g c.send_final.new.g s c.send_tokens.new.speech c.send_final.new.speech three
+    c.send_final.ensures)

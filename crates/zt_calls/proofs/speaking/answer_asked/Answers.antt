@@ -16,11 +16,8 @@ returns-in-None g c =
     subst (λ (asked : Option ℕ). Does cmp matching (answering_asked cmp matching c.args.face asked c.args.expr.now) c.args.g.now c.args.g.now c.args.speech.now c.args.speech.now) (sym c.in-None.is)
     (does-nothing cmp matching c.args.g.now c.args.speech.now)
 
-pub returns-in_ok-sends-in-Some : goal.returns-in_ok-sends-in-Some
-returns-in_ok-sends-in-Some g c =
+pub returns-in-Some : goal.returns-in-Some
+returns-in-Some g c =
     let cmp = g.K.Ord.cmp in
     let matching = g.K.Key.matching in
-    let e = c.args.expr.now in
-    let rule = answer cmp matching c.args.face c.in-Some.id e in
-    subst (λ (asked : Option ℕ). OnOk c.say.result (Does cmp matching (answering_asked cmp matching c.args.face asked e) c.args.g.now c.say.new.g c.args.speech.now c.say.new.speech)) (sym c.in-Some.is)
-    (on_ok_weaker c.say.result (λ said. said rule (sym c.in_ok-sends-in-Some.ensures)) c.say.ensures)
+    subst (λ (asked : Option ℕ). OnOk c.answer_asks.result (Does cmp matching (answering_asked cmp matching c.args.face asked c.args.expr.now) c.args.g.now c.answer_asks.new.g c.args.speech.now c.answer_asks.new.speech)) (sym c.in-Some.is) c.answer_asks.ensures

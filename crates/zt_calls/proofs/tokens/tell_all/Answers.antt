@@ -10,6 +10,6 @@ returns g c =
     let cmp = g.K.Ord.cmp in
     let matching = g.K.Key.matching in
     let e = c.args.expr.now in
-    does-then cmp matching c.show_token.result (Say (tell cmp matching c.args.source e) ∷ []) (showing cmp c.args.source e) c.args.g.now c.say.new.g c.show_token.new.g c.args.speech.now c.say.new.speech c.show_token.new.speech
-    (c.in_ok-say.ensures (tell cmp matching c.args.source e) (sym c.in_ok-sends.ensures))
+    does-then cmp matching c.show_token.result (Say (tell cmp matching c.args.source e) ∷ []) (showing cmp c.args.source e) c.args.g.now c.tell_faces.new.g c.show_token.new.g c.args.speech.now c.tell_faces.new.speech c.show_token.new.speech
+    c.in_ok-tell_faces.ensures
     c.show_token.ensures

@@ -1,23 +1,24 @@
-use Rattle.std.proofs.Common.{◌<◌, ◌≤◌, ap, arith, flat_map, length, refl, ◌∙◌}
+use Rattle.std.proofs.Common.{List, ap, flat_map, refl, ◌∙◌}
+use Rattle.std.proofs.lemmas.List.Concat.{flat_map-append}
+use Rattle.std.specs.BTreeSet.{BTreeSet}
 use Rattle.zt_region.specs.declared.region.Zid.{Zid}
+use Rattle.zt_routed.specs.Routed.{rows_in, rows_of}
+use Rattle.zt_routed.specs.declared.origin.Origin.{Origin}
 use Rattle.zt_gateway.specs.Declarers.{router_rows}
 use Rattle.zt_gateway.proofs.Listed.{router_rows_are}
-use Rattle.zt_gateway.proofs.Walks.{walk_done, walk_more}
+use Rattle.zt_gateway.proofs.Walks.{rest_done, rest_more}
 use Rattle.zt_gateway.proofs.listing.rows_of_routers.Goals as goal
 
-pub loop-row-preserved : goal.loop-row-preserved
-loop-row-preserved g c =
-    let own = c.zid-own.result in
-    let rows = c.routed-row-items.result.now in
-    let within : c.loop-row.row-index < length rows = omega arith in
-    walk_more (router_rows own c.args.region) (flat_map (router_rows own c.args.region)) (λ x xs. refl) rows c.loop-row.row-index c.row-item.result c.loop-row.rows.items c.add_routed.new.rows.items (flat_map (router_rows own c.args.region) rows) within c.row-item.is c.loop-row.invariant c.in_ok-add_routed.ensures
+pub loop-origin-preserved : goal.loop-origin-preserved
+loop-origin-preserved g c =
+    let rule = router_rows c.zid-own.result c.args.region in
+    rest_more (λ (x : Origin × BTreeSet g.row.K.Denot). flat_map rule (rows_of x)) (λ (xs : List (Origin × BTreeSet g.row.K.Denot)). flat_map rule (rows_in xs)) (λ x xs. flat_map-append rule (rows_of x) (rows_in xs))
+    c.loop-origin.origin-iterator c.next.new.self (c.in-Some.origin.now, c.in-Some.keys.now) c.loop-origin.rows.items c.add_origin.new.rows.items (flat_map rule c.args.g.now.routed)
+    c.loop-origin.invariant c.in-Some.ensures.steps c.in_ok-add_origin.ensures
 
 pub returns : goal.returns
 returns g c =
-    let own = c.zid-own.result in
-    let rows = c.routed-row-items.result.now in
-    let past : length rows ≤ c.loop-row.row-index = omega arith in
-    walk_done (flat_map (router_rows own c.args.region)) refl rows c.loop-row.row-index c.loop-row.rows.items (flat_map (router_rows own c.args.region) rows) past c.loop-row.invariant
-    ∙ ap (flat_map (router_rows own c.args.region)) c.routed-row-items.ensures
+    let rule = router_rows c.zid-own.result c.args.region in
+    rest_done (λ (xs : List (Origin × BTreeSet g.row.K.Denot)). flat_map rule (rows_in xs)) refl c.loop-origin.origin-iterator c.loop-origin.rows.items (flat_map rule c.args.g.now.routed) c.in-None.ensures.steps.0 c.loop-origin.invariant
     ∙ ap (λ (zid : Zid). flat_map (router_rows zid c.args.region) c.args.g.now.routed) c.zid-own.ensures
     ∙ router_rows_are c.args.g.now.zid c.args.region c.args.g.now.routed

@@ -1,11 +1,8 @@
-use Rattle.std.proofs.Common.{◌≡◌, ◌++◌, None, Some, Result, Ok, Err, IfOk, map, option_map, ap, subst, sym, ◌∙◌}
+use Rattle.std.proofs.Common.{◌≡◌, Some, Result, Ok, Err, IfOk, option_map, ap, sym, ◌∙◌}
 use Rattle.std.proofs.lemmas.Result.{IfOk-weaker}
 use Rattle.zt_protocol.specs.Plain.{plain_call}
-use Rattle.zt_model.specs.Fabric.{Fabric, sorted_by_face}
-use Rattle.zt_model.specs.Linking.{with_link}
 use Rattle.zt_model.specs.Lists.{nth}
-use Rattle.zt_laws.specs.Order.{FabricIsInOrder}
-use Rattle.zt_links.specs.Lines.{opened_by_call, opening_call, row_after, said_by_opening}
+use Rattle.zt_links.specs.Lines.{opening_call}
 use Rattle.zt_links.proofs.Joined.{accepted_calls, between_in_order, joined_does, joined_says, known_by, opens_by}
 use Rattle.zt_links.proofs.joining.link.Goals as goal
 

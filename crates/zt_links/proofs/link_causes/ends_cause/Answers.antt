@@ -1,4 +1,4 @@
-use Rattle.std.proofs.Common.{None, Some, refl, sym, ap, ◌∙◌}
+use Rattle.std.proofs.Common.{None, Some, refl}
 use Rattle.std.proofs.lemmas.Result.{IfOk-weaker}
 use Rattle.zt_links.proofs.LinkCauses.{by_ends}
 use Rattle.zt_links.proofs.link_causes.ends_cause.Goals as goal

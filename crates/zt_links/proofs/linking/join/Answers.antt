@@ -1,4 +1,4 @@
-use Rattle.std.proofs.Common.{[], ◌∷◌, ◌++◌, true, ap, ◌∙◌}
+use Rattle.std.proofs.Common.{ap, ◌∙◌}
 use Rattle.zt_model.specs.Fabric.{Fabric, sorted_by_face}
 use Rattle.zt_queues.specs.Waiting.{with_printed}
 use Rattle.zt_links.proofs.linking.join.Goals as goal

@@ -1,7 +1,8 @@
-use Rattle.std.proofs.Common.{◌≡◌, ◌+◌, ◌++◌, [], ◌∷◌, None, length, map, ap, sym, subst, ◌∙◌}
+use Rattle.std.proofs.Common.{◌≡◌, ◌+◌, ◌++◌, [], ◌∷◌, length, ap, arith, sym, subst, ◌∙◌}
 use Rattle.zt_protocol.specs.Plain.{plain_call}
 use Rattle.zt_model.specs.Fabric.{Fabric, call_at, sorted_by_face}
 use Rattle.zt_laws.specs.Order.{FabricIsInOrder}
+use Rattle.zt_places.specs.Found.{AreBelow}
 use Rattle.zt_links.specs.Lines.{joined, opened_by_call, opened_end, said_by_opening, undone, without_last_place}
 use Rattle.zt_links.proofs.Linked.{opening_links}
 use Rattle.zt_links.proofs.Turned.{known_after, link_joined, opening_faces, opening_waits_does, opening_waits_says, order_waits, some_known}
@@ -16,6 +17,22 @@ pub open_other-requires-clause-order : goal.open_other-requires-clause-order
 open_other-requires-clause-order g c =
     subst (FabricIsInOrder g.K.Ord.cmp g.K.Key.matching) (sym c.in_ok-turned.ensures.does)
     (order_waits g.K.Ord.cmp g.K.Key.matching _ (opened_by_call g.K.Ord.cmp g.K.Key.matching c.args.one (plain_call c.args.forth.now) c.args.s.now) c.requires.order_between)
+
+pub open_other-requires-clause-below : goal.open_other-requires-clause-below
+open_other-requires-clause-below g c =
+    let face_is : c.in_ok-face.face ≡ length c.args.s.now.faces + 1 = c.in_ok-face.ensures ∙ ap (λ n. n + 1) (c.len.ensures ∙ ap length c.places.ensures) in
+    subst (λ n. AreBelow n c.open_end.new.s.links) (c.in_ok-turned.ensures.faces ∙ sym face_is) c.in_ok-turned.ensures.free
+
+pub open_other-requires-clause-rising : goal.open_other-requires-clause-rising
+open_other-requires-clause-rising g c = omega (arith, c.in_ok-other.ensures)
+
+pub open_other-requires-clause-placed : goal.open_other-requires-clause-placed
+open_other-requires-clause-placed g c =
+    let face_is : c.in_ok-face.face ≡ length c.args.s.now.faces + 1 = c.in_ok-face.ensures ∙ ap (λ n. n + 1) (c.len.ensures ∙ ap length c.places.ensures) in
+    omega (arith, c.in_ok-turned.ensures.faces, face_is, c.in_ok-other.ensures)
+
+pub undo_opening-requires : goal.undo_opening-requires
+undo_opening-requires g c = subst (λ (t : Fabric _). AreBelow (length t.faces) t.links) (sym c.in-Err.ensures.err) c.in_ok-turned.ensures.free
 
 pub returns-in-Ok-clause-says : goal.returns-in-Ok-clause-says
 returns-in-Ok-clause-says g c =
@@ -48,7 +65,7 @@ returns-in-Ok-clause-does g c =
     let ends = s.waiting ++ (length s.faces + 1, []) ∷ [] in
     let member = some_known one s c.requires.there_one in
     let links : u.links ≡ s.links = opening_links cmp matching total (call_at t two back) t ∙ opening_links cmp matching total (call_at s one forth) s in
-    let face_is : face ≡ length s.faces + 1 = c.in_ok-face.ensures ∙ ap (λ places. length places + 1) c.places.ensures in
+    let face_is : face ≡ length s.faces + 1 = c.in_ok-face.ensures ∙ ap (λ n. n + 1) (c.len.ensures ∙ ap length c.places.ensures) in
     c.in-Ok.ensures.does
     ∙ ap (λ (x : Fabric _). joined face other ms (opened_end cmp matching two back x)) c.in_ok-turned.ensures.does
     ∙ ap (λ (x : Fabric _). joined face other ms (record x { waiting = ends ++ (length t.faces + 1, []) ∷ [] })) (opening_waits_does cmp matching two back ends t)

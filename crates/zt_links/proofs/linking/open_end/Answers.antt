@@ -1,9 +1,11 @@
-use Rattle.std.proofs.Common.{◌≡◌, ◌<◌, ◌+◌, ◌++◌, [], ◌∷◌, None, Some, is_none, length, ap, sym, ◌∙◌}
+use Rattle.std.proofs.Common.{◌≡◌, ◌<◌, ◌+◌, ◌++◌, [], ◌∷◌, None, is_none, length, ap, subst, sym, ◌∙◌}
+use Rattle.std.proofs.lemmas.List.{length-append}
 use Rattle.std.proofs.lemmas.Bool.{false≢true}
 use Rattle.zt_protocol.specs.Plain.{plain_call}
 use Rattle.zt_model.specs.Fabric.{Fabric, call_at, said_at, with_place, with_rows}
 use Rattle.zt_model.specs.Lists.{nth}
 use Rattle.zt_laws.specs.Sound.{rows_after_call}
+use Rattle.zt_places.specs.Found.{AreBelow}
 use Rattle.zt_links.specs.Lines.{without_last_place}
 use Rattle.zt_links.proofs.Carried.{placed_next, said_opened}
 use Rattle.zt_links.proofs.Members.{member_there}
@@ -48,6 +50,21 @@ returns-in-Ok-clause-does g c =
     c.in-Ok.ensures.does
     ∙ ap (with_rows n (rows_after_call cmp matching call)) placed
     ∙ ap (λ (t : Fabric _). record t { waiting = ends }) (end_turned cmp matching g.met.K.Ord.total n item.result call s there c.requires.opens c.requires.order)
+
+pub returns-in-Ok-clause-links : goal.returns-in-Ok-clause-links
+returns-in-Ok-clause-links g c = ap (λ (t : Fabric _). t.links) c.in-Ok.ensures.does ∙ ap (λ (t : Fabric _). t.links) c.in_ok-push_end.ensures.ok
+
+pub returns-in-Ok-clause-faces : goal.returns-in-Ok-clause-faces
+returns-in-Ok-clause-faces g c =
+    ap (λ (t : Fabric _). length t.faces) c.in-Ok.ensures.does
+    ∙ ap (λ (t : Fabric _). length t.faces) c.in_ok-push_end.ensures.ok
+    ∙ length-append c.args.s.now.faces (record { gateway = c.args.gateway; face = c.in_ok-face.face } ∷ [])
+
+pub returns-in-Ok-clause-free : goal.returns-in-Ok-clause-free
+returns-in-Ok-clause-free g c = subst (λ (t : Fabric _). AreBelow (length t.faces) t.links) (sym c.in-Ok.ensures.does) c.in_ok-push_end.ensures.free
+
+pub pop_place-requires : goal.pop_place-requires
+pop_place-requires g c = subst (λ (t : Fabric _). AreBelow (length t.faces) t.links) (sym c.in-Err.ensures.err) c.in_ok-push_end.ensures.free
 
 pub returns-in-Ok-clause-back : goal.returns-in-Ok-clause-back
 returns-in-Ok-clause-back g c = ap without_last_place c.in-Ok.ensures.back ∙ c.in_ok-push_end.ensures.back

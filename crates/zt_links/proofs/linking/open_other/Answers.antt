@@ -1,7 +1,17 @@
-use Rattle.std.proofs.Common.{◌++◌, ap, ◌∙◌}
-use Rattle.zt_model.specs.Fabric.{sorted_by_face}
+use Rattle.std.proofs.Common.{◌++◌, length, ap, arith, subst, sym, ◌∙◌}
+use Rattle.zt_model.specs.Fabric.{Fabric, sorted_by_face}
+use Rattle.zt_places.specs.Found.{AreBelow}
 use Rattle.zt_links.specs.Lines.{joined, undone, without_last_place}
 use Rattle.zt_links.proofs.linking.open_other.Goals as goal
+
+pub join-requires-clause-below : goal.join-requires-clause-below
+join-requires-clause-below g c = subst (AreBelow c.args.face) (sym c.in_ok-turned.ensures.links) c.requires.below
+
+pub join-requires-clause-placed : goal.join-requires-clause-placed
+join-requires-clause-placed g c = omega (arith, c.in_ok-turned.ensures.faces, c.requires.placed)
+
+pub undo_opening-requires : goal.undo_opening-requires
+undo_opening-requires g c = subst (λ (t : Fabric _). AreBelow (length t.faces) t.links) (sym c.in-Err.ensures.err) c.in_ok-turned.ensures.free
 
 pub returns-in-Ok-clause-says : goal.returns-in-Ok-clause-says
 returns-in-Ok-clause-says g c = c.in-Ok.ensures.says ∙ ap (λ xs. sorted_by_face (c.args.first.items ++ xs)) c.in_ok-turned.ensures.says

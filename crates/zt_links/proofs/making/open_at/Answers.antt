@@ -1,5 +1,7 @@
-use Rattle.std.proofs.Common.{◌+◌, None, ap, ◌∙◌}
+use Rattle.std.proofs.Common.{◌+◌, None, length, ap, subst, sym, ◌∙◌}
 use Rattle.zt_protocol.specs.Plain.{plain_call}
+use Rattle.zt_model.specs.Fabric.{Fabric}
+use Rattle.zt_places.specs.Found.{AreBelow}
 use Rattle.zt_links.specs.Lines.{carried, said_sorted, without_last_place}
 use Rattle.zt_links.proofs.Carried.{placed_next}
 use Rattle.zt_links.proofs.Members.{member_there}
@@ -20,6 +22,9 @@ returns-in-Ok-clause-does g c =
     let there = member_there c.args.gateway c.args.at s.gateways c.gateways.result.now item.result c.requires.counted c.gateways.ensures c.requires.within item.is in
     let placed = placed_next c.args.gateway item.result s c.in_ok-face.face there (c.in_ok-face.ensures ∙ ap (λ rows. rows.made + 1) c.rows.ensures) in
     c.in-Ok.ensures.does ∙ ap (carried g.K.Ord.cmp g.K.Key.matching None c.args.gateway (plain_call c.args.call.now)) (c.in_ok-push_place.ensures.ok ∙ placed)
+
+pub pop_place-requires : goal.pop_place-requires
+pop_place-requires g c = subst (λ (t : Fabric _). AreBelow (length t.faces) t.links) (sym c.in-Err.ensures.err) c.in_ok-push_place.ensures.free
 
 pub returns-in-Err-clause-err : goal.returns-in-Err-clause-err
 returns-in-Err-clause-err g c = c.pop_place.ensures ∙ ap without_last_place c.in-Err.ensures.err ∙ c.in_ok-push_place.ensures.back

@@ -1,4 +1,4 @@
-use Rattle.std.proofs.Common.{◌≡◌, ◌<◌, length, set, arith, ap, refl, ◌∙◌}
+use Rattle.std.proofs.Common.{◌<◌, length, set, arith, ap, refl, ◌∙◌}
 use Rattle.std.proofs.lemmas.List.{set-get_or}
 use Rattle.std.proofs.lemmas.Result.{IfOk-weaker}
 use Rattle.zt_protocol.specs.Plain.{plain_call}

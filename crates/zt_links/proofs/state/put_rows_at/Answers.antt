@@ -1,6 +1,7 @@
 use Rattle.std.proofs.Common.{◌≡◌, ◌<◌, Some, length, arith, ap, sym, ◌∙◌}
 use Rattle.zt_model.specs.Fabric.{Node}
-use Rattle.zt_links.proofs.Members.{nth_at, set_at}
+use Rattle.zt_places.proofs.Members.{set_at}
+use Rattle.zt_links.proofs.Members.{nth_at}
 use Rattle.zt_links.proofs.state.put_rows_at.Goals as goal
 
 pub returns-clause-put : goal.returns-clause-put

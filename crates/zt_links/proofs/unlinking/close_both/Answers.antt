@@ -1,4 +1,4 @@
-use Rattle.std.proofs.Common.{◌≡◌, ◌+◌, ◌++◌, [], ◌∷◌, None, false, List, ap, sym, subst, ◌∙◌, map}
+use Rattle.std.proofs.Common.{◌≡◌, ◌+◌, ◌++◌, None, false, List, ap, sym, subst, ◌∙◌, map}
 use Rattle.zt_model.specs.Fabric.{Fabric, after_closing, at_nth, closing_call, said_at, sorted_by_face}
 use Rattle.zt_model.specs.Lists.{without_id}
 use Rattle.zt_model.specs.Places.{Link}

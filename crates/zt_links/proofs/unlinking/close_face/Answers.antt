@@ -1,6 +1,6 @@
 use Rattle.std.proofs.Common.{◌≡◌, None, Some, ap, sym, ◌∙◌}
 use Rattle.zt_protocol.specs.Plain.{CloseFace}
-use Rattle.zt_model.specs.Fabric.{Place, with_rows}
+use Rattle.zt_model.specs.Fabric.{with_rows}
 use Rattle.zt_model.specs.Lists.{nth}
 use Rattle.zt_laws.specs.Sound.{rows_after_call}
 use Rattle.zt_links.proofs.Carried.{on_ok}
@@ -9,7 +9,7 @@ use Rattle.zt_links.proofs.unlinking.close_face.Goals as goal
 
 pub returns-in_default-clause-does : goal.returns-in_default-clause-does
 returns-in_default-clause-does g c =
-    let none : nth c.args.face c.args.s.now.faces ≡ None = rw c.places.ensures at (sym c.in_default.ensures) in
+    let none : nth c.args.face c.args.s.now.faces ≡ None = sym c.in_default.ensures in
     closed_nowhere g.K.Ord.cmp g.K.Key.matching g.met.K.Ord.total c.args.face c.args.s.now none
 
 pub returns-clause-does : goal.returns-clause-does
@@ -18,7 +18,11 @@ returns-clause-does g c =
     let matching = g.K.Key.matching in
     let s = c.args.s.now in
     let p = c.in-Some.place.now in
-    let there : nth c.args.face s.faces ≡ Some p = rw c.places.ensures at (sym c.in-Some.ensures) in
+    let there : nth c.args.face s.faces ≡ Some p = sym c.in-Some.ensures in
     on_ok c.hear_call.result _ _
-    (λ does. does ∙ ap (λ (p : Place). with_rows p.gateway (rows_after_call cmp matching (CloseFace p.face)) s) c.place.view_is ∙ face_closed cmp matching g.met.K.Ord.total c.args.face p s there c.requires)
+    (λ does.
+    does
+    ∙ ap (λ n. with_rows n (rows_after_call cmp matching (CloseFace c.face.result)) s) c.gateway-gateway.ensures
+    ∙ ap (λ n. with_rows p.gateway (rows_after_call cmp matching (CloseFace n)) s) c.face.ensures
+    ∙ face_closed cmp matching g.met.K.Ord.total c.args.face p s there c.requires)
     c.hear_call.ensures.does

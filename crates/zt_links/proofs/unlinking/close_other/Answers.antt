@@ -1,4 +1,4 @@
-use Rattle.std.proofs.Common.{◌≡◌, ◌++◌, ap, sym, ◌∙◌}
+use Rattle.std.proofs.Common.{◌≡◌, ◌++◌, ap, ◌∙◌}
 use Rattle.zt_model.specs.Fabric.{Fabric, sorted_by_face}
 use Rattle.zt_links.specs.Lines.{for_others, parted, undone}
 use Rattle.zt_links.proofs.Closings.{closing_links}

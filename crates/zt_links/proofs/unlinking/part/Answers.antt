@@ -1,4 +1,4 @@
-use Rattle.std.proofs.Common.{◌≡◌, ◌+◌, ◌++◌, false, ap, sym, ◌∙◌}
+use Rattle.std.proofs.Common.{◌+◌, ◌++◌, false, ap, ◌∙◌}
 use Rattle.zt_model.specs.Fabric.{Fabric, at_nth, sorted_by_face}
 use Rattle.zt_model.specs.Lists.{without_id}
 use Rattle.zt_queues.specs.Waiting.{with_printed}

@@ -1,10 +1,13 @@
-use Rattle.std.proofs.Common.{◌≡◌, drop, filter, map}
+use Rattle.std.proofs.Common.{◌≡◌, []}
 use Rattle.zt_protocol.specs.Plain.{trees_of}
-use Rattle.zt_model.specs.Lists.{in_key_order}
-use Rattle.zt_model.specs.Trees.{is_left_out}
+use Rattle.zt_routed.specs.Routed.{rows_in}
+use Rattle.zt_routers.specs.LeftOut.{exprs_left_out}
+use Rattle.zt_tokens.specs.Gathered.{with_keys}
 use Rattle.zt_routers.proofs.ordering.left_out.Given as goal
 
--- the expressions of the rows from the place on are in order
-abbrev pub invariant-loop-place : goal.invariant-loop-place
-invariant-loop-place g l =
-    l.exprs ≡ in_key_order g.K.Ord.cmp (map (λ row. row.expr) (filter (is_left_out g.K.Ord.cmp l.region (trees_of l.table)) (drop l.place l.rows)))
+-- with the keys of those left, from the last on, all are in their places
+abbrev pub invariant-loop-origin : goal.invariant-loop-origin
+invariant-loop-origin g l =
+    let cmp = g.K.Ord.cmp in
+    let t = trees_of l.table in
+    with_keys cmp (exprs_left_out cmp l.region t (rows_in l.origin-iterator.iter)) l.exprs ≡ with_keys cmp (exprs_left_out cmp l.region t l.g.routed) []

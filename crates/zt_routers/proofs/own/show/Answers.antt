@@ -15,14 +15,11 @@ loop-f-preserved g c =
     let rule = show_to g.K.Ord.cmp c.args.g.now c.args.source c.args.expr.now in
     let faces = c.faces-f-items.result.now in
     let within : c.loop-f.f-index < length faces = omega arith in
-    record {
-      sent = to_each_more rule faces c.loop-f.f-index c.f-item.result c.loop-f.sends.items _ _ within c.f-item.is c.loop-f.invariant.sent c.in_ok-show_to.ensures.sends;
-      last = c.in_ok-show_to.ensures.last;
-    }
+    to_each_more rule faces c.loop-f.f-index c.f-item.result c.loop-f.sends.items _ _ within c.f-item.is c.loop-f.invariant c.in_ok-show_to.ensures
 
 pub returns : goal.returns
 returns g c =
     let rule = show_to g.K.Ord.cmp c.args.g.now c.args.source c.args.expr.now in
     let faces = c.faces-f-items.result.now in
     let past : length faces ≤ c.loop-f.f-index = omega arith in
-    to_each_done rule faces c.loop-f.f-index c.loop-f.sends.items _ past c.loop-f.invariant.sent ∙ ap (to_each rule) c.faces-f-items.ensures
+    to_each_done rule faces c.loop-f.f-index c.loop-f.sends.items _ past c.loop-f.invariant ∙ ap (to_each rule) c.faces-f-items.ensures

@@ -1,14 +1,10 @@
 use Rattle.std.proofs.Common.{◌≡◌, ◌++◌, drop}
 use Rattle.zt_model.specs.Parts.{to_each}
 use Rattle.zt_model.specs.Trees.{show_to}
-use Rattle.zt_routers.specs.Shown.{IsShownAsSaid}
 use Rattle.zt_routers.proofs.own.show.Given as goal
 
 -- what is sent so far, and to the faces left, is all
 abbrev pub invariant-loop-f : goal.invariant-loop-f
 invariant-loop-f g l =
     let rule = show_to g.K.Ord.cmp l.g l.source l.expr in
-    record {
-      sent : l.sends.items ++ to_each rule (drop l.f-index l.f-items) ≡ to_each rule l.f-items;
-      last : IsShownAsSaid g.K.Ord.cmp l.g l.source l.expr l.last;
-    }
+    l.sends.items ++ to_each rule (drop l.f-index l.f-items) ≡ to_each rule l.f-items

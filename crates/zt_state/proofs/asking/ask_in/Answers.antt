@@ -19,6 +19,6 @@ returns-clause-seekers g c =
     let fs = c.args.faces.now in
     on_ok_weaker c.add.result
     (λ (made : c.add.new.self ≡ map (λ (x : Face g.row.K.Denot). if c.args.face == x.number then change x else x) fs).
-    subst (AreSeekers g.K.Key.anchored c.hold.new.self) (sym made)
-    (sought-changed g.K.Key.anchored c.args.face c.in-Some.f.now fs c.in-Some.ensures.rising (sym c.in-Some.ensures.found) c.args.seekers.now c.hold.new.self c.requires change (c.in_ok-hold.ensures c.args.pendings.now)))
+    subst (AreSeekers g.K.Ord.cmp g.K.Key.anchored c.hold.new.self) (sym made)
+    (sought-changed g.K.Ord.cmp g.K.Key.anchored c.args.face c.in-Some.f.now fs c.in-Some.ensures.rising (sym c.in-Some.ensures.found) c.args.seekers.now c.hold.new.self c.requires change (c.in_ok-hold.ensures c.args.pendings.now)))
     c.add.ensures.ok

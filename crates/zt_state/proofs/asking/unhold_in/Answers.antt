@@ -14,4 +14,4 @@ returns-in_default-clause-faces g c =
 pub returns-clause-seekers : goal.returns-clause-seekers
 returns-clause-seekers g c =
     rw c.change.ensures
-    (sought-changed g.K.Key.anchored c.args.face c.in-Some.f.now c.args.faces.now c.in-Some.ensures.rising (sym c.in-Some.ensures.found) c.args.seekers.now c.unhold.new.self c.requires (unheld c.args.id) c.unhold.ensures)
+    (sought-changed g.K.Ord.cmp g.K.Key.anchored c.args.face c.in-Some.f.now c.args.faces.now c.in-Some.ensures.rising (sym c.in-Some.ensures.found) c.args.seekers.now c.unhold.new.self c.requires (unheld c.args.id) c.unhold.ensures)

@@ -10,7 +10,7 @@ returns-in-Some-clause-ok g c =
     let at = rw c.as_slice.ensures.value at c.in-Some.ensures.found in
     let f = some-of faces c.in-Some.place at.within in
     on_ok_weaker c.add_at.result
-    (λ made. made f ∙ sym (place-changed (λ (x : Face g.row.K.Denot). x.number) c.args.number (g.C.FaceAddition.added c.args.addition.now) faces c.in-Some.place f c.requires at.within (at.there f)))
+    (λ made. made f ∙ sym (place-changed (λ (x : Face g.row.K.Denot). x.number) c.args.number (g.C.FaceAddition.added c.args.addition.now) faces c.in-Some.place f c.requires.rising at.within (at.there f)))
     c.add_at.ensures.ok
 
 pub returns-in-None-clause-ok : goal.returns-in-None-clause-ok

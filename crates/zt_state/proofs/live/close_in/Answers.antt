@@ -18,4 +18,4 @@ returns-clause-counts g c =
 pub returns-clause-seekers : goal.returns-clause-seekers
 returns-clause-seekers g c =
     rw c.remove.ensures
-    (sought-closed g.K.Key.anchored c.args.face c.in-Some.f.now c.args.faces.now c.in-Some.ensures.rising (sym c.in-Some.ensures.found) c.args.seekers.now c.close.new.self c.requires c.close.ensures)
+    (sought-closed g.K.Ord.cmp g.K.Key.anchored c.args.face c.in-Some.f.now c.args.faces.now c.in-Some.ensures.rising (sym c.in-Some.ensures.found) c.args.seekers.now c.close.new.self c.requires c.close.ensures)

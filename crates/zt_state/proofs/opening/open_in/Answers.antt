@@ -8,6 +8,6 @@ pub returns-clause-seekers : goal.returns-clause-seekers
 returns-clause-seekers g c =
     on_ok_weaker c.push.result
     (λ (made : c.push.new.self ≡ c.args.faces.now ++ c.args.face ∷ []).
-    subst (AreSeekers g.K.Key.anchored c.open.new.self) (sym made)
-    (rw c.in_ok-open.ensures.ok (seekers-opened g.K.Key.anchored c.args.face c.requires.holds c.args.seekers.now c.args.faces.now c.requires.seekers)))
+    subst (AreSeekers g.K.Ord.cmp g.K.Key.anchored c.open.new.self) (sym made)
+    (rw c.in_ok-open.ensures.ok (seekers-opened g.K.Ord.cmp g.K.Key.anchored c.args.face c.requires.holds c.requires.told c.args.seekers.now c.args.faces.now c.requires.seekers)))
     c.push.ensures.ok

@@ -1,19 +1,24 @@
-use Rattle.std.proofs.Common.{◌≤◌, ◌<◌, ap, length, arith, ◌∙◌}
-use Rattle.zt_model.specs.Parts.{to_each}
+use Rattle.std.proofs.Common.{ap, flat_map, ◌∙◌}
+use Rattle.std.proofs.lemmas.Result.{IfOk-weaker}
 use Rattle.zt_model.specs.Telling.{forget_to}
-use Rattle.zt_state.proofs.Walks.{to_each_done, to_each_more}
+use Rattle.zt_model.specs.Wants.{seeks}
+use Rattle.zt_tokens.specs.Walks.{given_at, sent_to}
+use Rattle.zt_tokens.proofs.Chosen.{chosen_among}
+use Rattle.zt_tokens.proofs.Unheard.{others-unheard}
 use Rattle.zt_tokens.proofs.forgetting.forget.Goals as goal
 
-pub loop-f-preserved : goal.loop-f-preserved
-loop-f-preserved g c =
-    let rule = forget_to g.K.Ord.cmp g.K.Key.matching c.args.g.now c.args.source c.args.expr.now in
-    let faces = c.faces-f-items.result.now in
-    let within : c.loop-f.f-index < length faces = omega arith in
-    to_each_more rule faces c.loop-f.f-index c.f-item.result c.loop-f.sends.items _ _ within c.f-item.is c.loop-f.invariant c.in_ok-forget_to.ensures
-
-pub returns : goal.returns
-returns g c =
-    let rule = forget_to g.K.Ord.cmp g.K.Key.matching c.args.g.now c.args.source c.args.expr.now in
-    let faces = c.faces-f-items.result.now in
-    let past : length faces ≤ c.loop-f.f-index = omega arith in
-    to_each_done rule faces c.loop-f.f-index c.loop-f.sends.items _ past c.loop-f.invariant ∙ ap (to_each rule) c.faces-f-items.ensures
+pub returns-in-Some : goal.returns-in-Some
+returns-in-Some g c =
+    let cmp = g.K.Ord.cmp in
+    let matching = g.K.Key.matching in
+    let e = c.args.expr.now in
+    let rows = c.args.g.now in
+    let rule = forget_to cmp matching rows c.args.source e in
+    let found = rw c.in-Some.is at c.in_ok-numbers.ensures.found in
+    let rising = c.in_ok-numbers.ensures.rising in
+    IfOk-weaker c.say_at.result _ _
+    (λ sends given.
+    given
+    ∙ ap (flat_map (given_at (sent_to rule) rows.faces)) (c.deref-in-Some.ensures.value ∙ found)
+    ∙ chosen_among rule rows.faces (λ f. seeks matching f e) rising (others-unheard cmp e matching rows c.args.source _ rising (c.deref.ensures.value ∙ found) (c.are_all_kept.ensures c.if-are_all_kept.true)))
+    c.say_at.ensures

@@ -3,10 +3,13 @@ use Rattle.zt_links.proofs.Carried.{on_ok}
 use Rattle.zt_links.proofs.Placed.{turned_waits}
 use Rattle.zt_links.proofs.state.FabricState.turn_waiting.Goals as goal
 
+pub invariant_of-self : goal.invariant_of-self
+invariant_of-self g c = record { beside = c.take_and_add.ensures.places ∙ c.self.invariant.beside; placed = c.self.invariant.placed }
+
 pub returns-clause-ok : goal.returns-clause-ok
 returns-clause-ok g c =
     let i = c.self.inside in
     rw (← c.self.view_is)
     (on_ok c.take_and_add.result _ _
-    (λ waits. turned_waits c.args.taken c.args.sent.now i.gateways.items i.places.items i.links.items i.queues c.take_and_add.new.self waits)
+    (λ waits. turned_waits c.args.taken c.args.sent.now i.gateways.items i.places i.links i.queues c.take_and_add.new.self waits)
     c.take_and_add.ensures.ok)

@@ -13,5 +13,5 @@ returns g c =
     (λ numbers holders fs rising are.
     let there = rw (← c.self.view_is) at are in
     let are_holders = holders (flat_map token_rows fs) there.index in
-    seekers-found g.K.Key.anchored g.K.Key.matching c.args.expr.now _ numbers.items fs rising there are_holders.in_order (rw c.deref.ensures.value at are_holders.among)))
+    seekers-found g.K.Ord.cmp g.K.Key.anchored g.K.Key.matching c.args.expr.now _ numbers.items fs rising there are_holders.in_order (rw c.deref.ensures.value at are_holders.among)))
     c.holders_and.ensures

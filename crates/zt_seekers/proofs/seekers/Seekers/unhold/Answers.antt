@@ -3,4 +3,4 @@ use Rattle.zt_seekers.proofs.Changed.{seekers-unheld}
 use Rattle.zt_seekers.proofs.seekers.Seekers.unhold.Goals as goal
 
 pub returns : goal.returns
-returns g c = rw (← c.self.view_is) (seekers-unheld g.K.Key.anchored c.args.f.now c.args.id _ _ refl c.drop_held.ensures.drops)
+returns g c = rw (← c.self.view_is) (seekers-unheld g.K.Ord.cmp g.K.Key.anchored c.args.f.now c.args.id _ _ refl refl c.drop_held.ensures.drops)

@@ -1,5 +1,6 @@
 use Rattle.std.proofs.Common.{◌≡◌, ℕ, List, [], ◌∷◌, ◌++◌, Option, Ok, ap, map, subst, sym, ◌∙◌}
 use Rattle.std.proofs.lemmas.List.{map-append}
+use Rattle.std.proofs.lemmas.Result.{err_from_is_err_and}
 use Rattle.zt_gateway.specs.Running.{Running, by_face, planned, sent_alone}
 use Rattle.zt_model.specs.Journal.{Journalled, outcome_of}
 use Rattle.zt_model.specs.Says.{said}
@@ -15,6 +16,11 @@ returns-in_err-reserve-clause-err g c =
     let K = g.row.K.Denot in
     let behind : List (JournalEntry K) → Recorded K = λ es. record { opening = c.self.inside.opening; gateway = c.self.inside.gateway; entries = map journalled es } in
     on_err c.from_residual-in_err-reserve.result (ap behind c.in_err-reserve.ensures.items ∙ c.self.view_is)
+
+pub returns-in_err-reserve-clause-done : goal.returns-in_err-reserve-clause-done
+returns-in_err-reserve-clause-done g c =
+    let failed = err_from_is_err_and c.from_residual-in_err-reserve.result c.from_residual-in_err-reserve.ensures.1 in
+    rw failed.1 tt
 
 -- what the gateway and its journal are then
 after : goal.returns-clause-done

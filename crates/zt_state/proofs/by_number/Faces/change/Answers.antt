@@ -1,8 +1,15 @@
 use Rattle.zt_model.specs.Rows.{Face}
+use Rattle.zt_state.proofs.Highest.{up-to-changed}
 use Rattle.zt_state.proofs.Rising.{changed-rising}
 use Rattle.zt_state.proofs.by_number.Faces.change.Goals as goal
 
 pub invariant_of-self : goal.invariant_of-self
 invariant_of-self g c =
-    rw c.change_in.ensures
-    (changed-rising (λ (x : Face g.row.K.Denot). x.number) c.args.number (g.C.FaceChange.changed c.args.change.now) (g.met.C.FaceChange.keeps_number c.args.change.now) c.self.inside.faces.items c.self.invariant)
+    let number = λ (x : Face g.row.K.Denot). x.number in
+    let next = λ (x : Face g.row.K.Denot). x.next in
+    let change = g.C.FaceChange.changed c.args.change.now in
+    let s = c.self.inside in
+    rw c.change_in.ensures (
+      changed-rising number c.args.number change (g.met.C.FaceChange.keeps_number c.args.change.now) s.faces.items c.self.invariant.0,
+      up-to-changed next number c.args.number s.highest_next change (g.met.C.FaceChange.keeps_next c.args.change.now) s.faces.items c.self.invariant.1,
+    )

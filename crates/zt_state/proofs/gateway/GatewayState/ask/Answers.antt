@@ -11,7 +11,7 @@ invariant_of-self g c =
     let s = c.self.inside in
     let made = c.in-Ok.ensures in
     rw made.faces
-    (indexed-held g.K.Ord.cmp g.K.Key.anchored s.zid s.made s.routed.items s.faces s.live s.seekers c.self.invariant c.args.face (asked_as c.args.pendings.now c.args.id c.args.interest.now) c.ask_in.new.seekers
+    (indexed-held g.K.Ord.cmp g.K.Key.anchored s.zid s.made s.routed s.faces s.live s.seekers c.self.invariant c.args.face (asked_as c.args.pendings.now c.args.id c.args.interest.now) c.ask_in.new.seekers
     (λ f. record { number = refl; region = refl; live = refl }) (rw made.faces at made.seekers))
 
 pub invariant_of-self-in-Err : goal.invariant_of-self-in-Err

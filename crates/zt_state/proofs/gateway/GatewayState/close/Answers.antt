@@ -8,4 +8,4 @@ pub invariant_of-self : goal.invariant_of-self
 invariant_of-self g c =
     let s = c.self.inside in
     let made = c.close_in.ensures in
-    rw made.faces (indexed-closed g.K.Ord.cmp g.K.Key.anchored s.zid s.made s.routed.items s.faces s.live s.seekers c.self.invariant c.args.face c.close_in.new.live c.close_in.new.seekers (rw made.faces at made.counts) (rw made.faces at made.seekers))
+    rw made.faces (indexed-closed g.K.Ord.cmp g.K.Key.anchored s.zid s.made s.routed s.faces s.live s.seekers c.self.invariant c.args.face c.close_in.new.live c.close_in.new.seekers (rw made.faces at made.counts) (rw made.faces at made.seekers))

@@ -4,4 +4,4 @@ use Rattle.zt_state.proofs.gateway.GatewayState.drop_left_out.Goals as goal
 pub invariant_of-self : goal.invariant_of-self
 invariant_of-self g c =
     let s = c.self.inside in
-    indexed-routed g.K.Ord.cmp g.K.Key.anchored s.zid s.made s.routed.items s.faces s.live s.seekers c.self.invariant c.drop_rows.new.rows.items c.drop_rows.new.live c.drop_rows.ensures.counts
+    indexed-routed g.K.Ord.cmp g.K.Key.anchored s.zid s.made s.routed s.faces s.live s.seekers c.self.invariant c.drop_rows_left_out.new.routed c.drop_rows_left_out.new.live c.drop_rows_left_out.ensures.counts

@@ -11,7 +11,7 @@ invariant_of-self g c =
     let made = c.in-Ok.ensures in
     let next : c.args.face.number ≡ s.made + 1 = rw (← c.self.view_is) at c.requires.next in
     rw made.faces
-    (indexed-opened g.K.Ord.cmp g.K.Key.anchored s.zid s.made s.routed.items s.faces s.live s.seekers c.self.invariant c.args.face c.open_in.new.seekers next c.requires.declares (rw made.faces at made.seekers))
+    (indexed-opened g.K.Ord.cmp g.K.Key.anchored s.zid s.made s.routed s.faces s.live s.seekers c.self.invariant c.args.face c.open_in.new.seekers next c.requires.declares (rw made.faces at made.seekers))
 
 pub invariant_of-self-in-Err : goal.invariant_of-self-in-Err
 invariant_of-self-in-Err g c =

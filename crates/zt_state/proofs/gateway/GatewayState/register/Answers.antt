@@ -11,7 +11,7 @@ invariant_of-self g c =
     let s = c.self.inside in
     let change = registered c.args.id c.args.expr.now in
     let made = c.in-Ok.ensures in
-    rw made.faces (indexed-changed g.K.Ord.cmp g.K.Key.anchored s.zid s.made s.routed.items s.faces s.live s.seekers c.self.invariant c.args.face change c.register_in.new.live (λ f. refl) (λ f. refl) (λ f. refl) (registered-order c.args.id c.args.expr.now) (rw made.faces at made.counts))
+    rw made.faces (indexed-changed g.K.Ord.cmp g.K.Key.anchored s.zid s.made s.routed s.faces s.live s.seekers c.self.invariant c.args.face change c.register_in.new.live (λ f. refl) (λ f. refl) (λ f. refl) (λ f. refl) (registered-order c.args.id c.args.expr.now) (rw made.faces at made.counts))
 
 pub invariant_of-self-in-Err : goal.invariant_of-self-in-Err
 invariant_of-self-in-Err g c =

@@ -11,5 +11,5 @@ invariant_of-self g c =
     let s = c.self.inside in
     let made = c.unhold_in.ensures in
     rw made.faces
-    (indexed-held g.K.Ord.cmp g.K.Key.anchored s.zid s.made s.routed.items s.faces s.live s.seekers c.self.invariant c.args.face (unheld c.args.id) c.unhold_in.new.seekers
+    (indexed-held g.K.Ord.cmp g.K.Key.anchored s.zid s.made s.routed s.faces s.live s.seekers c.self.invariant c.args.face (unheld c.args.id) c.unhold_in.new.seekers
     (λ f. record { number = refl; region = refl; live = refl }) (rw made.faces at made.seekers))

@@ -10,4 +10,4 @@ pub invariant_of-self : goal.invariant_of-self
 invariant_of-self g c =
     let s = c.self.inside in
     let made = c.unregister_in.ensures in
-    rw made.faces (indexed-changed g.K.Ord.cmp g.K.Key.anchored s.zid s.made s.routed.items s.faces s.live s.seekers c.self.invariant c.args.face (unregistered c.args.id) c.unregister_in.new.live (λ f. refl) (λ f. refl) (λ f. refl) (unregistered-order c.args.id) (rw made.faces at made.counts))
+    rw made.faces (indexed-changed g.K.Ord.cmp g.K.Key.anchored s.zid s.made s.routed s.faces s.live s.seekers c.self.invariant c.args.face (unregistered c.args.id) c.unregister_in.new.live (λ f. refl) (λ f. refl) (λ f. refl) (λ f. refl) (unregistered-order c.args.id) (rw made.faces at made.counts))

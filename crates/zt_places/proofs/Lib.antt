@@ -1,0 +1,3 @@
+mod Ends
+pub mod Members
+mod Numbers

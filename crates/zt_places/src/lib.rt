@@ -1,0 +1,9 @@
+//! The places of faces and the links between them: the number of a face in scripts, and the open link
+//! that a face ends, are looked up.
+#![tactic(auto)]
+
+mod links;
+mod places;
+
+pub use links::{LinkState, Links};
+pub use places::{PlaceState, Places};

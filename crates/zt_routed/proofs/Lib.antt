@@ -1,0 +1,5 @@
+pub mod Entries
+pub mod Flat
+pub mod More
+pub mod Origins
+pub mod Regions

@@ -1,0 +1,11 @@
+use Rattle.zt_face.specs.Told.{AreApart}
+use Rattle.zt_seekers.specs.Told.{counted}
+use Rattle.zt_seekers.proofs.Retold.{LeavesCounted}
+use Rattle.zt_seekers.proofs.hearing.untell_all.Given as goal
+
+-- the rows that are left are counted still
+abbrev pub invariant-loop-expr : goal.invariant-loop-expr
+invariant-loop-expr g l = record {
+  apart : AreApart g.K.Ord.cmp l.f.told;
+  counts : LeavesCounted g.K.Ord.cmp l.f.told l.expr-iterator (counted g.K.Ord.cmp l.fn.told) (counted g.K.Ord.cmp l.told);
+}
