@@ -1,6 +1,7 @@
-//! `zt` reads a script from standard input and prints its transcript: for each line its refusal by name
-//! or every message that the gateways send, then three totals. With the words `make N` it carries out a script of
-//! its own instead, in which N sessions come and go, and prints the totals alone.
+//! `zt` reads a script from standard input and prints its transcript: for each line its refusal by
+//! name or every message that the gateways send, then three totals. With the words `make N` it
+//! carries out a script of its own instead, in which N sessions come and go, and prints the totals
+//! alone.
 #![tactic(auto)]
 
 use std::env;

@@ -1,5 +1,5 @@
-//! What asks get, whatever is called: theorems over the definitions of `zt_model`, each the contract of a function that
-//! does nothing.
+//! What asks get, whatever is called: theorems over the definitions of `zt_model`, each the
+//! contract of a function that does nothing.
 #![tactic(auto)]
 
 ghost use Rattle.std.specs.Prelude.{◌≡◌, ℕ, List, Option, Some};
@@ -18,8 +18,8 @@ ghost use Rattle.zt_laws.specs.Sound.{HasFirstIds};
 
 use zt_keys::Key;
 
-/// An interest is answered in its own call: where it asks for what is there now and for tokens, exactly the matching
-/// expressions visible to its face, in key order, each once; else nothing.
+/// An interest is answered in its own call: where it asks for what is there now and for tokens,
+/// exactly the matching expressions visible to its face, in key order, each once; else nothing.
 pub fn interests_are_answered_at_once<K: Key>()
     ensures { (n id : ℕ) (mode : InterestMode) (options : InterestOptions) (e : Option K)
         (f : Face K) (g : Rows K)
@@ -29,9 +29,9 @@ pub fn interests_are_answered_at_once<K: Key>()
         (row_of K.cmp K.matching f mode options e) f }
 {}
 
-/// So the asks of each turn of the machine's transcript are answered. An ask for tokens is
-/// answered in its own entry exactly the matching expressions visible to its face. Later it is answered an expression
-/// only where that is declared under one of its pendings, and then it is, once.
+/// So the asks of each turn of the machine's transcript are answered. An ask for tokens is answered
+/// in its own entry exactly the matching expressions visible to its face. Later it is answered an
+/// expression only where that is declared under one of its pendings, and then it is, once.
 pub fn turns_answer_asks<K: Key>()
     ensures { (lines : List (PlainLine K)) (s : Fabric K) → Each HasFirstIds lines
         → FabricIsInOrder K.cmp K.matching s

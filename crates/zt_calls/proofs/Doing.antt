@@ -11,11 +11,13 @@ use Rattle.zt_kept.specs.Ran.{ran}
 use Rattle.zt_model.specs.Hearing.{rows_heard}
 use Rattle.zt_model.specs.Parts.{Alter, Part, Say, Sends, altered_by, said_by, unsaid_to}
 use Rattle.zt_laws.proofs.Hearing.{rows_heard_nothing}
+use Rattle.zt_laws.proofs.ShownRows.{filters_commute}
 use Rattle.zt_model.specs.Rows.{Rows}
+use Rattle.zt_model.specs.Trees.{but_for}
 use Rattle.zt_calls.specs.declared.speech.Audience.{Audience}
 use Rattle.zt_calls.specs.declared.speech.Audience.TheVariants.{All, AllBut, Nobody}
 use Rattle.zt_calls.specs.declared.speech.Speech.{Speech}
-use Rattle.zt_calls.specs.Does.{Does, changes_of, heard_of, is_unheard, spares, sparing, spoken}
+use Rattle.zt_calls.specs.Does.{Does, changes_of, heard_of, spares, sparing, spoken}
 
 unsaid-append : {K : Type 0} (n : ℕ) (ps qs : List (Part K)) → unsaid_to n (ps ++ qs) ≡ unsaid_to n ps ++ unsaid_to n qs
 unfolding unsaid_to
@@ -44,6 +46,12 @@ spoken-sparing : {K : Type 0} (n : ℕ) (audience : Audience) (ps : List (Part K
 spoken-sparing n All ps whole = refl
 spoken-sparing n (AllBut m) ps whole = absurd (true≢false whole)
 spoken-sparing n Nobody ps whole = sym (changes-unsaid n ps)
+
+-- what is heard of what is said to all but a face
+pub but_for-heard : {K : Type 0} (cmp : K → K → Ordering) (n : ℕ) (audience : Audience) (ss : Sends K) → but_for cmp n (heard_of audience ss) ≡ heard_of audience (but_for cmp n ss)
+but_for-heard cmp n All ss = refl
+but_for-heard cmp n (AllBut m) ss = filters_commute (λ s. not (n == s.0)) (λ s. not (m == s.0)) ss
+but_for-heard cmp n Nobody ss = refl
 
 module _ {K : Type 0} (cmp : K → K → Ordering) (matching : K → K → Bool) where
   said-append : (ps qs : List (Part K)) (g : Rows K) → said_by cmp matching (ps ++ qs) g ≡ said_by cmp matching ps g ++ said_by cmp matching qs (ran cmp ps g)
@@ -130,26 +138,12 @@ module _ {K : Type 0} (cmp : K → K → Ordering) (matching : K → K → Bool)
   }
 
   -- messages are said and heard
-  pub does-say : (rule : Rows K → Sends K) (g h : Rows K) (s t : Speech K) (ss : Sends K) → t.audience ≡ s.audience → h ≡ rows_heard cmp (heard_of s.audience ss) g → t.said.items ≡ s.said.items ++ heard_of s.audience ss → rule g ≡ ss → Does cmp matching (Say rule ∷ []) g h s t
+  pub does-say : (rule : Rows K → Sends K) (g h : Rows K) (s t : Speech K) (ss : Sends K) → t.audience ≡ s.audience → h ≡ rows_heard cmp ss g → t.said.items ≡ s.said.items ++ ss → ss ≡ heard_of s.audience (rule g) → Does cmp matching (Say rule ∷ []) g h s t
   does-say rule g h s t ss audience_ heard said is = record {
     audience = audience_;
-    rows = heard ∙ ap (λ sends. rows_heard cmp (heard_of s.audience sends) g) (sym is) ∙ sym (ran-say s.audience rule g);
-    said = said ∙ ap (λ sends. s.said.items ++ heard_of s.audience sends) (sym is) ∙ ap (λ more. s.said.items ++ more) (sym (said-say s.audience rule g));
+    rows = heard ∙ ap (λ sends. rows_heard cmp sends g) is ∙ sym (ran-say s.audience rule g);
+    said = said ∙ ap (λ sends. s.said.items ++ sends) (is ∙ sym (said-say s.audience rule g));
   }
-
-  -- what nobody hears need not be said
-  pub does-unheard : (rule : Rows K → Sends K) (g : Rows K) (s : Speech K) → is_unheard s.audience ≡ true → Does cmp matching (Say rule ∷ []) g g s s
-  does-unheard rule g s unheard =
-      let said_is = nobody_hears s.audience rule g unheard in record {
-        audience = refl;
-        rows = sym (ran-say s.audience rule g ∙ ap (λ sends. rows_heard cmp sends g) said_is ∙ rows_heard_nothing cmp g);
-        said = sym (ap (λ more. s.said.items ++ more) (said-say s.audience rule g ∙ said_is) ∙ append-nil s.said.items);
-      }
-    where
-      nobody_hears : (audience : Audience) (rule : Rows K → Sends K) (g : Rows K) → is_unheard audience ≡ true → heard_of audience (rule g) ≡ []
-      nobody_hears All rule g unheard = absurd (true≢false (sym unheard))
-      nobody_hears (AllBut n) rule g unheard = absurd (true≢false (sym unheard))
-      nobody_hears Nobody rule g unheard = refl
 
   -- the last piece of work may lack memory
   pub does-then : {E : Type 0} (r : Result (Unit {0}) E) (ps qs : List (Part K)) (g h k : Rows K) (s t u : Speech K) → Does cmp matching ps g h s t → OnOk r (Does cmp matching qs h k t u) → OnOk r (Does cmp matching (ps ++ qs) g k s u)

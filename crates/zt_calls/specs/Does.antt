@@ -26,11 +26,6 @@ spoken All parts = parts
 spoken (AllBut n) parts = unsaid_to n parts
 spoken Nobody parts = changes_of parts
 
--- nobody hears
-abbrev pub is_unheard : Audience → Bool
-is_unheard Nobody = true
-is_unheard _ = false
-
 -- one face is spared already
 abbrev pub spares : Audience → Bool
 spares (AllBut n) = true

@@ -1,12 +1,9 @@
 // Interests at their own face.
-ghost use Rattle.std.specs.Prelude.{◌≡◌, ◌∷◌, [], OnOk};
+ghost use Rattle.std.specs.Prelude.{◌≡◌, OnOk};
 ghost use Rattle.zt_calls.specs.Does.{Does};
-ghost use Rattle.zt_model.specs.Entities.{entities_for, numbered_by, with_numbers};
-ghost use Rattle.zt_model.specs.Parts.{Say, to_face};
-ghost use Rattle.zt_model.specs.Routing.{final_of, route};
+ghost use Rattle.zt_model.specs.Entities.{numbered_by, with_numbers};
 ghost use Rattle.zt_protocol.specs.Interest.{has_aggregate};
 ghost use Rattle.zt_model.specs.Says.{asking, interesting_above};
-ghost use Rattle.zt_model.specs.Telling.{answers_of};
 
 use crate::speech::{Speech, say};
 use bitflags::Flags;
@@ -49,87 +46,8 @@ fn number_interest<K: Key>(
     }
 }
 
-// An interest of a face of the region `asker` is sent on to the north. The only error is want of
-// memory.
-fn send_above<K: Key>(
-    alloc: Global,
-    g: &mut GatewayState<K>,
-    speech: &mut Speech<K>,
-    asker: Region,
-    interest: &RemoteInterest<K>,
-) -> Result<(), Memory>
-    ensures { OnOk result (Does K.cmp K.matching
-        (Say (route asker interest.now) ∷ [])
-        g.old g.new speech.old speech.new) }
-{
-    if speech.is_unheard() {
-        return Ok(());
-    }
-    let sends = route(alloc, g, asker, interest)?;
-    say(alloc, g, speech, sends)
-}
-
-// The face is answered the entities that its interest asks for. The only error is want of memory.
-fn tell_entities<K: Key>(
-    alloc: Global,
-    g: &mut GatewayState<K>,
-    speech: &mut Speech<K>,
-    face: u32,
-    id: InterestId,
-    interest: &RemoteInterest<K>,
-) -> Result<(), Memory>
-    ensures { OnOk result (Does K.cmp K.matching
-        (Say (λ h. to_face face (entities_for K.cmp K.matching h id interest.now) h) ∷ [])
-        g.old g.new speech.old speech.new) }
-{
-    if speech.is_unheard() {
-        return Ok(());
-    }
-    let entities = answer_entities(alloc, g, face, id, interest)?;
-    say(alloc, g, speech, entities)
-}
-
-// The face is answered the tokens that are visible to it. The only error is want of memory.
-fn tell_visible<K: Key>(
-    alloc: Global,
-    g: &mut GatewayState<K>,
-    speech: &mut Speech<K>,
-    face: u32,
-    id: InterestId,
-    interest: &RemoteInterest<K>,
-) -> Result<(), Memory>
-    ensures { OnOk result (Does K.cmp K.matching
-        (Say (λ h. to_face face (answers_of K.cmp K.matching h id interest.now) h) ∷ [])
-        g.old g.new speech.old speech.new) }
-{
-    if speech.is_unheard() {
-        return Ok(());
-    }
-    let answers = answer_interest(alloc, g, face, id, interest)?;
-    say(alloc, g, speech, answers)
-}
-
-// The face has its final where nobody else is asked. The only error is want of memory.
-fn finish_at_once<K: Key>(
-    alloc: Global,
-    g: &mut GatewayState<K>,
-    speech: &mut Speech<K>,
-    face: u32,
-    id: InterestId,
-) -> Result<(), Memory>
-    ensures { OnOk result (Does K.cmp K.matching
-        (Say (to_face face (final_of id)) ∷ [])
-        g.old g.new speech.old speech.new) }
-{
-    if speech.is_unheard() {
-        return Ok(());
-    }
-    let finals = final_of(alloc, g, face, id)?;
-    say(alloc, g, speech, finals)
-}
-
-// The face asks, is answered at once what is visible, and has its final where nobody else is asked. The
-// only error is want of memory.
+// The face asks, is answered at once what is visible, and has its final where nobody else is asked.
+// The only error is want of memory.
 fn ask_at_face<K: Key>(
     alloc: Global,
     g: &mut GatewayState<K>,
@@ -144,8 +62,10 @@ fn ask_at_face<K: Key>(
         g.old g.new speech.old speech.new) }
 {
     g.ask(alloc, face, id, interest, pendings)?;
-    tell_visible(alloc, g, speech, face, id, interest)?;
-    finish_at_once(alloc, g, speech, face, id)
+    let answers = speech.if_heard(alloc, || answer_interest(alloc, g, face, id, interest))?;
+    say(alloc, g, speech, answers)?;
+    let finals = speech.if_heard(alloc, || final_of(alloc, g, face, id))?;
+    say(alloc, g, speech, finals)
 }
 
 /// An interest of a face of the region `asker` is sent on to the north, and then answered. The only
@@ -165,7 +85,9 @@ pub(crate) fn ask<K: Key>(
 {
     let pendings = sent_as(alloc, g, asker, interest.mode())?;
     number_interest(alloc, g, interest)?;
-    send_above(alloc, g, speech, asker, interest)?;
-    tell_entities(alloc, g, speech, face, id, interest)?;
+    let routed = speech.if_heard(alloc, || route(alloc, g, asker, interest))?;
+    say(alloc, g, speech, routed)?;
+    let entities = speech.if_heard(alloc, || answer_entities(alloc, g, face, id, interest))?;
+    say(alloc, g, speech, entities)?;
     ask_at_face(alloc, g, speech, face, id, interest, &pendings)
 }

@@ -41,8 +41,8 @@ fn without_aggregate(options: InterestOptions) -> InterestOptions
     InterestOptions::from_bits_retain(options.bits() & 239)
 }
 
-// The options that a gateway keeps of a face's interest: AGGREGATE of no face of mode Peer, and of no
-// interest in tokens.
+// The options that a gateway keeps of a face's interest: AGGREGATE of no face of mode Peer, and of
+// no interest in tokens.
 fn kept_options(mode: WhatAmI, options: InterestOptions) -> InterestOptions
     ensures { result ≡ kept_options mode options }
 {
@@ -211,8 +211,8 @@ fn close_face<K: Key>(
     close_open(alloc, g, speech, is_routed, &f)
 }
 
-// Carries out a call that no face speaks: openings, what time ends, and what a gateway is handed. The
-// only error is want of memory.
+// Carries out a call that no face speaks: openings, what time ends, and what a gateway is handed.
+// The only error is want of memory.
 fn carry_out_handed<K: Key>(
     alloc: Global,
     g: &mut GatewayState<K>,
@@ -332,10 +332,10 @@ fn do_parts<K: Key>(
     }
 }
 
-/// Carries out a call that nothing refuses, and answers its messages in the order sent, each with the
-/// number of its face. The only error is want of memory, and then the gateway may be left in between:
-/// the caller drops it, and has another that is as before. Ids that run out count as want of memory; a
-/// call that would need so many is refused.
+/// Carries out a call that nothing refuses, and answers its messages in the order sent, each with
+/// the number of its face. The only error is want of memory, and then the gateway may be left in
+/// between: the caller drops it, and has another that is as before. Ids that run out count as want
+/// of memory; a call that would need so many is refused.
 pub fn carry_out<K: Key>(
     alloc: Global,
     g: &mut GatewayState<K>,
@@ -356,8 +356,8 @@ pub fn carry_out<K: Key>(
 }
 
 /// Changes what a call changes itself, and says nothing: with the call's messages, which the faces
-/// hear, the gateway is as after the call. The only error is want of memory, and then the gateway may
-/// be left in between.
+/// hear, the gateway is as after the call. The only error is want of memory, and then the gateway
+/// may be left in between.
 pub fn alter<K: Key>(alloc: Global, g: &mut GatewayState<K>, call: &Call<K>) -> Result<(), Memory>
     requires { opens_face (plain_call call.now) ≡ true → g.old.made + 1 < 2 ^ 32 }
     ensures { OnOk result (g.new ≡ altered K.cmp K.matching (plain_call call.now) g.old) }

@@ -1,5 +1,5 @@
-// A face closes: what it declared is undeclared, what it holds finalised, its asks go and its pendings
-// end.
+// A face closes: what it declared is undeclared, what it holds finalised, its asks go and its
+// pendings end.
 ghost use Rattle.std.specs.Prelude.{◌≡◌, OnOk};
 ghost use Rattle.std.specs.List.{flat_map};
 ghost use Rattle.zt_calls.specs.Does.{Does};
@@ -84,7 +84,8 @@ fn leave_pendings<K: Key>(
     Ok(())
 }
 
-/// A face outside router regions leaves, as it was when it began to. The only error is want of memory.
+/// A face outside router regions leaves, as it was when it began to. The only error is want of
+/// memory.
 pub(crate) fn leave<K: Key>(
     alloc: Global,
     g: &mut GatewayState<K>,

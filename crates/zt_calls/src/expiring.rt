@@ -75,8 +75,8 @@ fn end_pendings<K: Key>(
     Ok(())
 }
 
-/// The gateway's moment becomes `now`, and what has waited for the timeout ends. The only error is want
-/// of memory.
+/// The gateway's moment becomes `now`, and what has waited for the timeout ends. The only error is
+/// want of memory.
 pub(crate) fn expire<K: Key>(
     alloc: Global,
     g: &mut GatewayState<K>,

@@ -3,7 +3,9 @@ ghost use Rattle.std.specs.Prelude.{◌≡◌, ◌∷◌, [], OnOk};
 ghost use Rattle.zt_calls.specs.Does.{Does};
 ghost use Rattle.zt_model.specs.Parts.{Alter, Say, to_each};
 ghost use Rattle.zt_model.specs.Says.{forget, tell};
-ghost use Rattle.zt_model.specs.Trees.{but_for, changing_table, forgetting, greet_to, hiding, pass_on, showing, unpass, with_routed, with_table, without_routed};
+ghost use Rattle.zt_model.specs.Trees.{but_for, changing_table, forgetting, greet_to, hiding};
+ghost use Rattle.zt_model.specs.Trees.{pass_on, showing, unpass, with_routed, with_table};
+ghost use Rattle.zt_model.specs.Trees.{without_routed};
 ghost use Rattle.zt_protocol.specs.Plain.{trees_of};
 
 use crate::speech::{Speech, say};
@@ -20,51 +22,6 @@ fn spare<K: Key>(sends: &mut Vec<(u32, Message<K>)>, face: u32)
     ensures { sends.new.items ≡ but_for K.cmp face sends.old.items }
 {
     sends.retain(|send| face != send.0);
-}
-
-// A token of a router goes on along its tree, but to the face that it comes from. The only error is
-// want of memory.
-fn pass_token<K: Key>(
-    alloc: Global,
-    g: &mut GatewayState<K>,
-    speech: &mut Speech<K>,
-    face: u32,
-    region: Region,
-    source: Zid,
-    expr: &K,
-) -> Result<(), Memory>
-    ensures { OnOk result (Does K.cmp K.matching
-        (Say (λ h. but_for K.cmp face (pass_on K.cmp region source expr.now h)) ∷ [])
-        g.old g.new speech.old speech.new) }
-{
-    if speech.is_unheard() {
-        return Ok(());
-    }
-    let mut passed = pass_on(alloc, g, region, source, expr)?;
-    spare(&mut passed, face);
-    say(alloc, g, speech, passed)
-}
-
-// That it is gone goes on the same way. The only error is want of memory.
-fn unpass_token<K: Key>(
-    alloc: Global,
-    g: &mut GatewayState<K>,
-    speech: &mut Speech<K>,
-    face: u32,
-    region: Region,
-    source: Zid,
-    expr: &K,
-) -> Result<(), Memory>
-    ensures { OnOk result (Does K.cmp K.matching
-        (Say (λ h. but_for K.cmp face (unpass K.cmp region source expr.now h)) ∷ [])
-        g.old g.new speech.old speech.new) }
-{
-    if speech.is_unheard() {
-        return Ok(());
-    }
-    let mut passed = unpass(alloc, g, region, source, expr)?;
-    spare(&mut passed, face);
-    say(alloc, g, speech, passed)
 }
 
 /// A face of a router region declares a token of a router. The only error is want of memory.
@@ -85,7 +42,9 @@ pub(crate) fn declare_routed<K: Key>(
         g.old g.new speech.old speech.new) }
 {
     g.add_routed(alloc, region, source, expr)?;
-    pass_token(alloc, g, speech, face, region, source, expr)?;
+    let mut passed = speech.if_heard(alloc, || pass_on(alloc, g, region, source, expr))?;
+    spare(&mut passed, face);
+    say(alloc, g, speech, passed)?;
     tell_all(alloc, g, speech, region, expr)
 }
 
@@ -107,7 +66,9 @@ pub(crate) fn undeclare_routed<K: Key>(
         g.old g.new speech.old speech.new) }
 {
     g.drop_routed(region, source, expr);
-    unpass_token(alloc, g, speech, face, region, source, expr)?;
+    let mut passed = speech.if_heard(alloc, || unpass(alloc, g, region, source, expr))?;
+    spare(&mut passed, face);
+    say(alloc, g, speech, passed)?;
     forget_all(alloc, g, speech, region, expr)
 }
 
@@ -128,28 +89,8 @@ fn forget_each<K: Key>(
     Ok(())
 }
 
-// Faces that are new among a source's children are told its tokens; `before` is the table that
-// counted until now. The only error is want of memory.
-fn greet_children<K: Key>(
-    alloc: Global,
-    g: &mut GatewayState<K>,
-    speech: &mut Speech<K>,
-    region: Region,
-    before: &TreeTable,
-) -> Result<(), Memory>
-    ensures { OnOk result (Does K.cmp K.matching
-        (Say (λ h. to_each (greet_to K.cmp h region (trees_of before.now)) h.faces) ∷ [])
-        g.old g.new speech.old speech.new) }
-{
-    if speech.is_unheard() {
-        return Ok(());
-    }
-    let sends = greet(alloc, g, region, before)?;
-    say(alloc, g, speech, sends)
-}
-
-// The table is kept, and faces that are new among a source's children are told its tokens; `before` is
-// the table that counted until now. The only error is want of memory.
+// The table is kept, and faces that are new among a source's children are told its tokens; `before`
+// is the table that counted until now. The only error is want of memory.
 fn keep_and_greet<K: Key>(
     alloc: Global,
     g: &mut GatewayState<K>,
@@ -165,7 +106,8 @@ fn keep_and_greet<K: Key>(
 {
     let kept = table.copy(alloc)?;
     g.keep_table(alloc, region, kept)?;
-    greet_children(alloc, g, speech, region, before)
+    let greetings = speech.if_heard(alloc, || greet(alloc, g, region, before))?;
+    say(alloc, g, speech, greetings)
 }
 
 /// A router region is handed a new table. The only error is want of memory.

@@ -1,10 +1,10 @@
 // Tokens that faces declare and undeclare, in whichever region.
-ghost use Rattle.std.specs.Prelude.{◌≡◌, ◌++◌, ◌∷◌, [], ℕ, OnOk};
+ghost use Rattle.std.specs.Prelude.{◌≡◌, ◌++◌, ℕ, OnOk};
 ghost use Rattle.zt_calls.specs.Does.{Does};
-ghost use Rattle.zt_calls.specs.Speaking.{answering_asked, declaring_from, declaring_if, undeclaring_from, undeclaring_plain};
-ghost use Rattle.zt_model.specs.Parts.{Say};
+ghost use Rattle.zt_calls.specs.Speaking.{answering_asked, declaring_from, declaring_if};
+ghost use Rattle.zt_calls.specs.Speaking.{undeclaring_from, undeclaring_plain};
 ghost use Rattle.zt_model.specs.Says.{parts_of};
-ghost use Rattle.zt_model.specs.Telling.{answer, answering, registers};
+ghost use Rattle.zt_model.specs.Telling.{answering, registers};
 ghost use Rattle.zt_protocol.specs.Plain as plain;
 
 use crate::finding::copy_undeclared;
@@ -30,8 +30,8 @@ fn asked_by<K: Key>(f: &FaceState<K>, interest: Option<InterestId>) -> Option<In
     }
 }
 
-// Whether a declaration adds a live row: it does, unless it answers an interest that asked for what is
-// there now alone.
+// Whether a declaration adds a live row: it does, unless it answers an interest that asked for what
+// is there now alone.
 fn registers<K: Key>(f: &FaceState<K>, interest: Option<InterestId>) -> bool
     ensures { result ≡ registers f.now interest }
 {
@@ -44,28 +44,8 @@ fn registers<K: Key>(f: &FaceState<K>, interest: Option<InterestId>) -> bool
     }
 }
 
-// The token answers the asks that sent this interest. The only error is want of memory.
-fn answer_asks<K: Key>(
-    alloc: Global,
-    g: &mut GatewayState<K>,
-    speech: &mut Speech<K>,
-    face: u32,
-    id: InterestId,
-    expr: &K,
-) -> Result<(), Memory>
-    ensures { OnOk result (Does K.cmp K.matching
-        (Say (answer K.cmp K.matching face id expr.now) ∷ [])
-        g.old g.new speech.old speech.new) }
-{
-    if speech.is_unheard() {
-        return Ok(());
-    }
-    let sends = answer(alloc, g, face, id, expr)?;
-    say(alloc, g, speech, sends)
-}
-
-// The token answers the asks that sent the interest which waits, if one does. The only error is want of
-// memory.
+// The token answers the asks that sent the interest which waits, if one does. The only error is
+// want of memory.
 fn answer_asked<K: Key>(
     alloc: Global,
     g: &mut GatewayState<K>,
@@ -78,10 +58,11 @@ fn answer_asked<K: Key>(
         (answering_asked K.cmp K.matching face asked expr.now)
         g.old g.new speech.old speech.new) }
 {
-    match asked {
-        None => Ok(()),
-        Some(id) => answer_asks(alloc, g, speech, face, id, expr),
-    }
+    let Some(id) = asked else {
+        return Ok(());
+    };
+    let answers = speech.if_heard(alloc, || answer(alloc, g, face, id, expr))?;
+    say(alloc, g, speech, answers)
 }
 
 // The token is declared, if it registers. The only error is want of memory.
@@ -147,8 +128,8 @@ fn declare_from<K: Key>(
     }
 }
 
-/// A face declares a token: one that stands in for a router's where its region is of routers, else one
-/// of its own, which may answer an interest. The only error is want of memory.
+/// A face declares a token: one that stands in for a router's where its region is of routers, else
+/// one of its own, which may answer an interest. The only error is want of memory.
 pub(crate) fn declare_token<K: Key>(
     alloc: Global,
     g: &mut GatewayState<K>,
@@ -176,8 +157,8 @@ pub(crate) fn declare_token<K: Key>(
     declare_plain(alloc, g, speech, face, region, id, expr, asked, registers)
 }
 
-// An undeclaration by a face outside router regions, which is about this expression, if about any: the
-// faces and the router regions hear that it is gone. The only error is want of memory.
+// An undeclaration by a face outside router regions, which is about this expression, if about any:
+// the faces and the router regions hear that it is gone. The only error is want of memory.
 fn undeclare_plain<K: Key>(
     alloc: Global,
     g: &mut GatewayState<K>,
@@ -198,8 +179,8 @@ fn undeclare_plain<K: Key>(
     hide_token(alloc, g, speech, region, expr)
 }
 
-// A token of a router goes, where the face means one and names the expression. The only error is want
-// of memory.
+// A token of a router goes, where the face means one and names the expression. The only error is
+// want of memory.
 fn undeclare_from<K: Key>(
     alloc: Global,
     g: &mut GatewayState<K>,

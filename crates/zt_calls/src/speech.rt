@@ -1,6 +1,6 @@
 // What a call says.
-ghost use Rattle.std.specs.Prelude.{◌≡◌, ◌∷◌, ◌++◌, [], OnOk};
-ghost use Rattle.zt_calls.specs.Does.{Does, heard_of, is_unheard, sparing};
+ghost use Rattle.std.specs.Prelude.{◌≡◌, ◌∷◌, ◌++◌, [], IfOk, Ok, OnOk};
+ghost use Rattle.zt_calls.specs.Does.{Does, heard_of, sparing};
 ghost use Rattle.zt_model.specs.Hearing.{rows_heard};
 ghost use Rattle.zt_model.specs.Parts.{Say, Sends};
 ghost use Rattle.zt_model.specs.Rows.{Rows};
@@ -33,45 +33,51 @@ impl Audience {
     }
 }
 
-/// What a call has said so far, in the order sent, each message with the number of its face; and who
-/// hears it.
+/// What a call has said so far, in the order sent, each message with the number of its face; and
+/// who hears it.
 #[derive(Drop)]
 pub(crate) struct Speech<K> {
     pub(crate) audience: Audience,
     pub(crate) said: Vec<(u32, Message<K>)>,
 }
 
-impl<K> Speech<K> {
-    /// Whether nobody hears, so that nothing need be said.
-    pub(crate) fn is_unheard(&self) -> bool
-        ensures { result ≡ is_unheard self.now.audience }
+impl<K: Key> Speech<K> {
+    /// What the audience hears of some messages, which are worked out only if somebody hears. The
+    /// only error is want of memory.
+    pub(crate) fn if_heard<F: FnOnce() -> Result<Vec<(u32, Message<K>)>, Memory>>(
+        &self,
+        alloc: Global,
+        work_out: F,
+    ) -> Result<Vec<(u32, Message<K>)>, Memory>
+        requires { F.IsAlwaysCallable work_out }
+        ensures { IfOk result (λ heard. (sends : Sends K)
+            → ((given : _) → F.post work_out (Ok given) → given.items ≡ sends)
+            → heard.items ≡ heard_of self.now.audience sends) }
     {
-        matches!(self.audience, Audience::Nobody)
+        match self.audience {
+            Audience::All => work_out(),
+            Audience::AllBut(number) => {
+                let mut sends = work_out()?;
+                sends.retain(|send| number != send.0);
+                Ok(sends)
+            }
+            Audience::Nobody => Ok(Vec::new(alloc)),
+        }
     }
 }
 
-// Drops the messages that aren't heard.
-fn drop_messages<K: Key>(sends: &mut Vec<(u32, Message<K>)>, audience: Audience)
-    ensures { sends.new.items ≡ heard_of audience sends.old.items }
-{
-    match audience {
-        Audience::All => {}
-        Audience::AllBut(number) => sends.retain(|send| number != send.0),
-        Audience::Nobody => sends.clear(),
-    }
-}
-
-/// Faces are sent these messages, and hear them at once. The only error is want of memory.
+/// Faces are sent these messages, which are what the audience hears of what is said, and hear them
+/// at once. The only error is want of memory.
 pub(crate) fn say<K: Key>(
     alloc: Global,
     g: &mut GatewayState<K>,
     speech: &mut Speech<K>,
     mut sends: Vec<(u32, Message<K>)>,
 ) -> Result<(), Memory>
-    ensures { OnOk result ((rule : Rows K → Sends K) → rule g.old ≡ sends.items
+    ensures { OnOk result ((rule : Rows K → Sends K)
+        → sends.items ≡ heard_of speech.old.audience (rule g.old)
         → Does K.cmp K.matching (Say rule ∷ []) g.old g.new speech.old speech.new) }
 {
-    drop_messages(&mut sends, speech.audience);
     g.hear_all(alloc, sends.as_slice())?;
     speech.said.append(&mut sends)?;
     Ok(())

@@ -1,9 +1,9 @@
 // Tokens that come and go at faces outside router regions.
 ghost use Rattle.std.specs.Prelude.{◌≡◌, ◌∷◌, [], OnOk};
 ghost use Rattle.zt_calls.specs.Does.{Does};
-ghost use Rattle.zt_model.specs.Parts.{Alter, Say, to_each, with_face};
+ghost use Rattle.zt_model.specs.Parts.{Alter, Say, with_face};
 ghost use Rattle.zt_model.specs.Telling.{forget, registered, tell, undeclaring, unregistered};
-ghost use Rattle.zt_model.specs.Trees.{hide_to, hiding, show_to, showing};
+ghost use Rattle.zt_model.specs.Trees.{hiding, showing};
 
 use crate::finding::undeclared;
 use crate::speech::{Speech, say};
@@ -14,26 +14,6 @@ use zt_region::Region;
 use zt_routers::{hidden_regions, hide, newly_shown, show};
 use zt_state::{FaceState, GatewayState};
 use zt_tokens::{forget, tell};
-
-// The faces of router regions hear of a token that these are newly shown. The only error is want of
-// memory.
-fn tell_routers<K: Key>(
-    alloc: Global,
-    g: &mut GatewayState<K>,
-    speech: &mut Speech<K>,
-    source: Region,
-    expr: &K,
-) -> Result<(), Memory>
-    ensures { OnOk result (Does K.cmp K.matching
-        (Say (λ h. to_each (show_to K.cmp h source expr.now) h.faces) ∷ [])
-        g.old g.new speech.old speech.new) }
-{
-    if speech.is_unheard() {
-        return Ok(());
-    }
-    let sends = show(alloc, g, source, expr)?;
-    say(alloc, g, speech, sends)
-}
 
 /// The gateway shows a token of a region in its router regions. The only error is want of memory.
 pub(crate) fn show_token<K: Key>(
@@ -46,32 +26,14 @@ pub(crate) fn show_token<K: Key>(
     ensures { OnOk result (Does K.cmp K.matching (showing K.cmp source expr.now)
         g.old g.new speech.old speech.new) }
 {
-    tell_routers(alloc, g, speech, source, expr)?;
+    let shown = speech.if_heard(alloc, || show(alloc, g, source, expr))?;
+    say(alloc, g, speech, shown)?;
     let regions = newly_shown(alloc, g, source, expr)?;
     g.add_own_rows(alloc, &regions, expr)
 }
 
-// The faces hear of a token that was declared in a region. The only error is want of memory.
-fn tell_faces<K: Key>(
-    alloc: Global,
-    g: &mut GatewayState<K>,
-    speech: &mut Speech<K>,
-    source: Region,
-    expr: &K,
-) -> Result<(), Memory>
-    ensures { OnOk result (Does K.cmp K.matching
-        (Say (tell K.cmp K.matching source expr.now) ∷ [])
-        g.old g.new speech.old speech.new) }
-{
-    if speech.is_unheard() {
-        return Ok(());
-    }
-    let sends = tell(alloc, g, source, expr)?;
-    say(alloc, g, speech, sends)
-}
-
-/// The faces hear of a token that was declared in a region, and then the router regions. The only error
-/// is want of memory.
+/// The faces hear of a token that was declared in a region, and then the router regions. The only
+/// error is want of memory.
 pub(crate) fn tell_all<K: Key>(
     alloc: Global,
     g: &mut GatewayState<K>,
@@ -83,32 +45,13 @@ pub(crate) fn tell_all<K: Key>(
         (Say (tell K.cmp K.matching source expr.now) ∷ showing K.cmp source expr.now)
         g.old g.new speech.old speech.new) }
 {
-    tell_faces(alloc, g, speech, source, expr)?;
+    let told = speech.if_heard(alloc, || tell(alloc, g, source, expr))?;
+    say(alloc, g, speech, told)?;
     show_token(alloc, g, speech, source, expr)
 }
 
-// The faces of router regions hear that an expression is gone, which these can't see any more. The
-// only error is want of memory.
-fn untell_routers<K: Key>(
-    alloc: Global,
-    g: &mut GatewayState<K>,
-    speech: &mut Speech<K>,
-    source: Region,
-    expr: &K,
-) -> Result<(), Memory>
-    ensures { OnOk result (Does K.cmp K.matching
-        (Say (λ h. to_each (hide_to K.cmp h source expr.now) h.faces) ∷ [])
-        g.old g.new speech.old speech.new) }
-{
-    if speech.is_unheard() {
-        return Ok(());
-    }
-    let sends = hide(alloc, g, source, expr)?;
-    say(alloc, g, speech, sends)
-}
-
-/// The gateway hides an expression that is gone from a region in its router regions. The only error is
-/// want of memory.
+/// The gateway hides an expression that is gone from a region in its router regions. The only error
+/// is want of memory.
 pub(crate) fn hide_token<K: Key>(
     alloc: Global,
     g: &mut GatewayState<K>,
@@ -119,14 +62,15 @@ pub(crate) fn hide_token<K: Key>(
     ensures { OnOk result (Does K.cmp K.matching (hiding K.cmp source expr.now)
         g.old g.new speech.old speech.new) }
 {
-    untell_routers(alloc, g, speech, source, expr)?;
+    let hidden = speech.if_heard(alloc, || hide(alloc, g, source, expr))?;
+    say(alloc, g, speech, hidden)?;
     let regions = hidden_regions(alloc, g, source, expr)?;
     g.drop_own_rows(&regions, expr);
     Ok(())
 }
 
-/// The faces hear that an expression is gone from a region, and then the router regions. The only error
-/// is want of memory.
+/// The faces hear that an expression is gone from a region, and then the router regions. The only
+/// error is want of memory.
 pub(crate) fn forget_all<K: Key>(
     alloc: Global,
     g: &mut GatewayState<K>,
@@ -138,7 +82,8 @@ pub(crate) fn forget_all<K: Key>(
         (Say (forget K.cmp K.matching source expr.now) ∷ hiding K.cmp source expr.now)
         g.old g.new speech.old speech.new) }
 {
-    forget_at_faces(alloc, g, speech, source, expr)?;
+    let gone = speech.if_heard(alloc, || forget(alloc, g, source, expr))?;
+    say(alloc, g, speech, gone)?;
     hide_token(alloc, g, speech, source, expr)
 }
 
@@ -161,25 +106,6 @@ pub(crate) fn declare<K: Key>(
     tell_all(alloc, g, speech, region, expr)
 }
 
-/// The faces hear that an expression is gone from a region. The only error is want of memory.
-pub(crate) fn forget_at_faces<K: Key>(
-    alloc: Global,
-    g: &mut GatewayState<K>,
-    speech: &mut Speech<K>,
-    source: Region,
-    expr: &K,
-) -> Result<(), Memory>
-    ensures { OnOk result (Does K.cmp K.matching
-        (Say (forget K.cmp K.matching source expr.now) ∷ [])
-        g.old g.new speech.old speech.new) }
-{
-    if speech.is_unheard() {
-        return Ok(());
-    }
-    let sends = forget(alloc, g, source, expr)?;
-    say(alloc, g, speech, sends)
-}
-
 /// The token of an id is undeclared, whose expression this is. The only error is want of memory.
 pub(crate) fn undeclare<K: Key>(
     alloc: Global,
@@ -196,7 +122,8 @@ pub(crate) fn undeclare<K: Key>(
         g.old g.new speech.old speech.new) }
 {
     g.unregister(face, id);
-    forget_at_faces(alloc, g, speech, region, expr)
+    let gone = speech.if_heard(alloc, || forget(alloc, g, region, expr))?;
+    say(alloc, g, speech, gone)
 }
 
 /// An undeclaration of an id is about the token that the face declares under it, or else the given

@@ -1,5 +1,5 @@
 -- Which faces have too few ids left.
-use Rattle.std.proofs.Common.{◌≡◌, ◌≤◌, ◌<◌, ◌+◌, ◌&&◌, ◌||◌, ℕ, Bool, true, false, not, if◌then◌else◌, nat_lt, List, [], ◌∷◌, Option, Some, None, ap, arith, refl, sym, ◌∙◌, le-ltb}
+use Rattle.std.proofs.Common.{◌≡◌, ◌≤◌, ◌<◌, ◌+◌, ◌&&◌, ◌||◌, ℕ, Bool, true, false, not, if◌then◌else◌, ◌==◌, nat_lt, List, [], ◌∷◌, Option, Some, None, ap, arith, refl, sym, ◌∙◌, le-ltb, ne_eqb}
 use Rattle.std.proofs.Math.Bool.{or-false}
 use Rattle.std.proofs.lemmas.Bool.{and_right}
 use Rattle.std.proofs.lemmas.List.Folds.{list_any-append}
@@ -13,7 +13,7 @@ use Rattle.zt_protocol.specs.Plain.{PlainCall, NewSession, NewTransport, Declare
 use Rattle.zt_protocol.specs.declared.interests.InterestMode.{InterestMode}
 use Rattle.zt_protocol.specs.declared.interests.InterestOptions.{InterestOptions}
 use Rattle.zt_model.specs.Parts.{find_face, is_routed}
-use Rattle.zt_model.specs.Refusals.{GREATEST_NUMBER, can_draw, ids_for_token, is_answered_anew, left_ids, need, spends_ids}
+use Rattle.zt_model.specs.Refusals.{GREATEST_NUMBER, can_draw, ids_for_opening, ids_for_token, is_answered_anew, left_ids, need, spends_ids}
 use Rattle.zt_model.specs.Routing.{face_opened, opened}
 use Rattle.zt_model.specs.Rows.{Face, Rows}
 use Rattle.zt_model.specs.Telling.{is_told, registers}
@@ -49,16 +49,27 @@ pub none_lack_token : {K : Type 0} (cmp : K → K → Ordering) (matching : K �
 none_lack_token cmp matching n interest e g closed =
     none_lack g (ids_for_token cmp matching n interest e g) g.faces (λ f. rw (closed, ids_for_token))
 
+-- faces that stand are sent nothing when another opens
+standing_lack : {K : Type 0} (cmp : K → K → Ordering) (matching : K → K → Bool) (g : Rows K) (fs : List (Face K)) → AreUpTo (λ f. f.number) g.made fs → list_any (lacks_for_opening cmp matching g) fs ≡ false
+standing_lack cmp matching g [] up_to = refl
+standing_lack cmp matching g (f ∷ fs) up_to = rw here (standing_lack cmp matching g fs up_to.1)
+  where
+    other : (f.number == g.made + 1) ≡ false
+    other = ne_eqb f.number (g.made + 1) (λ same. let high = up_to.0 in omega (arith, same, high))
+
+    here : lacks_for_opening cmp matching g f ≡ false
+    here = needs_none g (ids_for_opening cmp matching g) f (rw other refl)
+
 -- those that stand and the new one
 pub opened_lack : {K : Type 0} (cmp : K → K → Ordering) (matching : K → K → Bool) (zid : Zid) (whatami : WhatAmI) (region : Region) (bound : Bound) (first : ℕ) (g : Rows K) (lacks_ : Bool)
-    → list_any (lacks_for_opening cmp matching g) g.faces ≡ false
+    → AreUpTo (λ f. f.number) g.made g.faces
     → lacks_ ≡ lacks_for_opening cmp matching g (face_opened zid whatami region bound first g)
     → lacks_ ≡ list_any (lacks_for_opening cmp matching g) (opened zid whatami region bound first g).faces
-opened_lack cmp matching zid whatami region bound first g lacks_ none is =
+opened_lack cmp matching zid whatami region bound first g lacks_ up_to is =
     let f = face_opened zid whatami region bound first g in
     is
     ∙ sym (list_any-append (lacks_for_opening cmp matching g) g.faces (f ∷ [])
-    ∙ ap (λ b. b || (lacks_for_opening cmp matching g f || false)) none
+    ∙ ap (λ b. b || (lacks_for_opening cmp matching g f || false)) (standing_lack cmp matching g g.faces up_to)
     ∙ or-false (lacks_for_opening cmp matching g f))
 
 one_at_most : (b : Bool) → (if b then 1 else 0) ≤ 1

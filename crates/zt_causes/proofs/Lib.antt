@@ -1,4 +1,5 @@
 mod Askers
 pub mod LeftIds
 pub mod Numbering
+mod Passing
 mod Seekers

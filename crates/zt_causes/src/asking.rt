@@ -27,7 +27,8 @@ fn kept_options(mode: WhatAmI, options: InterestOptions) -> InterestOptions
     }
 }
 
-/// An interest of the face, with the options that the gateway keeps. The only error is want of memory.
+/// An interest of the face, with the options that the gateway keeps. The only error is want of
+/// memory.
 pub(crate) fn row_of<K: Key>(
     alloc: Global,
     f: &FaceState<K>,

@@ -28,39 +28,11 @@ pub(crate) fn session_cause<K: Key>(g: &GatewayState<K>, first: u32) -> Option<R
     None
 }
 
-// Whether a face that stands has the number of the next face, and lacks ids for what that one is sent.
-fn lacks_opening_ids<K: Key>(
-    alloc: Global,
-    g: &GatewayState<K>,
-    f: &FaceState<K>,
-) -> Result<bool, Memory>
-    ensures { IfOk result (λ lacks. lacks ≡ lacks_for_opening K.cmp K.matching g.now f.now) }
-{
-    if is_routed(g, f) || u64::from(f.number()) != u64::from(g.made()) + 1 {
-        return Ok(false);
-    }
-    let interests = opening_interests(alloc, g, f)?;
-    let exprs = opening_tokens(alloc, g, f)?;
-    Ok(are_above(left_ids(f) as usize, interests.len(), exprs.len()))
-}
-
-// Whether a face that stands lacks ids for what a new face is sent.
-fn do_faces_lack<K: Key>(alloc: Global, g: &GatewayState<K>) -> Result<bool, Memory>
-    ensures { IfOk result (λ lack. lack
-        ≡ list_any (lacks_for_opening K.cmp K.matching g.now) g.now.faces) }
-{
-    for f in g.faces() {
-        if lacks_opening_ids(alloc, g, f)? {
-            return Ok(true);
-        }
-    }
-    Ok(false)
-}
-
-// Whether a new face has too few ids for what it is sent. Its number makes no difference to that.
+// Whether a new face of this number has too few ids for what it is sent.
 fn does_new_face_lack<K: Key>(
     alloc: Global,
     g: &GatewayState<K>,
+    number: u32,
     zid: Zid,
     whatami: WhatAmI,
     region: Region,
@@ -71,7 +43,7 @@ fn does_new_face_lack<K: Key>(
         ≡ lacks_for_opening K.cmp K.matching g.now
         (face_opened zid whatami region bound first g.now)) }
 {
-    let f = FaceState::new(alloc, 0, region, bound, whatami, zid, first, None);
+    let f = FaceState::new(alloc, number, region, bound, whatami, zid, first, None);
     if is_routed(g, &f) {
         return Ok(false);
     }
@@ -80,7 +52,8 @@ fn does_new_face_lack<K: Key>(
     Ok(are_above(left_ids(&f) as usize, interests.len(), exprs.len()))
 }
 
-/// Whether a new face needs more ids than it has. The only error is want of memory.
+/// Whether a new face needs more ids than it has. The faces that stand are sent nothing, and so
+/// need none. The only error is want of memory.
 #[tactic(auto, using(crate::proofs::LeftIds::opened_lack))]
 pub(crate) fn do_openings_spend<K: Key>(
     alloc: Global,
@@ -95,10 +68,8 @@ pub(crate) fn do_openings_spend<K: Key>(
         ≡ list_any (lacks_for_opening K.cmp K.matching g.now)
         (opened zid whatami region bound first g.now).faces) }
 {
-    if do_faces_lack(alloc, g)? {
-        return Ok(true);
-    }
-    does_new_face_lack(alloc, g, zid, whatami, region, bound, first)
+    let number = g.made().wrapping_add(1);
+    does_new_face_lack(alloc, g, number, zid, whatami, region, bound, first)
 }
 
 /// Why a new transport is refused. The only error is want of memory.

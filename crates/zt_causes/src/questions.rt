@@ -1,6 +1,9 @@
 // Tests of single causes, at a face that is open.
 ghost use Rattle.std.specs.Prelude.{◌≡◌, IfOk};
-ghost use Rattle.zt_model.specs.Refusals.{adds_row, answers_nothing, asks_from_north, is_illegal_current, is_interest_id_in_use, is_token_id_in_use, is_unknown_ask, is_unknown_router, is_unknown_token, names_nothing};
+ghost use Rattle.zt_model.specs.Refusals.{adds_row, answers_nothing, asks_from_north};
+ghost use Rattle.zt_model.specs.Refusals.{is_illegal_current, is_interest_id_in_use};
+ghost use Rattle.zt_model.specs.Refusals.{is_token_id_in_use, is_unknown_ask, is_unknown_router};
+ghost use Rattle.zt_model.specs.Refusals.{is_unknown_token, names_nothing};
 ghost use Rattle.zt_model.specs.Telling.{registers};
 ghost use Rattle.zt_region.specs.Region.{is_north};
 
@@ -81,8 +84,8 @@ pub(crate) fn is_unknown_ask<K: Key>(
     }
 }
 
-/// Whether a face of a router region means no other router by the node id. The only error is want of
-/// memory.
+/// Whether a face of a router region means no other router by the node id. The only error is want
+/// of memory.
 pub(crate) fn is_unknown_router<K: Key>(
     alloc: Global,
     g: &GatewayState<K>,

@@ -5,7 +5,6 @@ ghost use Rattle.zt_model.specs.Refusals.{are_numbers_spent, is_north_taken};
 ghost use Rattle.zt_model.specs.Strategy.{fits, is_region_of};
 ghost use Rattle.zt_region.specs.Region.{is_north, region_eq};
 
-use crate::questions::is_north;
 use zt_keys::Key;
 use zt_region::{Bound, Region, WhatAmI};
 use zt_state::GatewayState;
@@ -46,7 +45,7 @@ pub(crate) fn fits(own: WhatAmI, region: Region, remote: WhatAmI, bound: Bound) 
 fn has_north<K: Key>(g: &GatewayState<K>) -> bool
     ensures { result ≡ list_any (λ f. is_north f.region) g.now.faces }
 {
-    g.faces().iter().any(|f| is_north(f))
+    !g.north().is_empty()
 }
 
 /// Whether the gateway has its one face to the north already.

@@ -124,7 +124,7 @@ fn do_numbers_lack<K: Key>(
 }
 
 // Whether the token needs an id of some face that has none left, asking each.
-fn does_each_lack<K: Key>(
+fn does_any_lack<K: Key>(
     g: &GatewayState<K>,
     face: u32,
     interest: Option<InterestId>,
@@ -140,8 +140,8 @@ fn does_each_lack<K: Key>(
         .any(|f| lacks_token_id(g, face, interest, expr, from, f))
 }
 
-// The same of a token that answers nobody: of the faces that seek it, where these can be looked up. The
-// only error is want of memory.
+// The same of a token that answers nobody: of the faces that seek it, where these can be looked up.
+// The only error is want of memory.
 fn do_seekers_lack<K: Key>(
     alloc: Global,
     g: &GatewayState<K>,
@@ -155,7 +155,7 @@ fn do_seekers_lack<K: Key>(
 {
     match g.find_seekers(alloc, expr)? {
         Some(numbers) => Ok(do_numbers_lack(g, face, expr, from, &numbers)),
-        None => Ok(does_each_lack(g, face, None, expr, from)),
+        None => Ok(does_any_lack(g, face, None, expr, from)),
     }
 }
 
@@ -179,14 +179,14 @@ pub(crate) fn do_tokens_spend<K: Key>(
     };
     match interest {
         None => do_seekers_lack(alloc, g, face, expr, from),
-        Some(_) => Ok(does_each_lack(g, face, interest, expr, from)),
+        Some(_) => Ok(does_any_lack(g, face, interest, expr, from)),
     }
 }
 
 // ---- interests
 
-// Whether the face is sent an interest of this mode of a face of the region `asker`, and has no id left
-// for it.
+// Whether the face is sent an interest of this mode of a face of the region `asker`, and has no id
+// left for it.
 fn lacks_target_id<K: Key>(
     g: &GatewayState<K>,
     asker: Region,
@@ -247,8 +247,8 @@ fn ids_for_answers<K: Key>(
     Ok(exprs.iter().filter(|k| !keeps(f, k)).count())
 }
 
-// Whether a face needs more ids for the answers to an interest of its own than are left. The only error
-// is want of memory.
+// Whether a face needs more ids for the answers to an interest of its own than are left. The only
+// error is want of memory.
 fn lacks_answer_ids<K: Key>(
     alloc: Global,
     g: &GatewayState<K>,

@@ -1,5 +1,6 @@
-//! `zt_drive WORKERS` reads a script of one gateway from standard input, lets that many workers carry out its lines
-//! at the same time, and prints the transcript of the lines in the order in which they were carried out.
+//! `zt_drive WORKERS` reads a script of one gateway from standard input, lets that many workers
+//! carry out its lines at the same time, and prints the transcript of the lines in the order in
+//! which they were carried out.
 #![tactic(auto)]
 
 use std::env;

@@ -2,7 +2,8 @@
 ghost use Rattle.std.specs.Prelude.{◌≡◌, ◌&&◌, ◌++◌, [], IfOk, OnOk, if◌then◌else◌, map};
 ghost use Rattle.zt_model.specs.Entities.{entities_for, queryables_for, subscribers_for};
 ghost use Rattle.zt_model.specs.Parts.{to_face};
-ghost use Rattle.zt_protocol.specs.Interest.{has_queryables, has_subscribers, is_current, is_future};
+ghost use Rattle.zt_protocol.specs.Interest.{has_queryables, has_subscribers, is_current};
+ghost use Rattle.zt_protocol.specs.Interest.{is_future};
 
 use crate::queryables::add_queryables_for;
 use crate::subscribers::add_subscribers_for;
@@ -82,8 +83,8 @@ fn entities_for<K: Key>(
     Ok(sends)
 }
 
-/// The face's interest in what is there now and later is answered the subscribers and queryables that
-/// it asks for. The only error is want of memory; numbers that run out count as it.
+/// The face's interest in what is there now and later is answered the subscribers and queryables
+/// that it asks for. The only error is want of memory; numbers that run out count as it.
 #[tactic(auto, unfolding(zt_model::specs::Parts::to_face))]
 pub fn answer_entities<K: Key>(
     alloc: Global,

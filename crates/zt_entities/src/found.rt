@@ -134,7 +134,8 @@ fn add_queryables_of<K: Key>(
     found: &mut Vec<(K, QueryableInfo)>,
 ) -> Result<(), Memory>
     ensures { OnOk result (found.new.items ≡ found.old.items
-        ++ found_at f.now (λ q. is_about K.matching interest.now.expr q.0) (λ x. x.queryables) other.now) }
+        ++ found_at f.now (λ q. is_about K.matching interest.now.expr q.0)
+        (λ x. x.queryables) other.now) }
 {
     if is_shown_of(f, other) {
         add_queryables(alloc, interest.expr(), other.queryables(), found)?;

@@ -45,7 +45,8 @@ fn merged_of<K: Key>(
     known: Option<QueryableInfo>,
 ) -> Option<QueryableInfo>
     ensures { result
-        ≡ (if same K.cmp expr.now queryable.now.0 then merged_onto queryable.now.1 known else known) }
+        ≡ (if same K.cmp expr.now queryable.now.0 then merged_onto queryable.now.1 known
+        else known) }
 {
     if expr == &queryable.0 {
         merged_onto(queryable.1, known)

@@ -2,7 +2,8 @@
 ghost use Rattle.std.specs.Prelude.{◌≡◌, ◌++◌, IfOk, OnOk, map};
 ghost use Rattle.std.specs.List.{flat_map};
 ghost use Rattle.std.specs.Option.{option_to_list};
-ghost use Rattle.zt_model.specs.Entities.{aggregate_of, all_merged, info_of, queryable_of, queryables_for};
+ghost use Rattle.zt_model.specs.Entities.{aggregate_of, all_merged, info_of, queryable_of};
+ghost use Rattle.zt_model.specs.Entities.{queryables_for};
 ghost use Rattle.zt_model.specs.Lists.{in_key_order};
 ghost use Rattle.zt_protocol.specs.Interest.{has_aggregate};
 
@@ -41,7 +42,8 @@ fn add_queryable<K: Key>(
     sends: &mut Vec<(u32, Message<K>)>,
 ) -> Result<(), Memory>
     ensures { OnOk result (sends.new.items ≡ sends.old.items
-        ++ map (λ m. (face, m)) (map (queryable_of K.cmp g.now id expr.now) (option_to_list info))) }
+        ++ map (λ m. (face, m))
+        (map (queryable_of K.cmp g.now id expr.now) (option_to_list info))) }
 {
     if let Some(info) = info {
         let message = Message::DeclareQueryable {
@@ -107,7 +109,8 @@ fn add_aggregate<K: Key>(
 ) -> Result<(), Memory>
     ensures { OnOk result (sends.new.items ≡ sends.old.items
         ++ map (λ m. (face, m))
-        (aggregate_of K.cmp about.now (all_merged (map (λ q. q.1) found.now)) (queryable_of K.cmp g.now id))) }
+        (aggregate_of K.cmp about.now (all_merged (map (λ q. q.1) found.now))
+        (queryable_of K.cmp g.now id))) }
 {
     match about {
         None => Ok(()),

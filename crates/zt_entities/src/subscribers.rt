@@ -74,7 +74,8 @@ fn add_aggregate<K: Key>(
 ) -> Result<(), Memory>
     ensures { OnOk result (sends.new.items ≡ sends.old.items
         ++ map (λ m. (face, m))
-        (aggregate_of K.cmp about.now (first_of found.now) (λ k e. subscriber_of K.cmp g.now id k))) }
+        (aggregate_of K.cmp about.now (first_of found.now)
+        (λ k e. subscriber_of K.cmp g.now id k))) }
 {
     match (about, found) {
         (Some(expr), [_, ..]) => add_subscriber(alloc, g, face, id, expr, sends),

@@ -1,11 +1,13 @@
 //! Lines carried out one after another: read, stepped, printed and counted.
-ghost use Rattle.std.specs.Prelude.{◌≡◌, ◌+◌, ◌<◌, ◌≤◌, [], ◌∷◌, ◌++◌, length, OnOk, OnErr, IfOk, IfErr, is_err, true, string_bytes};
+ghost use Rattle.std.specs.Prelude.{◌≡◌, ◌+◌, ◌<◌, ◌≤◌, [], ◌∷◌, ◌++◌, length, OnOk, OnErr, IfOk};
+ghost use Rattle.std.specs.Prelude.{IfErr, is_err, true, string_bytes};
 ghost use Rattle.std.specs.Io.KnownBytes.{Appends};
 ghost use Rattle.zt_streams.specs.Streams.{AppendsPart, HasRisen};
 ghost use Rattle.zt_streams.specs.Lines.{whole_lines, rest_of, last_line};
 ghost use Rattle.zt_protocol.specs.Plain.{plain_entry, plain_line};
 ghost use Rattle.zt_wire.specs.Reading.{line_read};
-ghost use Rattle.zt_fabric.specs.Carrying.{Carries, IsInRange, LineStops, Stops, StopsWriting, Writes, with_entry};
+ghost use Rattle.zt_fabric.specs.Carrying.{Carries, IsInRange, LineStops, Stops, StopsWriting};
+ghost use Rattle.zt_fabric.specs.Carrying.{Writes, with_entry};
 
 use std::alloc::Global;
 use zt_keys::Key;
@@ -14,7 +16,8 @@ use zt_protocol::{Entry, Line, LineError, Report, RunError};
 use zt_streams::{Failed, Feeder, SCRIPT_BYTES, Sink, write_all};
 use zt_wire::{read_line, write_entry};
 
-// What a run has come to: the fabric, the totals, and the text of the entries that isn't written yet.
+// What a run has come to: the fabric, the totals, and the text of the entries that isn't written
+// yet.
 #[derive(Drop)]
 pub struct Progress<K: Key> {
     pub fabric: Fabric<K>,

@@ -1,9 +1,13 @@
 //! The script that `make` runs, and its report.
-ghost use Rattle.std.specs.Prelude.{◌≡◌, ◌++◌, ◌+◌, ◌≤◌, codes, decimal, Some, IsOkUnless, IfOk, IfErr, IfSome, OnOk, map, string_bytes};
+ghost use Rattle.std.specs.Prelude.{◌≡◌, ◌++◌, ◌+◌, ◌≤◌, codes, decimal, Some, IsOkUnless, IfOk};
+ghost use Rattle.std.specs.Prelude.{IfErr, IfSome, OnOk, map, string_bytes};
 ghost use Rattle.std.specs.Io.KnownBytes.{Appends};
 ghost use Rattle.zt_streams.specs.Lines.{with_feed};
 ghost use Rattle.zt_wire.specs.Text.{report_text};
-ghost use Rattle.zt_fabric.specs.Making.{IsReportOf, NotWritten, WritesReport, closing_line, coming_lines, declaring_line, first_lines, going_lines, lines_up_to, made_lines, made_script, number_to_make, text_of};
+ghost use Rattle.zt_fabric.specs.Making.{IsReportOf, NotWritten, WritesReport, closing_line};
+ghost use Rattle.zt_fabric.specs.Making.{coming_lines, declaring_line, first_lines, going_lines};
+ghost use Rattle.zt_fabric.specs.Making.{lines_up_to, made_lines, made_script, number_to_make};
+ghost use Rattle.zt_fabric.specs.Making.{text_of};
 
 use crate::carrying::flush;
 use crate::running::run;

@@ -1,8 +1,10 @@
 //! What the program does with its words.
-ghost use Rattle.std.specs.Prelude.{◌≡◌, ◌⊎◌, ℕ, ◌+◌, ◌≤◌, true, false, map, string_bytes, Result, Some, None};
+ghost use Rattle.std.specs.Prelude.{◌≡◌, ◌⊎◌, ℕ, ◌+◌, ◌≤◌, true, false, map, string_bytes, Result};
+ghost use Rattle.std.specs.Prelude.{Some, None};
 ghost use Rattle.zt_protocol.specs.declared.entries.Report.{Report};
 ghost use Rattle.zt_protocol.specs.declared.errors.RunError.{RunError};
-ghost use Rattle.zt_fabric.specs.Transcripts.{Answers, CountsFaults, GivesComplete, ask_to_run, status_of, streams};
+ghost use Rattle.zt_fabric.specs.Transcripts.{Answers, CountsFaults, GivesComplete, ask_to_run};
+ghost use Rattle.zt_fabric.specs.Transcripts.{status_of, streams};
 ghost use Rattle.zt_fabric.specs.Making.{WritesReport, made_lines, number_to_make};
 
 use crate::making::{make, number_to_make};
@@ -25,7 +27,8 @@ const UNKNOWN_WORDS: u8 = 64;
 pub fn tool<S: Source, T: Sink>(alloc: Global, words: &[String], source: &mut S, sink: &mut T) -> u8
     ensures runs { ask_to_run (map string_bytes words.now) ≡ true
         → (answer : Result Report RunError) × (result ≡ status_of answer)
-        × Answers ⟦<KeyExpr as Ord>⟧.cmp ⟦<KeyExpr as Key>⟧.matching ⟦<KeyExpr as Key>⟧.reading ⟦<KeyExpr as Key>⟧.printed
+        × Answers ⟦<KeyExpr as Ord>⟧.cmp ⟦<KeyExpr as Key>⟧.matching ⟦<KeyExpr as Key>⟧.reading
+        ⟦<KeyExpr as Key>⟧.printed
         (streams (S.left source.old) (S.faults source.old) (T.written sink.old) (T.faults sink.old))
         (streams (S.left source.new) (S.faults source.new) (T.written sink.new)
         (T.faults sink.new)) answer
@@ -41,7 +44,8 @@ pub fn tool<S: Source, T: Sink>(alloc: Global, words: &[String], source: &mut S,
     ensures reads { S.reads source.new ≤ S.reads source.old + 1048577 }
     ensures makes { (number : ℕ) → number_to_make (map string_bytes words.now) ≡ Some number
         → (answer : Result Report RunError) × (result ≡ status_of answer)
-        × WritesReport ⟦<KeyExpr as Ord>⟧.cmp ⟦<KeyExpr as Key>⟧.matching ⟦<KeyExpr as Key>⟧.reading (made_lines number)
+        × WritesReport ⟦<KeyExpr as Ord>⟧.cmp ⟦<KeyExpr as Key>⟧.matching ⟦<KeyExpr as Key>⟧.reading
+        (made_lines number)
         (T.written sink.old) (T.written sink.new) (T.faults sink.old) (T.faults sink.new) answer }
     ensures unknown { ask_to_run (map string_bytes words.now) ≡ false
         → number_to_make (map string_bytes words.now) ≡ None → result ≡ 64 }

@@ -1,5 +1,6 @@
 //! A whole run, from the bytes of a script to those of its transcript.
-ghost use Rattle.std.specs.Prelude.{◌≡◌, ◌⊎◌, ◌+◌, ◌≤◌, [], length, IfOk, IfErr, Err, IsOkUnless, string_bytes};
+ghost use Rattle.std.specs.Prelude.{◌≡◌, ◌⊎◌, ◌+◌, ◌≤◌, [], length, IfOk, IfErr, Err, IsOkUnless};
+ghost use Rattle.std.specs.Prelude.{string_bytes};
 ghost use Rattle.zt_streams.specs.Lines.{whole_lines, rest_of, last_line};
 ghost use Rattle.zt_fabric.specs.Carrying.{Ends, EndsInPart, IsInRange, StopsWriting};
 ghost use Rattle.zt_fabric.specs.Transcripts.{Answers, CountsFaults, GivesComplete, streams};

@@ -1,3 +1,4 @@
 mod Answered
 mod ById
+mod Found
 pub mod Told

@@ -133,6 +133,21 @@ module _ {K : Type 0} (cmp : K → K → Ordering) where
         (λ t. let later = rw t at absent in
         (told_added row.1 e id rows later ∙ rw t apart.0, apart_added e id rows later apart.1))
 
+    found_behind : (e : K) (id : ℕ) (front rest : ById K) → is_some (told_id cmp e (front ++ (id, e) ∷ rest)) ≡ true
+    unfolding told_id
+    found_behind e id [] rest = rw (same_itself e) refl
+    found_behind e id (row ∷ front) rest = by_test (same cmp e row.1) (λ t. rw t refl) (λ t. rw t (found_behind e id front rest))
+
+    -- an expression isn't told before the row that is its own
+    pub apart_before : (e : K) (id : ℕ) (front rest : ById K) → AreApart cmp (front ++ (id, e) ∷ rest) → told_id cmp e front ≡ None
+    unfolding told_id
+    apart_before e id [] rest apart = refl
+    apart_before e id (row ∷ front) rest apart = by_test (same cmp e row.1)
+        (λ t.
+        let none = subst (λ k. told_id cmp k (front ++ (id, e) ∷ rest) ≡ None) (sym (same_is e row.1 t)) apart.0 in
+        absurd (false≢true (sym (ap is_some none) ∙ found_behind e id front rest)))
+        (λ t. rw t (apart_before e id front rest apart.1))
+
     pub apart_dropped : (e : K) (rows : ById K) → AreApart cmp rows → AreApart cmp (filter (λ row. not (same cmp e row.1)) rows)
     unfolding told_id
     apart_dropped e [] apart = tt

@@ -1,1 +1,3 @@
+pub mod Ids
+pub mod Locals
 pub mod Told

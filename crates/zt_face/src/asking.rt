@@ -57,9 +57,9 @@ impl<K: Key> FaceState<K> {
         self.live.put(id, expr.copy(alloc)?)
     }
 
-    /// The face holds an interest that asks for what comes later, and asks one that asks for what is
-    /// there now, which was sent upstream as these, each a face and an id. The only error is want of
-    /// memory.
+    /// The face holds an interest that asks for what comes later, and asks one that asks for what
+    /// is there now, which was sent upstream as these, each a face and an id. The only error is
+    /// want of memory.
     pub fn ask(
         &mut self,
         alloc: Global,

@@ -115,7 +115,7 @@ impl<K: Key> Duplicate for FaceState<K> {
             live: copy_key_rows(alloc, &self.live)?,
             told: self.told.copy(alloc)?,
             held: copy_rows(alloc, &self.held)?,
-            locals: copy_rows(alloc, &self.locals)?,
+            locals: self.locals.copy(alloc)?,
             pendings: copy_rows(alloc, &self.pendings)?,
             asks: copy_rows(alloc, &self.asks)?,
             initial: self.initial,

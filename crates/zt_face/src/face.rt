@@ -4,6 +4,7 @@ ghost use Rattle.zt_model.specs.Parts.{new_face};
 
 use crate::interest::RemoteInterest;
 use crate::local::LocalTokens;
+use crate::locals::LocalInterests;
 use crate::rows::RowsById;
 use std::alloc::Global;
 use std::marker::Model;
@@ -11,8 +12,8 @@ use zt_keys::{Key, Memory};
 use zt_protocol::{InterestMode, QueryableInfo};
 use zt_region::{Bound, Region, WhatAmI, Zid};
 
-/// A current-mode interest that was sent upstream and isn't finished, with the gateway's moment when it
-/// was sent: Zenoh's pending current interest.
+/// A current-mode interest that was sent upstream and isn't finished, with the gateway's moment
+/// when it was sent: Zenoh's pending current interest.
 #[derive(Drop)]
 pub struct PendingInterest {
     mode: InterestMode,
@@ -64,13 +65,21 @@ impl<K: Key> Model for AskState<K> {
 
     ghost Value = { Ask K };
 
-    ghost view = { λ a. record { interest = a.interest; pendings = a.pendings.items; answered = a.answered.items } };
+    ghost view = { λ a. record {
+      interest = a.interest;
+      pendings = a.pendings.items;
+      answered = a.answered.items;
+    } };
 }
 
 impl<K: Key> AskState<K> {
     /// An ask that wasn't answered yet, which sent these interests upstream.
     pub fn new(alloc: Global, interest: RemoteInterest<K>, pendings: Vec<(u32, u32)>) -> Self
-        ensures { result ≡ record { interest = interest; pendings = pendings.items; answered = [] } }
+        ensures { result ≡ record {
+          interest = interest;
+          pendings = pendings.items;
+          answered = [];
+        } }
     {
         AskState {
             interest,
@@ -114,7 +123,7 @@ pub struct FaceState<K: Key> {
     pub(crate) live: RowsById<K>,
     pub(crate) told: LocalTokens<K>,
     pub(crate) held: RowsById<RemoteInterest<K>>,
-    pub(crate) locals: RowsById<RemoteInterest<K>>,
+    pub(crate) locals: LocalInterests<K>,
     pub(crate) pendings: RowsById<PendingInterest>,
     pub(crate) asks: RowsById<AskState<K>>,
     pub(crate) initial: Option<bool>,
@@ -158,7 +167,8 @@ impl<K: Key> FaceState<K> {
         first: u32,
         initial: Option<bool>,
     ) -> Self
-        ensures { result ≡ record (new_face number region bound mode zid first) { initial = initial } }
+        ensures { result ≡ record
+            (new_face number region bound mode zid first) { initial = initial } }
     {
         FaceState {
             number,
@@ -170,7 +180,7 @@ impl<K: Key> FaceState<K> {
             live: RowsById::new(alloc),
             told: LocalTokens::new(alloc),
             held: RowsById::new(alloc),
-            locals: RowsById::new(alloc),
+            locals: LocalInterests::new(alloc),
             pendings: RowsById::new(alloc),
             asks: RowsById::new(alloc),
             initial,
@@ -243,7 +253,7 @@ impl<K: Key> FaceState<K> {
     }
 
     /// The future-mode interests that the face was sent, each under its id.
-    pub fn locals(&self) -> &RowsById<RemoteInterest<K>>
+    pub fn locals(&self) -> &LocalInterests<K>
         ensures { result.now ≡ self.now.locals }
     {
         &self.locals

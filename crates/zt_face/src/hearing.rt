@@ -1,12 +1,14 @@
 // What a face hears: what a message changes at the face that it is sent to.
 ghost use Rattle.std.specs.Prelude.{◌≡◌, map, IfOk, OnOk};
 ghost use Rattle.zt_face.specs.Told.{answered_with};
-ghost use Rattle.zt_model.specs.Hearing.{asks_answered, heard, next_after, put_if, told_pair, untold, with_answer};
+ghost use Rattle.zt_model.specs.Hearing.{asks_answered, heard, next_after, put_if, told_pair};
+ghost use Rattle.zt_model.specs.Hearing.{untold, with_answer};
 ghost use Rattle.zt_model.specs.Lists.{is_among, without_id};
 ghost use Rattle.zt_protocol.specs.Interest.{is_current, is_future};
 
 use crate::face::{AskState, FaceState, PendingInterest};
 use crate::interest::RemoteInterest;
+use crate::locals::LocalInterests;
 use crate::rows::RowsById;
 use std::alloc::Global;
 use zt_keys::{Key, Memory};
@@ -63,19 +65,19 @@ fn answer_named<K: Key>(
 // memory.
 fn put_future<K: Key>(
     alloc: Global,
-    rows: &mut RowsById<RemoteInterest<K>>,
+    locals: &mut LocalInterests<K>,
     id: u32,
     mode: InterestMode,
     options: InterestOptions,
     expr: &Option<K>,
 ) -> Result<(), Memory>
-    ensures { OnOk result (rows.new
+    ensures { OnOk result (locals.new
         ≡ put_if (is_future mode) id
-        (record { mode = mode; options = options; expr = expr.now }) rows.old) }
+        (record { mode = mode; options = options; expr = expr.now }) locals.old) }
 {
     if mode.is_future() {
         let expr = copy_expression(expr, alloc)?;
-        rows.put(id, RemoteInterest::new(mode, options, expr))?;
+        locals.put(alloc, id, RemoteInterest::new(mode, options, expr))?;
     }
     Ok(())
 }

@@ -1,6 +1,7 @@
 // Interests, as faces hold them and as they are sent on.
 ghost use Rattle.std.specs.Prelude.{◌≡◌, IfOk};
 ghost use Rattle.std.specs.Ordering.{is_eq};
+ghost use Rattle.zt_face.specs.Locals.{asked_by};
 ghost use Rattle.zt_model.specs.Routing.{asks_same, expression_order};
 ghost use Rattle.zt_model.specs.Wants.{asks_token, is_about};
 
@@ -15,8 +16,8 @@ use zt_protocol::{InterestMode, InterestOptions, copy_expression};
 #[derive(Drop)]
 pub struct RemoteInterest<K: Key> {
     mode: InterestMode,
-    options: InterestOptions,
-    expr: Option<K>,
+    // What is asked for: the expression, or all keys, and about what.
+    asked: (Option<K>, InterestOptions),
 }
 
 impl<K: Key> Model for RemoteInterest<K> {
@@ -24,7 +25,7 @@ impl<K: Key> Model for RemoteInterest<K> {
 
     ghost Value = { InterestRow K };
 
-    ghost view = { λ r. record { mode = r.mode; options = r.options; expr = r.expr } };
+    ghost view = { λ r. record { mode = r.mode; options = r.asked.1; expr = r.asked.0 } };
 }
 
 // Whether both name one expression, or both none.
@@ -55,8 +56,7 @@ impl<K: Key> RemoteInterest<K> {
     {
         RemoteInterest {
             mode,
-            options,
-            expr,
+            asked: (expr, options),
         }
     }
 
@@ -71,29 +71,43 @@ impl<K: Key> RemoteInterest<K> {
     pub fn options(&self) -> InterestOptions
         ensures { result ≡ self.now.options }
     {
-        self.options
+        self.asked.1
     }
 
     /// The expression that is asked for; without one all.
     pub fn expr(&self) -> &Option<K>
         ensures { result.now ≡ self.now.expr }
     {
-        &self.expr
+        &self.asked.0
     }
 
-    /// Whether both ask for the same: one expression, or all keys, with the same options, in whatever
-    /// modes.
+    // What is asked for, in whatever mode.
+    pub(crate) fn asked(&self) -> &(Option<K>, InterestOptions)
+        ensures { result.now ≡ asked_by self.now }
+    {
+        &self.asked
+    }
+
+    // The same as a copy. The only error is want of memory.
+    pub(crate) fn copy_asked(&self, alloc: Global) -> Result<(Option<K>, InterestOptions), Memory>
+        ensures { IfOk result (λ copy. copy ≡ asked_by self.now) }
+    {
+        Ok((copy_expression(&self.asked.0, alloc)?, self.asked.1))
+    }
+
+    /// Whether both ask for the same: one expression, or all keys, with the same options, in
+    /// whatever modes.
     pub fn asks_same(&self, other: &Self) -> bool
         ensures { result ≡ asks_same K.cmp K.matching self.now other.now }
     {
-        is_same_expression(&self.expr, &other.expr) && self.options == other.options
+        is_same_expression(&self.asked.0, &other.asked.0) && self.asked.1 == other.asked.1
     }
 
     /// Whether the interest asks for the tokens of the key.
     pub fn asks_token(&self, key: &K) -> bool
         ensures { result ≡ asks_token K.matching self.now key.now }
     {
-        self.options.contains(InterestOptions::TOKENS) && is_about(&self.expr, key)
+        self.options().contains(InterestOptions::TOKENS) && is_about(self.expr(), key)
     }
 
     /// An interest equal to this one. The only error is want of memory.
@@ -102,8 +116,7 @@ impl<K: Key> RemoteInterest<K> {
     {
         Ok(RemoteInterest {
             mode: self.mode,
-            options: self.options,
-            expr: copy_expression(&self.expr, alloc)?,
+            asked: self.copy_asked(alloc)?,
         })
     }
 }

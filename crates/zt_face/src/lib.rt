@@ -1,5 +1,6 @@
-//! What a face keeps, in memory: the tokens that it declares and was told, the interests that it holds
-//! and was sent, what it asks, and its entities. Contracts see it as the value of the definitions.
+//! What a face keeps, in memory: the tokens that it declares and was told, the interests that it
+//! holds and was sent, what it asks, and its entities. Contracts see it as the value of the
+//! definitions.
 #![tactic(auto)]
 
 mod asking;
@@ -8,8 +9,10 @@ mod dropping;
 mod entities;
 mod face;
 mod hearing;
+mod ids;
 mod interest;
 mod local;
+mod locals;
 mod rows;
 
 pub use copying::{Duplicate, copy_all, copy_keys};
@@ -17,4 +20,5 @@ pub use face::{AskState, FaceState, PendingInterest};
 pub use hearing::is_among;
 pub use interest::RemoteInterest;
 pub use local::LocalTokens;
+pub use locals::LocalInterests;
 pub use rows::RowsById;

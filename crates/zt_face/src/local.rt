@@ -2,8 +2,8 @@
 ghost use Rattle.std.specs.List.{list_any};
 ghost use Rattle.std.specs.Map.Iter.{ShowsInOrder, deref_pair};
 ghost use Rattle.std.specs.Option.{option_copied};
-ghost use Rattle.std.specs.Prelude.{◌≡◌, ℕ, ◌++◌, ◌∷◌, [], None, Some, true, IfOk, OnOk};
-ghost use Rattle.zt_face.specs.Told.{AreApart, IsAbove, IsInOrder};
+ghost use Rattle.std.specs.Prelude.{◌≡◌, ℕ, ◌++◌, ◌∷◌, [], None, Some, IfOk, OnOk};
+ghost use Rattle.zt_face.specs.Told.{AreApart, IsInOrder};
 ghost use Rattle.zt_model.specs.Hearing.{told_pair, untold};
 ghost use Rattle.zt_model.specs.Lists.{at_id, same};
 ghost use Rattle.zt_model.specs.Parts.{told_id};
@@ -15,8 +15,8 @@ use std::collections::btree_map::Iter;
 use std::marker::Model;
 use zt_keys::{Key, Memory};
 
-/// The tokens that a face was told, by id, and found by expression. Ids rise from token to token, and an
-/// expression is told under one id.
+/// The tokens that a face was told, by id, and found by expression. Ids rise from token to token,
+/// and an expression is told under one id.
 #[derive(Drop)]
 pub struct LocalTokens<K: Key> {
     rows: RowsById<K>,
@@ -79,20 +79,13 @@ impl<K: Key> LocalTokens<K> {
         self.rows.iter()
     }
 
-    // Whether a token may be added: its id is above the others, and its expression isn't told.
-    fn admits(&self, id: u32, expr: &K) -> bool
-        ensures above { result ≡ true → IsAbove id self.now }
-        ensures fresh { result ≡ true → told_id K.cmp expr.now self.now ≡ None }
-    {
-        self.rows.are_below(id) && self.id_of(expr).is_none()
-    }
-
-    // Adds a token behind the others. One that isn't admitted never comes up in a gateway, and counts as
-    // want of memory.
+    // Adds a token of an expression that isn't told, behind the others. An id that isn't above
+    // theirs never comes up in a gateway, and counts as want of memory.
     fn add(&mut self, alloc: Global, id: u32, expr: &K) -> Result<(), Memory>
+        requires { told_id K.cmp expr.now self.old ≡ None }
         ensures { OnOk result (self.new ≡ self.old ++ (id, expr.now) ∷ []) }
     {
-        if !self.admits(id, expr) {
+        if !self.rows.are_below(id) {
             return Err(Memory);
         }
         let named = expr.copy(alloc)?;
@@ -106,9 +99,9 @@ impl<K: Key> LocalTokens<K> {
         }
     }
 
-    /// A pair of id and expression is told, which is there once; under the id 0 nothing is kept. The
-    /// only error is want of memory. An expression that is told under another id, or an id that isn't
-    /// above the others, never comes up in a gateway, and counts as want of memory.
+    /// A pair of id and expression is told, which is there once; under the id 0 nothing is kept.
+    /// The only error is want of memory. An expression that is told under another id, or an id that
+    /// isn't above the others, never comes up in a gateway, and counts as want of memory.
     pub fn tell(&mut self, alloc: Global, id: u32, expr: &K) -> Result<(), Memory>
         ensures { OnOk result (self.new ≡ told_pair K.cmp id expr.now self.old) }
     {

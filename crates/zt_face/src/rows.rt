@@ -81,11 +81,12 @@ impl<X: Drop> RowsById<X> {
         self.rows.iter()
     }
 
-    /// Puts a row under its id, in place of the one that stands there, if any. The only error is want
-    /// of memory, and it leaves the rows as they were.
+    /// Puts a row under its id, in place of the one that stands there, if any. The only error is
+    /// want of memory, and it leaves the rows as they were.
     pub fn put(&mut self, id: u32, row: X) -> Result<(), Memory>
         ensures ok { OnOk result (self.new ≡ put nat_cmp id row self.old) }
         ensures err { OnErr result (self.new ≡ self.old) }
+        ensures ordered { IsInOrder self.new }
     {
         self.rows.insert(id, row)?;
         Ok(())

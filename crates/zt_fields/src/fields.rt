@@ -1,8 +1,11 @@
-// The fields of a line. What is left of a line is a text behind the last space, or nothing behind its end.
+// The fields of a line. What is left of a line is a text behind the last space, or nothing behind
+// its end.
 ghost use Rattle.std.specs.Prelude.{◌≡◌, ℕ, ◌∷◌, ◌<◌, Ok};
 ghost use Rattle.std.specs.List.{position};
 ghost use Rattle.std.specs.Option.{option_copied, option_map};
-ghost use Rattle.zt_fields.specs.Fields.{Finds, is_byte, fields_of, parts_of, parts_left, fields_left, field_at, end_at, behind, optional_at, two_of, three_of};
+ghost use Rattle.zt_fields.specs.Fields.{Finds, is_byte, fields_of, parts_of, parts_left};
+ghost use Rattle.zt_fields.specs.Fields.{fields_left, field_at, end_at, behind, optional_at};
+ghost use Rattle.zt_fields.specs.Fields.{two_of, three_of};
 
 use zt_protocol::LineError;
 
@@ -10,7 +13,8 @@ use zt_protocol::LineError;
 #[inline(always)]
 pub fn first_part(text: &str, separator: char) -> (&str, Option<&str>)
     requires { separator < 128 }
-    ensures { parts_of separator text.now ≡ result.0.now ∷ parts_left separator (option_copied result.1) }
+    ensures { parts_of separator text.now
+        ≡ result.0.now ∷ parts_left separator (option_copied result.1) }
 {
     match text.split_once(separator) {
         Some((before, after)) => (before, Some(after)),
@@ -44,7 +48,8 @@ pub(crate) fn part_at(
     separator: char,
 ) -> Result<(&str, Option<&str>), LineError>
     requires { separator < 128 }
-    ensures { Finds (λ x. (x.0.now, parts_left separator (option_copied x.1))) result (field_at (parts_left separator (option_copied rest.entry))) }
+    ensures { Finds (λ x. (x.0.now, parts_left separator (option_copied x.1))) result
+        (field_at (parts_left separator (option_copied rest.entry))) }
 {
     let Some(text) = rest else {
         return Err(LineError::NotInGrammar);
@@ -55,7 +60,8 @@ pub(crate) fn part_at(
 /// The next field, and what is left behind it. `NotInGrammar` where no field is left.
 #[inline(always)]
 pub fn field_at(rest: Option<&str>) -> Result<(&str, Option<&str>), LineError>
-    ensures { Finds (λ x. (x.0.now, fields_left (option_copied x.1))) result (field_at (fields_left (option_copied rest.entry))) }
+    ensures { Finds (λ x. (x.0.now, fields_left (option_copied x.1))) result
+        (field_at (fields_left (option_copied rest.entry))) }
 {
     let Some(text) = rest else {
         return Err(LineError::NotInGrammar);
@@ -99,7 +105,8 @@ pub(crate) fn two_parts(text: &str, separator: char) -> Option<(&str, &str)>
 /// The three parts of a text that has two separators.
 pub(crate) fn three_parts(text: &str, separator: char) -> Option<(&str, &str, &str)>
     requires { separator < 128 }
-    ensures { option_map (λ x. (x.0.now, x.1.now, x.2.now)) result ≡ three_of (parts_of separator text.now) }
+    ensures { option_map (λ x. (x.0.now, x.1.now, x.2.now)) result
+        ≡ three_of (parts_of separator text.now) }
 {
     let (one, rest) = first_part(text, separator);
     let (two, rest) = first_part(rest?, separator);
@@ -142,7 +149,8 @@ pub fn optional_part<'a>(
 /// The next field without `word`, where it begins with it, and what is left behind it.
 #[inline(always)]
 pub fn optional_at<'a>(rest: Option<&'a str>, word: &str) -> (Option<&'a str>, Option<&'a str>)
-    ensures { (option_copied result.0, fields_left (option_copied result.1)) ≡ optional_at word.now (fields_left (option_copied rest.entry)) }
+    ensures { (option_copied result.0, fields_left (option_copied result.1))
+        ≡ optional_at word.now (fields_left (option_copied rest.entry)) }
 {
     optional_part(rest, ' ', word)
 }

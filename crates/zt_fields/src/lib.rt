@@ -1,7 +1,8 @@
 //! Fields of a line, and the values that they spell.
 //!
-//! A line is read from left to right: what is left of it is the text behind the last space, or nothing behind its
-//! end. Each reader takes a field, or a part of one, off the front of what is left.
+//! A line is read from left to right: what is left of it is the text behind the last space, or
+//! nothing behind its end. Each reader takes a field, or a part of one, off the front of what is
+//! left.
 #![tactic(auto)]
 
 mod fields;

@@ -1,6 +1,7 @@
 // Numbers as a line spells them.
 ghost use Rattle.std.specs.Prelude.{◌≡◌, ◌≤◌, IfSome, IsTrue};
-ghost use Rattle.zt_fields.specs.Numbers.{is_unwritten, begins_with_zero, number_up_to, hex_number, is_hex_digit, hex_value};
+ghost use Rattle.zt_fields.specs.Numbers.{is_unwritten, begins_with_zero, number_up_to, hex_number};
+ghost use Rattle.zt_fields.specs.Numbers.{is_hex_digit, hex_value};
 
 fn is_unwritten(text: &[u8]) -> bool
     ensures { result ≡ is_unwritten text.now }

@@ -2,7 +2,8 @@
 ghost use Rattle.std.specs.Prelude.{◌≡◌, ℕ, List, Option, codes};
 ghost use Rattle.zt_fields.specs.Fields.{behind};
 ghost use Rattle.zt_fields.specs.Numbers.{u16_of, u32_of, u64_of};
-ghost use Rattle.zt_fields.specs.Values.{mode_of, bound_of, interest_mode_of, options_of, zid_of, first_of, south_of, region_of, pair_of, triple_of};
+ghost use Rattle.zt_fields.specs.Values.{mode_of, bound_of, interest_mode_of, options_of, zid_of};
+ghost use Rattle.zt_fields.specs.Values.{first_of, south_of, region_of, pair_of, triple_of};
 
 use crate::fields::{behind, three_parts, two_parts};
 use crate::numbers::number_up_to;

@@ -3,7 +3,9 @@ ghost use Rattle.std.specs.Prelude.{◌≡◌, ◌≤◌, IfSome};
 ghost use Rattle.std.specs.List.{list_any};
 ghost use Rattle.zt_keys.specs.Key.{is_blank};
 ghost use Rattle.zt_fields.specs.Fields.{Finds};
-ghost use Rattle.zt_fields.specs.Values.{mode_of, bound_of, direction_of, interest_mode_of, flag_of, zid_of, letter_bit, letters_after, options_of, is_key_text, key_read};
+ghost use Rattle.zt_fields.specs.Values.{mode_of, bound_of, direction_of, interest_mode_of};
+ghost use Rattle.zt_fields.specs.Values.{flag_of, zid_of, letter_bit, letters_after, options_of};
+ghost use Rattle.zt_fields.specs.Values.{is_key_text, key_read};
 
 use crate::numbers::hex_number;
 use bitflags::Flags;

@@ -1,6 +1,6 @@
-//! The finals of a transcript whole, line for line: theorems over the machine of `zt_model`, each the
-//! contract of a function that does nothing. `zt_finished` has when asks end; here is which finals are
-//! printed at all, and all that is promised of them in one.
+//! The finals of a transcript whole, line for line: theorems over the machine of `zt_model`, each
+//! the contract of a function that does nothing. `zt_finished` has when asks end; here is which
+//! finals are printed at all, and all that is promised of them in one.
 #![tactic(auto)]
 
 ghost use Rattle.std.specs.Prelude.{List};
@@ -16,9 +16,9 @@ ghost use Rattle.zt_finished.specs.Open.{AsksAreOpen};
 
 use zt_keys::Key;
 
-/// Each final that a turn of the machine's transcript prints is that of an
-/// ask that stands at its face once the line has changed what it changes, or has the id 0 and is for a
-/// mutual peer that the line opens.
+/// Each final that a turn of the machine's transcript prints is that of an ask that stands at its
+/// face once the line has changed what it changes, or has the id 0 and is for a mutual peer that
+/// the line opens.
 pub fn turns_print_no_other_finals<K: Key>()
     ensures { (lines : List (PlainLine K)) (s : Fabric K) → Each HasFirstIds lines
         → FabricIsInOrder K.cmp K.matching s
@@ -26,9 +26,9 @@ pub fn turns_print_no_other_finals<K: Key>()
         (turns_of K.cmp K.matching lines s) }
 {}
 
-/// So each turn sends the finals that are promised: each ask gets one in the turn that ends it and in no
-/// other, no others are printed, and they come last. It is so from each fabric on whose asks are open,
-/// so from the empty one too.
+/// So each turn sends the finals that are promised: each ask gets one in the turn that ends it and
+/// in no other, no others are printed, and they come last. It is so from each fabric on whose asks
+/// are open, so from the empty one too.
 pub fn turns_send_finals<K: Key>()
     ensures any { (lines : List (PlainLine K)) (s : Fabric K) → Each HasFirstIds lines
         → EachGatewayIs K.cmp K.matching (AsksAreOpen K.cmp K.matching) s

@@ -1,11 +1,12 @@
-//! When asks end, line for line: theorems over the machine of `zt_model`, each the contract of a function that does
-//! nothing.
+//! When asks end, line for line: theorems over the machine of `zt_model`, each the contract of a
+//! function that does nothing.
 #![tactic(auto)]
 
 ghost use Rattle.std.specs.Prelude.{List};
 ghost use Rattle.zt_protocol.specs.Plain.{PlainLine};
 ghost use Rattle.zt_model.specs.Fabric.{Fabric, empty_fabric, entry_of, fabric_after};
-ghost use Rattle.zt_model.specs.Promises.{EachFace, FinishesAsks, FinishesInitial, NothingFollowsFinals, printed_to};
+ghost use Rattle.zt_model.specs.Promises.{EachFace, FinishesAsks, FinishesInitial};
+ghost use Rattle.zt_model.specs.Promises.{NothingFollowsFinals, printed_to};
 ghost use Rattle.zt_model.specs.Transcript.{Each};
 ghost use Rattle.zt_laws.specs.Order.{FabricIsInOrder};
 ghost use Rattle.zt_laws.specs.Shown.{turns_of};
@@ -24,16 +25,16 @@ pub fn turns_finals_come_last<K: Key>()
         (turns_of K.cmp K.matching lines s) }
 {}
 
-/// And it finishes initial interests: for a face that its line opens, it prints one final of the id 0 where the face has an
-/// initial interest, and else none.
+/// And it finishes initial interests: for a face that its line opens, it prints one final of the id
+/// 0 where the face has an initial interest, and else none.
 pub fn turns_finish_initial_interests<K: Key>()
     ensures { (lines : List (PlainLine K)) (s : Fabric K) → Each HasFirstIds lines
         → FabricIsInOrder K.cmp K.matching s
         → Each (FinishesInitial K.cmp K.matching) (turns_of K.cmp K.matching lines s) }
 {}
 
-/// Every line, accepted or refused, leaves the asks of each gateway open: a pending of each ask stands,
-/// and faces of router regions have none. So are they in the empty fabric.
+/// Every line, accepted or refused, leaves the asks of each gateway open: a pending of each ask
+/// stands, and faces of router regions have none. So are they in the empty fabric.
 pub fn lines_leave_asks_open<K: Key>()
     ensures start { EachGatewayIs K.cmp K.matching (AsksAreOpen K.cmp K.matching) empty_fabric }
     ensures step { (line : PlainLine K) (s : Fabric K) → HasFirstIds line
@@ -42,9 +43,10 @@ pub fn lines_leave_asks_open<K: Key>()
         (fabric_after K.cmp K.matching line (entry_of K.cmp K.matching line s) s) }
 {}
 
-/// So each turn finishes asks: each gets one final in the turn in which its last pending ends, or in which
-/// its interest is finalised, if it asked for both, or in its own turn, if it was sent to nobody; and
-/// none in another. It is so from each fabric on whose asks are open, so from the empty one too.
+/// So each turn finishes asks: each gets one final in the turn in which its last pending ends, or
+/// in which its interest is finalised, if it asked for both, or in its own turn, if it was sent to
+/// nobody; and none in another. It is so from each fabric on whose asks are open, so from the empty
+/// one too.
 pub fn turns_finish_asks<K: Key>()
     ensures any { (lines : List (PlainLine K)) (s : Fabric K) → Each HasFirstIds lines
         → EachGatewayIs K.cmp K.matching (AsksAreOpen K.cmp K.matching) s

@@ -1,7 +1,9 @@
 // The settings of a gateway, from which it is made.
-ghost use Rattle.std.specs.Prelude.{◌≡◌, ◌||◌, ◌&&◌, not, [], None, Some, IfErr, IfOk, OnOk, false, option_map, string_bytes};
+ghost use Rattle.std.specs.Prelude.{◌≡◌, ◌||◌, ◌&&◌, not, [], None, Some, IfErr, IfOk, OnOk, false};
+ghost use Rattle.std.specs.Prelude.{option_map, string_bytes};
 ghost use Rattle.std.specs.List.{list_any};
-ghost use Rattle.zt_gateway.specs.Settings.{line_of, making_causes, names_other_region, new_gateway};
+ghost use Rattle.zt_gateway.specs.Settings.{line_of, making_causes, names_other_region};
+ghost use Rattle.zt_gateway.specs.Settings.{new_gateway};
 ghost use Rattle.zt_model.specs.Fabric.{line_causes, empty_fabric, is_south_router};
 ghost use Rattle.zt_model.specs.Refusals.{first_cause};
 ghost use Rattle.zt_model.specs.Strategy.{is_region_of};
@@ -16,8 +18,8 @@ use zt_region::{Admission, Region, SouthConf, WhatAmI, Zid};
 use zt_state::GatewayState;
 use zt_twins::TwinState;
 
-/// The settings of a gateway that is to be made. Those that aren't set are: no south regions, no south
-/// configuration, no name, the timeout 10000, and no pair of regions refused.
+/// The settings of a gateway that is to be made. Those that aren't set are: no south regions, no
+/// south configuration, no name, the timeout 10000, and no pair of regions refused.
 #[derive(Drop)]
 pub struct GatewayBuilder {
     alloc: Global,
@@ -116,7 +118,15 @@ impl GatewayBuilder {
     /// The settings of a gateway of this mode and number.
     pub fn new(alloc: Global, mode: WhatAmI, zid: Zid) -> Self
         ensures { result
-            ≡ record { mode = mode; zid = zid; regions = []; south = plain_south SouthConf.Auto; name = None; timeout = 10000; refused = [] } }
+            ≡ record {
+              mode = mode;
+              zid = zid;
+              regions = [];
+              south = plain_south SouthConf.Auto;
+              name = None;
+              timeout = 10000;
+              refused = [];
+            } }
     {
         GatewayBuilder {
             alloc,
@@ -140,7 +150,8 @@ impl GatewayBuilder {
         self
     }
 
-    /// Sets the south configuration, by which the region of a link's face is found before it is opened.
+    /// Sets the south configuration, by which the region of a link's face is found before it is
+    /// opened.
     pub fn south(mut self, conf: SouthConf) -> Self
         ensures { result ≡ record self { south = plain_south conf } }
     {
@@ -172,10 +183,10 @@ impl GatewayBuilder {
         self
     }
 
-    /// Makes a gateway without faces, as the first line of a script makes it. Refused are a pair of regions
-    /// that names one that the gateway doesn't have, and a south region of routers at a gateway that is no
-    /// router. The south configuration and the name are for those who find regions: the gateway keeps
-    /// neither.
+    /// Makes a gateway without faces, as the first line of a script makes it. Refused are a pair of
+    /// regions that names one that the gateway doesn't have, and a south region of routers at a
+    /// gateway that is no router. The south configuration and the name are for those who find
+    /// regions: the gateway keeps neither.
     pub fn build<K: Key>(self) -> Result<Gateway<K>, CallError>
         ensures refused { IfErr result (λ error.
             option_map CallError.Refused

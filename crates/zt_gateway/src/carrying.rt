@@ -1,5 +1,6 @@
 // What a call comes to beside what a gateway keeps.
-ghost use Rattle.std.specs.Prelude.{◌≡◌, ◌+◌, ◌<◌, ◌^◌, ◌≤◌, [], length, map, vec_capacity, IfErr, IfOk, None, Ok, OnOk, true};
+ghost use Rattle.std.specs.Prelude.{◌≡◌, ◌+◌, ◌<◌, ◌^◌, ◌≤◌, [], length, map, vec_capacity, IfErr};
+ghost use Rattle.std.specs.Prelude.{IfOk, None, Ok, OnOk, true};
 ghost use Rattle.zt_gateway.specs.Running.{IsRefusedBy, by_face, closed_by, sent_alone};
 ghost use Rattle.zt_laws.specs.Sound.{CallHasFirstIds, opens_face};
 ghost use Rattle.zt_kept.specs.Sound.{IsSound};
@@ -25,8 +26,8 @@ fn face_of<K: Key>(state: &GatewayState<K>, call: &Call<K>) -> Option<u32>
     }
 }
 
-// What a call leaves of what a gateway keeps, what it says and the face that it makes, where nothing
-// refuses it. The gateway keeps what it did.
+// What a call leaves of what a gateway keeps, what it says and the face that it makes, where
+// nothing refuses it. The gateway keeps what it did.
 pub(crate) fn carried<K: Key>(
     alloc: Global,
     twin: &mut TwinState<K>,

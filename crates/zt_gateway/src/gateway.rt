@@ -1,6 +1,8 @@
 // A gateway, and the calls on it.
-ghost use Rattle.std.specs.Prelude.{◌≡◌, ◌≤◌, ◌-◌, [], Ok, drop, length, map, IfErr, IfOk, None, OnErr, OnOk};
-ghost use Rattle.zt_gateway.specs.Running.{IsRefusedBy, by_face, called, next_waiting, oldest_for, planned, without_oldest, sent_alone};
+ghost use Rattle.std.specs.Prelude.{◌≡◌, ◌≤◌, ◌-◌, [], Ok, drop, length, map, IfErr, IfOk, None};
+ghost use Rattle.std.specs.Prelude.{OnErr, OnOk};
+ghost use Rattle.zt_gateway.specs.Running.{IsRefusedBy, by_face, called, next_waiting, oldest_for};
+ghost use Rattle.zt_gateway.specs.Running.{planned, without_oldest, sent_alone};
 ghost use Rattle.zt_kept.specs.Sound.{IsSound};
 ghost use Rattle.zt_laws.specs.Sound.{CallHasFirstIds, rows_after_call};
 ghost use Rattle.zt_model.specs.Journal.{cause_of, made_by, outcome_of};
@@ -22,8 +24,8 @@ use zt_protocol::{Call, CallError, Message};
 use zt_state::GatewayState;
 use zt_twins::TwinState;
 
-/// A gateway: what it keeps, and the messages that it has for its faces until they are taken. Its faces
-/// are numbered from 1 in order of making.
+/// A gateway: what it keeps, and the messages that it has for its faces until they are taken. Its
+/// faces are numbered from 1 in order of making.
 #[derive(Drop)]
 pub struct Gateway<K: Key> {
     pub(crate) alloc: Global,
@@ -80,8 +82,8 @@ fn plan<K: Key>(gateway: &mut Gateway<K>, call: &Call<K>) -> Result<Prepared<K>,
 
 impl<K: Key> Gateway<K> {
     /// Accepts a call without carrying it out, and takes all memory that it needs; a first id is at
-    /// least 1. The refusals are those of `call`, and the gateway is as before. In order of face its
-    /// messages are the outcome of the call.
+    /// least 1. The refusals are those of `call`, and the gateway is as before. In order of face
+    /// its messages are the outcome of the call.
     pub fn prepare(&mut self, call: &Call<K>) -> Result<Prepared<K>, CallError>
         requires { CallHasFirstIds (plain_call call.now) }
         ensures same { self.new ≡ self.old }
@@ -99,8 +101,8 @@ impl<K: Key> Gateway<K> {
         plan(self, call)
     }
 
-    /// Carries out a call that this gateway prepared and since which it didn't change. This takes no
-    /// memory. The answer is the number of the face that the call makes, if it makes one.
+    /// Carries out a call that this gateway prepared and since which it didn't change. This takes
+    /// no memory. The answer is the number of the face that the call makes, if it makes one.
     pub fn commit(&mut self, prepared: Prepared<K>) -> Option<u32>
         requires { prepared.before ≡ self.old }
         ensures done { self.new ≡ prepared.after }
@@ -133,8 +135,8 @@ impl<K: Key> Gateway<K> {
         (made, former)
     }
 
-    // What it kept before a call that was carried out last is brought up to date by the same call, whose
-    // messages are the last ones that wait.
+    // What it kept before a call that was carried out last is brought up to date by the same call,
+    // whose messages are the last ones that wait.
     fn catch_up(&mut self, former: GatewayState<K>, call: &Call<K>, messages: usize)
         requires after { self.old.rows
             ≡ rows_after_call K.cmp K.matching (plain_call call.now) former }
@@ -149,8 +151,9 @@ impl<K: Key> Gateway<K> {
             .catch_up(self.alloc, former, call, &waiting[first..]);
     }
 
-    /// Carries out a call as `commit` does, one that `prepare` accepted, and brings the gateway's second
-    /// state up to date by it, where memory is there for that: so the next call copies nothing.
+    /// Carries out a call as `commit` does, one that `prepare` accepted, and brings the gateway's
+    /// second state up to date by it, where memory is there for that: so the next call copies
+    /// nothing.
     pub fn commit_call(&mut self, prepared: Prepared<K>, call: &Call<K>) -> Option<u32>
         requires accepted { cause_of K.cmp K.matching (plain_call call.now) self.old.rows ≡ None }
         requires planned { prepared ≡ planned K.cmp K.matching (plain_call call.now) self.old }
@@ -164,10 +167,11 @@ impl<K: Key> Gateway<K> {
         made
     }
 
-    /// Carries out a call; a first id is at least 1. The answer is the number of the face that it makes,
-    /// if it makes one. It is refused by the first cause that holds of it; after a refusal or want of
-    /// memory nothing is changed. An accepted call leaves each face outside router regions with visible
-    /// tokens alone that it seeks, and with all admitted ones that it is to be told.
+    /// Carries out a call; a first id is at least 1. The answer is the number of the face that it
+    /// makes, if it makes one. It is refused by the first cause that holds of it; after a refusal
+    /// or want of memory nothing is changed. An accepted call leaves each face outside router
+    /// regions with visible tokens alone that it seeks, and with all admitted ones that it is to be
+    /// told.
     pub fn call(&mut self, call: &Call<K>) -> Result<Option<u32>, CallError>
         requires { CallHasFirstIds (plain_call call.now) }
         ensures refused { IfErr result

@@ -173,7 +173,7 @@ fn rows_of_routers<K: Key>(
 {
     let mut rows = Vec::new(alloc);
     let own = g.zid();
-    for (origin, keys) in g.routed().sources() {
+    for (origin, keys) in g.routed().by_origin() {
         add_origin(alloc, own, region, *origin, keys, &mut rows)?;
     }
     Ok(rows)

@@ -1,8 +1,11 @@
 // Messages that wait for faces.
-ghost use Rattle.std.specs.Prelude.{◌≡◌, ◌+◌, ◌≤◌, ◌++◌, ◌==◌, ◌<◌, ℕ, [], filter, length, not, slice_index_or, vec_capacity, vec_len, IfNone, IfSome, None, Some};
+ghost use Rattle.std.specs.Prelude.{◌≡◌, ◌+◌, ◌≤◌, ◌++◌, ◌==◌, ◌<◌, ℕ, [], filter, length, not};
+ghost use Rattle.std.specs.Prelude.{slice_index_or, vec_capacity, vec_len, IfNone, IfSome, None};
+ghost use Rattle.std.specs.Prelude.{Some};
 ghost use Rattle.std.specs.List.{remove};
 ghost use Rattle.zt_protocol.specs.declared.messages.Message.{Message};
-ghost use Rattle.zt_gateway.specs.Running.{least_with, next_waiting, oldest_for, without_closed, without_oldest};
+ghost use Rattle.zt_gateway.specs.Running.{least_with, next_waiting, oldest_for, without_closed};
+ghost use Rattle.zt_gateway.specs.Running.{without_oldest};
 
 use zt_protocol::Message;
 

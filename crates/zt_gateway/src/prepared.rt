@@ -10,8 +10,8 @@ use zt_keys::Key;
 use zt_protocol::Message;
 use zt_state::GatewayState;
 
-/// A call that a gateway has accepted and not carried out: all that it takes memory for is there. It is
-/// for the gateway that prepared it, as that stood then.
+/// A call that a gateway has accepted and not carried out: all that it takes memory for is there.
+/// It is for the gateway that prepared it, as that stood then.
 #[derive(Drop)]
 pub struct Prepared<K: Key> {
     // The gateway as it was.
@@ -28,7 +28,8 @@ pub struct Prepared<K: Key> {
 }
 
 impl<K: Key> Model for Prepared<K> {
-    ghost use Rattle.std.specs.Prelude.{◌≡◌, ◌+◌, ◌≤◌, ◌++◌, [], Some, length, map, slice_get, vec_capacity};
+    ghost use Rattle.std.specs.Prelude.{◌≡◌, ◌+◌, ◌≤◌, ◌++◌, [], Some, length, map, slice_get};
+    ghost use Rattle.std.specs.Prelude.{vec_capacity};
     ghost use Rattle.zt_gateway.specs.Running.{Planned};
     ghost use Rattle.zt_gateway.specs.Running.{by_face, without_closed};
     ghost use Rattle.zt_kept.specs.Sound.{IsSound};
@@ -37,7 +38,10 @@ impl<K: Key> Model for Prepared<K> {
 
     ghost view = { λ p. record {
       before = p.before.value;
-      after = record { rows = p.state; waiting = without_closed p.closed p.before.value.waiting ++ p.said.items };
+      after = record {
+        rows = p.state;
+        waiting = without_closed p.closed p.before.value.waiting ++ p.said.items;
+      };
       said = p.said.items;
       made = p.made;
     } };
@@ -72,8 +76,8 @@ impl<K: Key> Prepared<K> {
         self.order.len()
     }
 
-    /// The i-th message, from 0, in order of face and for one face in the order sent, with the number of
-    /// its face. None exactly from `sends` on.
+    /// The i-th message, from 0, in order of face and for one face in the order sent, with the
+    /// number of its face. None exactly from `sends` on.
     pub fn sent(&self, i: usize) -> Option<(u32, &Message<K>)>
         ensures { option_map (λ sent. (sent.0, sent.1.now)) result
             ≡ slice_get (by_face self.now.said) i }

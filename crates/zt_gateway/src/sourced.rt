@@ -38,8 +38,8 @@ fn expressions<K: Key>(alloc: Global, rows: &[SourcedToken<K>]) -> Result<Vec<K>
     Ok(exprs)
 }
 
-// Puts a declarer in its place, where it is of this kind and declares the expression. The only error
-// is want of memory.
+// Puts a declarer in its place, where it is of this kind and declares the expression. The only
+// error is want of memory.
 fn insert_declarer<K: Key>(
     kind: WhatAmI,
     expr: &K,
@@ -128,10 +128,10 @@ fn find_sources<K: Key>(
 }
 
 impl<K: Key> Gateway<K> {
-    /// Who declares each expression of the region, keys in order: in a region of sessions or clients
-    /// clients, in one of peers peers, in one of routers the routers that the tokens come from, and to
-    /// the north of a client gateway each face by its mode. Refused is a region that the gateway doesn't
-    /// have.
+    /// Who declares each expression of the region, keys in order: in a region of sessions or
+    /// clients clients, in one of peers peers, in one of routers the routers that the tokens come
+    /// from, and to the north of a client gateway each face by its mode. Refused is a region that
+    /// the gateway doesn't have.
     pub fn sourced_tokens(
         &self,
         alloc: Global,

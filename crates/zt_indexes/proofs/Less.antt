@@ -3,7 +3,7 @@ use Rattle.std.proofs.Common.{◌≡◌, ℕ, Bool, true, false, ◌||◌, cond,
 use Rattle.std.proofs.lemmas.Bool.Decides.{nat_tests}
 use Rattle.std.proofs.lemmas.List.Sums.{sum_by-cons}
 use Rattle.std.specs.BTreeMap.{is_at}
-use Rattle.std.specs.Cmp.{IsTotalOrder}
+use Rattle.std.specs.Cmp.{IsTotalOrder, tied_itself}
 use Rattle.std.specs.Map.{lookup}
 use Rattle.std.specs.Ordering.{is_eq}
 use Rattle.std.specs.declared.cmp.Ordering.{Ordering}
@@ -61,3 +61,6 @@ module _ {K : Type 0} (cmp : K → K → Ordering) (o : IsTotalOrder cmp) where
         (λ t. ap (count_in r) found ∙ rw t refl) in
         same ∙ less.at key r;
   }
+
+  pub key-gone : {X : Type 0} (e : K) (old new : List (K × X)) → IsWithout cmp e old new → lookup (is_at (cmp e)) new ≡ None
+  key-gone e old new gone = gone.at e ∙ ap (λ r. cond (is_eq r) None (lookup (is_at (cmp e)) old)) (tied_itself o e)

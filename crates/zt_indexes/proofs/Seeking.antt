@@ -1,20 +1,28 @@
--- What is found among those at a number is all that is sought.
-use Rattle.std.proofs.Common.{◌≡◌, ℕ, Bool, true, false, ◌&&◌, ◌||◌, if◌then◌else◌, List, [], ◌∷◌, Option, Some, None, filter, is_some, unwrap_or, refl, sym, ap, ◌∙◌}
+-- What is found among few is all that is sought.
+use Rattle.std.proofs.Common.{◌≡◌, ℕ, Bool, true, false, ◌&&◌, ◌||◌, if◌then◌else◌, List, [], ◌∷◌, Option, Some, None, filter, is_some, not, unwrap_or, refl, sym, ap, ◌∙◌}
+use Rattle.std.proofs.lemmas.Bool.{false≢true}
 use Rattle.std.proofs.lemmas.List.Kept.{IsStrictlySortedBy-filter}
+use Rattle.std.proofs.lemmas.Map.{lookup-none}
+use Rattle.std.proofs.lemmas.Map.Entries.{none_past_head}
 use Rattle.std.proofs.lemmas.Map.Lookups.{btree_set_from_contains}
 use Rattle.std.specs.BTreeMap.{is_at}
-use Rattle.std.specs.Cmp.{IsTotalOrder, eq_by_cmp_equiv}
+use Rattle.std.specs.Cmp.{IsTotalOrder, eq_by_cmp_equiv, tied_itself}
+use Rattle.std.specs.List.{IsDistinct}
 use Rattle.std.specs.List.Sorted.{IsStrictlySortedBy}
 use Rattle.std.specs.Map.{keys_of, lookup}
+use Rattle.std.specs.Ordering.{eq_by_cmp, is_eq}
 use Rattle.std.specs.declared.cmp.Ordering.{Ordering}
 use Rattle.std.specs.declared.cmp.Ordering.TheVariants.{Equal}
 use Rattle.zt_keys.specs.Test.{by_test}
 use Rattle.zt_region.specs.declared.region.Region.{Region}
 use Rattle.zt_indexes.specs.Counted.{is_shown_in}
 use Rattle.zt_indexes.specs.Grouped.{Covers, equal-from, is_grouped, is_in}
-use Rattle.zt_indexes.specs.Live.{shown_keys}
+use Rattle.zt_indexes.specs.Live.{counts_at, shown_keys}
+use Rattle.zt_indexes.specs.Ordered.{ordered_entries}
 use Rattle.zt_indexes.specs.Shown.{among-shown, shown-sorted}
-use Rattle.zt_indexes.specs.Sought.{AreFound, is_found, is_sought}
+use Rattle.zt_indexes.specs.Sought.{AreFound, is_found, is_found_plain, is_sought}
+use Rattle.zt_indexes.specs.Wild.{HoldsWild}
+use Rattle.zt_indexes.proofs.Ordered.{ordered-found, ordered-sorted}
 
 and_none : (b : Bool) → (b && false) ≡ false
 and_none true = refl
@@ -44,6 +52,11 @@ by_option : {A G : Type 0} (o : Option A) → ((x : A) → o ≡ Some x → G) �
 by_option None some none = none refl
 by_option (Some x) some none = some x refl
 
+-- where all that is sought stands, no more is found there than is sought
+narrowed : (stands sought : Bool) → (sought ≡ true → stands ≡ true) → (stands && sought) ≡ sought
+narrowed stands true h = ap (λ b. b && true) (h refl)
+narrowed stands false h = and_none stands
+
 -- a key more that is looked at
 one-gathered : (a b this that found left : Bool) → a ≡ b → (b ≡ true → this ≡ that)
     → ((if a && this then true else found) || (left && that)) ≡ (found || ((b || left) && that))
@@ -63,6 +76,14 @@ dropped : (a passes left there : Bool) → there ≡ (passes && left) → (a ≡
 dropped true passes left there is own = is ∙ ap (λ b. b && left) (own refl) ∙ sym (ap (λ b. b && true) (own refl))
 dropped false passes left there is own = is
 
+-- the first of the entries left is tried
+tried-here : (m n s found : Bool) → m ≡ n → ((if m && s then true else found) || (n && false)) ≡ (found || (n && s))
+tried-here true true true found same = sym (or_all found)
+tried-here true true false found same = refl
+tried-here true false s found same = cc
+tried-here false true s found same = cc
+tried-here false false s found same = refl
+
 shown-there : (shown : Region → Bool) (found : Option (List (Region × ℕ))) → is_shown_in shown (unwrap_or found []) ≡ true → is_some found ≡ true
 shown-there shown None h = h
 shown-there shown (Some x) h = refl
@@ -81,6 +102,40 @@ module _ {K : Type 0} (cmp : K → K → Ordering) (o : IsTotalOrder cmp) (one :
       (λ t. rw t (kept (is_at (cmp q) x) (passes q) (is_in cmp q xs) _ (among-filter passes q xs) (λ u. ap passes (one q x (equal-from _ u)) ∙ t)))
       (λ t. rw t (dropped (is_at (cmp q) x) (passes q) (is_in cmp q xs) _ (among-filter passes q xs) (λ u. ap passes (one q x (equal-from _ u)) ∙ t)))
 
+  -- one of entries later, as many are found
+  pub one-tried : (matches : K → Bool) (shown : Region → Bool) (e : K × List (Region × ℕ)) (left : List (K × List (Region × ℕ))) → IsDistinct (eq_by_cmp cmp) (keys_of (e ∷ left)) → (q : K) (found : Bool)
+      → ((if is_at (cmp e.0) q && (matches e.0 && is_shown_in shown e.1) then true else found) || is_sought cmp matches shown left q) ≡ (found || is_sought cmp matches shown (e ∷ left) q)
+  one-tried matches shown e left distinct q found =
+      by_test (is_at (cmp q) e.0)
+      (λ t.
+      let other : is_at (cmp e.0) q ≡ true = sym ((eq_by_cmp_equiv o).symm q e.0) ∙ t in
+      let none : lookup (is_at (cmp q)) left ≡ None = lookup-none (is_at (cmp q)) left (none_past_head (eq_by_cmp_equiv o) q e left distinct t) in
+      rw (t, other, none) (tried-here (matches e.0) (matches q) (is_shown_in shown e.1) found (ap matches (sym (one q e.0 (equal-from _ t))))))
+      (λ t.
+      let other : is_at (cmp e.0) q ≡ false = sym ((eq_by_cmp_equiv o).symm q e.0) ∙ t in
+      rw (t, other) refl)
+
+  module _ (shown : Region → Bool) (counts : List (K × List (Region × ℕ))) (exprs : List K) (sorted : IsStrictlySortedBy cmp exprs) where
+    shown-there-too : (q : K) → is_shown_in shown (counts_at cmp q counts) ≡ is_in cmp q (shown_keys shown (ordered_entries cmp counts))
+    shown-there-too q =
+        ap (λ x. is_shown_in shown (unwrap_or x [])) (sym (ordered-found cmp o q counts)) ∙ sym (among-shown cmp o shown q (ordered_entries cmp counts) (ordered-sorted cmp o counts))
+
+    all-in-order : IsStrictlySortedBy cmp (shown_keys shown (ordered_entries cmp counts))
+    all-in-order = shown-sorted cmp o shown (ordered_entries cmp counts) (ordered-sorted cmp o counts)
+
+    -- keys in order that are all that are shown
+    pub shown-listed : ((q : K) → is_in cmp q exprs ≡ is_shown_in shown (counts_at cmp q counts)) → exprs ≡ shown_keys shown (ordered_entries cmp counts)
+    shown-listed all =
+        btree_set_from_contains o (record { keys = exprs }) (record { keys = shown_keys shown (ordered_entries cmp counts) }) sorted all-in-order (λ q. all q ∙ shown-there-too q) one
+
+    -- and all that match besides
+    pub matching-listed : (matches : K → Bool) → ((q : K) → is_in cmp q exprs ≡ is_sought cmp matches shown counts q) → exprs ≡ filter matches (shown_keys shown (ordered_entries cmp counts))
+    matching-listed matches all =
+        btree_set_from_contains o (record { keys = exprs }) (record { keys = filter matches (shown_keys shown (ordered_entries cmp counts)) }) sorted
+        (IsStrictlySortedBy-filter cmp matches (shown_keys shown (ordered_entries cmp counts)) all-in-order)
+        (λ q. all q ∙ ap (λ b. matches q && b) (shown-there-too q) ∙ sym (among-filter matches q (shown_keys shown (ordered_entries cmp counts))))
+        one
+
   module _ (matching : K → K → Bool) (numbered : K → Option ℕ)
       (agree : (a b : K) (m n : ℕ) → matching a b ≡ true → numbered a ≡ Some m → numbered b ≡ Some n → m ≡ n)
       (shown : Region → Bool) (key : K) (number : ℕ) (is : numbered key ≡ Some number) where
@@ -98,15 +153,29 @@ module _ {K : Type 0} (cmp : K → K → Ordering) (o : IsTotalOrder cmp) (one :
           (λ none. or_second (is_grouped cmp (Some number) q groups) _ (ap (λ n. is_grouped cmp n q groups) (sym none) ∙ at))
 
       seen : (q : K) → is_found cmp groups number (is_sought cmp (matching key) shown counts) q ≡ is_sought cmp (matching key) shown counts q
-      seen q =
-          by_test (is_sought cmp (matching key) shown counts q)
-          (λ t. ap (λ b. b && is_sought cmp (matching key) shown counts q) (stands q t))
-          (λ t. ap (λ b. (is_grouped cmp (Some number) q groups || is_grouped cmp None q groups) && b) t ∙ and_none _ ∙ sym t)
+      seen q = narrowed _ _ (stands q)
 
-      pub all-found : IsStrictlySortedBy cmp (keys_of counts) → (exprs : List K) → AreFound cmp groups number (is_sought cmp (matching key) shown counts) exprs
-          → exprs ≡ filter (matching key) (shown_keys shown counts)
-      all-found sorted exprs found =
-          btree_set_from_contains o (record { keys = exprs }) (record { keys = filter (matching key) (shown_keys shown counts) }) found.in_order
-          (IsStrictlySortedBy-filter cmp (matching key) (shown_keys shown counts) (shown-sorted cmp o shown counts sorted))
-          (λ q. found.among q ∙ seen q ∙ ap (λ b. matching key q && b) (sym (among-shown cmp o shown q counts sorted)) ∙ sym (among-filter (matching key) q (shown_keys shown counts)))
-          one
+      pub all-found : (exprs : List K) → AreFound cmp (is_found cmp groups number (is_sought cmp (matching key) shown counts)) exprs → exprs ≡ filter (matching key) (shown_keys shown (ordered_entries cmp counts))
+      all-found exprs found = matching-listed shown counts exprs found.in_order (matching key) (λ q. found.among q ∙ seen q)
+
+  module _ (matching : K → K → Bool) (numbered : K → Option ℕ)
+      (same : (a b : K) (m n : ℕ) → matching a b ≡ true → numbered a ≡ Some m → numbered b ≡ Some n → a ≡ b)
+      (shown : Region → Bool) (key : K) (plain : is_some (numbered key) ≡ true) where
+    module _ (wilds : List K) (counts : List (K × List (Region × ℕ))) (holds : HoldsWild cmp numbered wilds counts) where
+      -- what is sought is the key or has wildcards
+      is-either : (q : K) → is_sought cmp (matching key) shown counts q ≡ true → is_in cmp q (key ∷ wilds) ≡ true
+      is-either q h =
+          let matches : matching key q ≡ true = and_first _ _ h in
+          let there : is_some (lookup (is_at (cmp q)) counts) ≡ true = shown-there shown _ (and_second (matching key q) _ h) in
+          by_option (numbered q)
+          (λ n some.
+          by_option (numbered key)
+          (λ m own. or_first _ _ (ap is_eq (ap (cmp q) (same key q m n matches own some) ∙ tied_itself o q)))
+          (λ none. absurd (false≢true (sym (ap is_some none) ∙ plain))))
+          (λ none. or_second (is_at (cmp q) key) _ (holds.at q there (ap (λ n. not (is_some n)) none)))
+
+      plain-seen : (q : K) → is_found_plain cmp key wilds (is_sought cmp (matching key) shown counts) q ≡ is_sought cmp (matching key) shown counts q
+      plain-seen q = narrowed _ _ (is-either q)
+
+      pub plain-found : (exprs : List K) → AreFound cmp (is_found_plain cmp key wilds (is_sought cmp (matching key) shown counts)) exprs → exprs ≡ filter (matching key) (shown_keys shown (ordered_entries cmp counts))
+      plain-found exprs found = matching-listed shown counts exprs found.in_order (matching key) (λ q. found.among q ∙ plain-seen q)

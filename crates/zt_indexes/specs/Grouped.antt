@@ -36,17 +36,17 @@ equal-from Equal h = refl
 equal-from Greater h = cc
 
 -- what was there stays where one is put or another is taken
-still : (a b was : Bool) → was ≡ true → (if a && b then true else was) ≡ true
+pub still : (a b was : Bool) → was ≡ true → (if a && b then true else was) ≡ true
 still true true was h = refl
 still true false was h = h
 still false b was h = h
 
-others : (a b was : Bool) → b ≡ false → was ≡ true → (if a && b then false else was) ≡ true
+pub others : (a b was : Bool) → b ≡ false → was ≡ true → (if a && b then false else was) ≡ true
 others true true was e h = cc
 others true false was e h = h
 others false b was e h = h
 
-here : (a b was : Bool) → a ≡ true → b ≡ true → (if a && b then true else was) ≡ true
+pub here : (a b was : Bool) → a ≡ true → b ≡ true → (if a && b then true else was) ≡ true
 here true true was e h = refl
 here true false was e h = cc
 here false b was e h = cc

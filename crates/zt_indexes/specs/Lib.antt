@@ -2,6 +2,8 @@ pub mod Counted
 pub mod Grouped
 pub mod Live
 pub mod Rows
+pub mod Ordered
 pub mod Recounts
 pub mod Shown
 pub mod Sought
+pub mod Wild

@@ -1,11 +1,12 @@
 // Keys grouped by a number that each may have.
-ghost use Rattle.std.specs.Prelude.{◌≡◌, ◌==◌, ◌++◌, [], false, if◌then◌else◌, length, true, IfNone, IfSome, OnErr, OnOk};
+ghost use Rattle.std.specs.Prelude.{◌≡◌, ◌==◌, ◌++◌, [], false, if◌then◌else◌, length, true};
+ghost use Rattle.std.specs.Prelude.{IfNone, IfSome, OnErr, OnOk};
 ghost use Rattle.std.specs.BTreeMap.{is_at};
 ghost use Rattle.zt_indexes.specs.Grouped.{HasChanged, as_list, is_in, keys_at, number_cmp};
 ghost use Rattle.zt_indexes.specs.Live.{IsWithout};
 
 use std::alloc::Global;
-use std::collections::{BTreeMap, BTreeSet};
+use std::collections::{HashMap, HashSet};
 use std::marker::Model;
 use zt_keys::{Anchor, Key, Memory};
 
@@ -13,7 +14,7 @@ use zt_keys::{Anchor, Key, Memory};
 #[derive(Drop)]
 pub struct KeySet<K: Key> {
     one: Option<K>,
-    more: BTreeSet<K>,
+    more: HashSet<K>,
 }
 
 impl<K: Key> Model for KeySet<K> {
@@ -52,7 +53,7 @@ impl<K: Key> KeySet<K> {
     {
         KeySet {
             one: None,
-            more: BTreeSet::new(alloc),
+            more: HashSet::new(alloc),
         }
     }
 
@@ -97,7 +98,7 @@ impl<K: Key> KeySet<K> {
     }
 
     /// The keys: one, if there is one, and more.
-    pub fn parts(&self) -> (&Option<K>, &BTreeSet<K>)
+    pub fn parts(&self) -> (&Option<K>, &HashSet<K>)
         ensures { self.now ≡ as_list result.0.now ++ result.1.now.keys }
     {
         (&self.one, &self.more)
@@ -107,7 +108,7 @@ impl<K: Key> KeySet<K> {
 // A key more at a number. The only error is want of memory, and then all stays.
 fn put_in<K: Key>(
     alloc: Global,
-    groups: &mut BTreeMap<Option<u64>, KeySet<K>>,
+    groups: &mut HashMap<Option<u64>, KeySet<K>>,
     number: Option<u64>,
     key: K,
 ) -> Result<(), Memory>
@@ -128,7 +129,7 @@ fn put_in<K: Key>(
 
 // A key less at a number, if it is there. Whether none is left there.
 fn drop_from<K: Key>(
-    groups: &mut BTreeMap<Option<u64>, KeySet<K>>,
+    groups: &mut HashMap<Option<u64>, KeySet<K>>,
     number: Option<u64>,
     key: &K,
 ) -> bool
@@ -145,7 +146,7 @@ fn drop_from<K: Key>(
 }
 
 // The keys of a number go.
-fn drop_group<K: Key>(groups: &mut BTreeMap<Option<u64>, KeySet<K>>, number: Option<u64>)
+fn drop_group<K: Key>(groups: &mut HashMap<Option<u64>, KeySet<K>>, number: Option<u64>)
     ensures { IsWithout number_cmp number groups.old.entries groups.new.entries }
 {
     drop(groups.remove(&number));
@@ -154,7 +155,7 @@ fn drop_group<K: Key>(groups: &mut BTreeMap<Option<u64>, KeySet<K>>, number: Opt
 /// Keys, each at the number that it has at an anchor, or at none.
 #[derive(Drop)]
 pub struct KeyGroups<K: Key> {
-    groups: BTreeMap<Option<u64>, KeySet<K>>,
+    groups: HashMap<Option<u64>, KeySet<K>>,
 }
 
 impl<K: Key> Model for KeyGroups<K> {
@@ -171,7 +172,7 @@ impl<K: Key> KeyGroups<K> {
         ensures { result ≡ [] }
     {
         KeyGroups {
-            groups: BTreeMap::new(alloc),
+            groups: HashMap::new(alloc),
         }
     }
 

@@ -1,18 +1,20 @@
 // How many live rows of each expression stand in each region.
-ghost use Rattle.std.specs.Prelude.{◌≡◌, ◌&&◌, ◌∷◌, ◌++◌, [], None, false, filter, if◌then◌else◌, is_some, true, IfOk, OnErr, OnOk};
+ghost use Rattle.std.specs.Prelude.{◌≡◌, [], None, false, filter, true, IfOk, OnErr, OnOk};
 ghost use Rattle.std.specs.BTreeMap.{is_at};
 ghost use Rattle.std.specs.List.Sorted.{IsStrictlySortedBy};
 ghost use Rattle.std.specs.Map.{keys_of, lookup};
-ghost use Rattle.zt_keys.specs.declared.anchor.Anchor.TheVariants.{First, Last};
+ghost use Rattle.zt_keys.specs.declared.anchor.Anchor.TheVariants.{First, Last, Whole};
 ghost use Rattle.zt_indexes.specs.Counted.{is_shown_in};
 ghost use Rattle.zt_indexes.specs.Grouped.{Grows, HasKeyMore, HasSameKeys, is_grouped};
-ghost use Rattle.zt_indexes.specs.Live.{HasOneLess, HasOneMore, HasRowsOrNoKey, IsWith, IsWithout, counts_at, shown_keys};
+ghost use Rattle.zt_indexes.specs.Live.{HasOneLess, HasOneMore, HasRowsOrNoKey, IsWith, IsWithout};
+ghost use Rattle.zt_indexes.specs.Live.{counts_at, shown_keys};
+ghost use Rattle.zt_indexes.specs.Wild.{HasWildChanged};
 
-use crate::groups::KeyGroups;
+use crate::groups::{KeyGroups, KeySet};
 use crate::regions::RegionCounts;
-use crate::search::{is_shown_at, try_all, try_at};
+use crate::search::{is_shown_at, try_all, try_at, try_plain, try_shown};
 use std::alloc::Global;
-use std::collections::BTreeMap;
+use std::collections::HashMap;
 use std::marker::Model;
 use zt_keys::{Anchor, Key, Memory};
 use zt_region::Region;
@@ -33,31 +35,38 @@ pub trait RegionTest {
 /// How many live rows of each expression stand in each region: an index beside rows that are kept
 /// elsewhere, one row more or less at a time. Contracts see the expressions in key order, each with
 /// its counts by region; the definitions say when these are what the rows give from scratch, and
-/// that each call keeps it. The expressions are found by their numbers at the anchors too, so that
-/// those that match a key are looked for among few.
+/// that each call keeps it. The expressions are found by their numbers at the anchors too, and
+/// those with wildcards stand apart, so that those that match a key are looked for among few.
 #[derive(Drop)]
 pub struct LiveCounts<K: Key> {
-    keys: BTreeMap<K, RegionCounts>,
+    keys: HashMap<K, RegionCounts>,
     firsts: KeyGroups<K>,
     lasts: KeyGroups<K>,
+    wilds: KeySet<K>,
 }
 
 impl<K: Key> Model for LiveCounts<K> {
     ghost use Rattle.std.specs.Prelude.{ℕ, List};
     ghost use Rattle.zt_indexes.specs.Grouped.{AreGrouped};
+    ghost use Rattle.zt_indexes.specs.Ordered.{ordered_entries};
+    ghost use Rattle.zt_indexes.specs.Wild.{HoldsWild};
+    ghost use Rattle.zt_keys.specs.declared.anchor.Anchor.TheVariants.{Whole};
     ghost use Rattle.zt_region.specs.declared.region.Region.{Region};
 
     ghost Value = { List (K × List (Region × ℕ)) };
 
-    ghost view = { λ a. a.keys.entries };
+    ghost view = { λ a. ordered_entries K.cmp a.keys.entries };
 
-    ghost invariant = { λ a. AreGrouped K.cmp K.anchored a.firsts a.lasts a.keys.entries };
+    ghost invariant = { λ a. record {
+      grouped : AreGrouped K.cmp K.anchored a.firsts a.lasts a.keys.entries;
+      wild : HoldsWild K.cmp (K.anchored Whole) a.wilds a.keys.entries;
+    } };
 }
 
 // One row more of an expression, where it has rows. Whether it has. The only error is want of
 // numbers, and then the counts stay.
 fn add_to<K: Key>(
-    keys: &mut BTreeMap<K, RegionCounts>,
+    keys: &mut HashMap<K, RegionCounts>,
     region: Region,
     expr: &K,
 ) -> Result<bool, Memory>
@@ -81,12 +90,11 @@ fn add_to<K: Key>(
 // Counts stand under the expression. The only error is want of memory, and then all stays.
 fn put_counts<K: Key>(
     alloc: Global,
-    keys: &mut BTreeMap<K, RegionCounts>,
+    keys: &mut HashMap<K, RegionCounts>,
     expr: &K,
     counts: RegionCounts,
 ) -> Result<(), Memory>
     ensures with { OnOk result (IsWith K.cmp expr.now counts keys.old.entries keys.new.entries) }
-    ensures in_order { OnOk result (IsStrictlySortedBy K.cmp (keys_of keys.new.entries)) }
     ensures err { OnErr result (keys.new.entries ≡ keys.old.entries) }
 {
     drop(keys.insert(expr.copy(alloc)?, counts)?);
@@ -96,13 +104,11 @@ fn put_counts<K: Key>(
 // Equal counts stand under the expression. The only error is want of memory.
 fn put_copy<K: Key>(
     alloc: Global,
-    keys: &mut BTreeMap<K, RegionCounts>,
+    keys: &mut HashMap<K, RegionCounts>,
     expr: &K,
     counts: &RegionCounts,
 ) -> Result<(), Memory>
-    ensures with { OnOk result
-        (IsWith K.cmp expr.now counts.now keys.old.entries keys.new.entries) }
-    ensures in_order { OnOk result (IsStrictlySortedBy K.cmp (keys_of keys.new.entries)) }
+    ensures { OnOk result (IsWith K.cmp expr.now counts.now keys.old.entries keys.new.entries) }
 {
     let copy = counts.copy(alloc)?;
     put_counts(alloc, keys, expr, copy)
@@ -111,7 +117,7 @@ fn put_copy<K: Key>(
 // The first row of an expression. The only error is want of memory, and then the counts stay.
 fn put_first<K: Key>(
     alloc: Global,
-    keys: &mut BTreeMap<K, RegionCounts>,
+    keys: &mut HashMap<K, RegionCounts>,
     region: Region,
     expr: &K,
 ) -> Result<(), Memory>
@@ -145,9 +151,31 @@ fn put_at_anchors<K: Key>(
     Ok(())
 }
 
+// The expression stands among those with wildcards, if it has any. The only error is want of
+// memory, and then all stays.
+fn put_wild<K: Key>(alloc: Global, wilds: &mut KeySet<K>, expr: &K) -> Result<(), Memory>
+    ensures ok { OnOk result
+        (HasWildChanged K.cmp (K.anchored Whole) expr.now true wilds.old wilds.new) }
+    ensures err { OnErr result (wilds.new ≡ wilds.old) }
+{
+    if expr.anchor(Anchor::Whole).is_none() {
+        wilds.insert(expr.copy(alloc)?)?;
+    }
+    Ok(())
+}
+
+// The expression stands among those with wildcards no more.
+fn drop_wild<K: Key>(wilds: &mut KeySet<K>, expr: &K)
+    ensures { HasWildChanged K.cmp (K.anchored Whole) expr.now false wilds.old wilds.new }
+{
+    if expr.anchor(Anchor::Whole).is_none() {
+        wilds.remove(expr);
+    }
+}
+
 // One row less of the expression in the region, if there is one. Whether its counts are gone with
 // it.
-fn lessen<K: Key>(keys: &mut BTreeMap<K, RegionCounts>, region: Region, expr: &K) -> bool
+fn lessen<K: Key>(keys: &mut HashMap<K, RegionCounts>, region: Region, expr: &K) -> bool
     ensures less { HasOneLess K.cmp region expr.now keys.old.entries keys.new.entries }
     ensures last { result ≡ true →
         is_shown_in (λ _. true) (counts_at K.cmp expr.now keys.new.entries) ≡ false }
@@ -164,28 +192,10 @@ fn lessen<K: Key>(keys: &mut BTreeMap<K, RegionCounts>, region: Region, expr: &K
 }
 
 // The expression goes with its counts.
-fn drop_key<K: Key>(keys: &mut BTreeMap<K, RegionCounts>, expr: &K)
+fn drop_key<K: Key>(keys: &mut HashMap<K, RegionCounts>, expr: &K)
     ensures { IsWithout K.cmp expr.now keys.old.entries keys.new.entries }
 {
     drop(keys.remove(expr));
-}
-
-// Adds the expression where some of its rows stand in a region that passes. The only error is want
-// of memory.
-fn push_shown<K: Key, T: RegionTest>(
-    alloc: Global,
-    expr: &K,
-    counts: &RegionCounts,
-    test: &T,
-    exprs: &mut Vec<K>,
-) -> Result<(), Memory>
-    ensures { OnOk result (exprs.new.items ≡ exprs.old.items
-        ++ (if is_shown_in (T.passes test.now) counts.now then expr.now ∷ [] else [])) }
-{
-    if counts.is_shown(test) {
-        exprs.push(expr.copy(alloc)?)?;
-    }
-    Ok(())
 }
 
 impl<K: Key> LiveCounts<K> {
@@ -194,9 +204,10 @@ impl<K: Key> LiveCounts<K> {
         ensures { result ≡ [] }
     {
         LiveCounts {
-            keys: BTreeMap::new(alloc),
+            keys: HashMap::new(alloc),
             firsts: KeyGroups::new(alloc),
             lasts: KeyGroups::new(alloc),
+            wilds: KeySet::new(alloc),
         }
     }
 
@@ -210,6 +221,7 @@ impl<K: Key> LiveCounts<K> {
             return Ok(());
         }
         put_at_anchors(alloc, &mut self.firsts, &mut self.lasts, expr)?;
+        put_wild(alloc, &mut self.wilds, expr)?;
         put_first(alloc, &mut self.keys, region, expr)?;
         Ok(())
     }
@@ -224,6 +236,7 @@ impl<K: Key> LiveCounts<K> {
             drop_key(&mut self.keys, expr);
             self.firsts.remove(Anchor::First, expr);
             self.lasts.remove(Anchor::Last, expr);
+            drop_wild(&mut self.wilds, expr);
         }
     }
 
@@ -241,16 +254,13 @@ impl<K: Key> LiveCounts<K> {
             ≡ shown_keys (T.passes test.now) self.now) }
         ensures in_order { IsStrictlySortedBy K.cmp (keys_of self.now) }
     {
-        let mut exprs = Vec::new(alloc);
-        for (expr, counts) in &self.keys {
-            push_shown(alloc, expr, counts, test, &mut exprs)?;
-        }
-        Ok(exprs)
+        try_shown(alloc, &self.keys, test)
     }
 
     /// The expressions that match the key, of rows in regions that pass, in key order, each once.
-    /// Those alone are tried that may match by their numbers, unless these are many. The only error
-    /// is want of memory.
+    /// A key without wildcards is looked up as itself, beside the expressions with wildcards. For
+    /// another those alone are tried that may match by their numbers, unless these are many. The
+    /// only error is want of memory.
     pub fn matching_keys<T: RegionTest>(
         &self,
         alloc: Global,
@@ -261,6 +271,9 @@ impl<K: Key> LiveCounts<K> {
             ≡ filter (K.matching key.now) (shown_keys (T.passes test.now) self.now)) }
         ensures in_order { IsStrictlySortedBy K.cmp (keys_of self.now) }
     {
+        if key.anchor(Anchor::Whole).is_some() {
+            return try_plain(alloc, &self.wilds, &self.keys, test, key);
+        }
         let many = self.keys.len() / 2;
         let first = key.anchor(Anchor::First);
         let last = key.anchor(Anchor::Last);
@@ -282,17 +295,20 @@ impl<K: Key> LiveCounts<K> {
     pub fn copy(&self, alloc: Global) -> Result<Self, Memory>
         ensures { IfOk result (λ copy. copy ≡ self.now) }
     {
-        let mut keys = BTreeMap::new(alloc);
+        let mut keys = HashMap::new(alloc);
         let mut firsts = KeyGroups::new(alloc);
         let mut lasts = KeyGroups::new(alloc);
+        let mut wilds = KeySet::new(alloc);
         for (expr, counts) in &self.keys {
             put_at_anchors(alloc, &mut firsts, &mut lasts, expr)?;
+            put_wild(alloc, &mut wilds, expr)?;
             put_copy(alloc, &mut keys, expr, counts)?;
         }
         Ok(LiveCounts {
             keys,
             firsts,
             lasts,
+            wilds,
         })
     }
 }

@@ -1,5 +1,6 @@
 // How many rows stand in each region.
-ghost use Rattle.std.specs.Prelude.{◌≡◌, ℕ, ◌+◌, ◌-◌, ◌<◌, ◌&&◌, ◌∷◌, ◌++◌, [], true, nat_lt, get_or, length, not, IfNone, IfOk, IfSome, OnErr, OnOk};
+ghost use Rattle.std.specs.Prelude.{◌≡◌, ℕ, ◌+◌, ◌-◌, ◌<◌, ◌&&◌, ◌∷◌, ◌++◌, [], true, nat_lt};
+ghost use Rattle.std.specs.Prelude.{get_or, length, not, IfNone, IfOk, IfSome, OnErr, OnOk};
 ghost use Rattle.zt_region.specs.Region.{region_eq};
 ghost use Rattle.zt_region.specs.declared.region.Region.{Region};
 ghost use Rattle.zt_indexes.specs.Counted.{count_in, is_counted, is_shown_in, one_in};
@@ -32,7 +33,8 @@ fn place_of(rows: &[(Region, u32)], region: Region) -> Option<usize>
     None
 }
 
-// One row more in the region. The only error is want of memory, or of numbers, and then the counts stay.
+// One row more in the region. The only error is want of memory, or of numbers, and then the counts
+// stay.
 fn add_in(rows: &mut Vec<(Region, u32)>, region: Region) -> Result<(), Memory>
     ensures ok { OnOk result ((r : Region) →
         count_in r rows.new.items ≡ count_in r rows.old.items + one_in r region) }
@@ -55,7 +57,8 @@ fn add_in(rows: &mut Vec<(Region, u32)>, region: Region) -> Result<(), Memory>
 
 // One row less in the region, if any stands there.
 fn remove_in(rows: &mut Vec<(Region, u32)>, region: Region)
-    ensures { (r : Region) → count_in r rows.new.items ≡ count_in r rows.old.items - one_in r region }
+    ensures { (r : Region) → count_in r rows.new.items
+        ≡ count_in r rows.old.items - one_in r region }
 {
     if let Some(place) = place_of(rows.as_slice(), region) {
         rows[place].1 -= 1;
@@ -114,7 +117,8 @@ impl RegionCounts {
         }
     }
 
-    /// One row more in the region. The only error is want of memory, or of numbers, and then the counts stay.
+    /// One row more in the region. The only error is want of memory, or of numbers, and then the
+    /// counts stay.
     pub fn add(&mut self, region: Region) -> Result<(), Memory>
         ensures ok { OnOk result ((r : Region) →
             count_in r self.new ≡ count_in r self.old + one_in r region) }

@@ -1,23 +1,24 @@
 // The expressions that match a key and have rows in regions that pass.
-ghost use Rattle.std.specs.Prelude.{◌≡◌, ◌&&◌, ◌||◌, ◌∷◌, ◌++◌, [], filter, if◌then◌else◌, true, IfOk, OnOk};
+ghost use Rattle.std.specs.Prelude.{◌≡◌, ◌&&◌, ◌||◌, filter, if◌then◌else◌, true, IfOk, OnOk};
 ghost use Rattle.std.specs.BTreeMap.{is_at};
 ghost use Rattle.std.specs.BTreeSet.{contains};
 ghost use Rattle.std.specs.List.Sorted.{IsStrictlySortedBy};
 ghost use Rattle.zt_indexes.specs.Counted.{is_shown_in};
 ghost use Rattle.zt_indexes.specs.Grouped.{as_list, is_grouped, is_in};
 ghost use Rattle.zt_indexes.specs.Live.{counts_at, shown_keys};
-ghost use Rattle.zt_indexes.specs.Sought.{AreFound, is_found, is_sought};
+ghost use Rattle.zt_indexes.specs.Ordered.{ordered_entries};
+ghost use Rattle.zt_indexes.specs.Sought.{AreFound, is_found, is_found_plain, is_sought};
 
 use crate::groups::{KeyGroups, KeySet};
 use crate::live::RegionTest;
 use crate::regions::RegionCounts;
 use std::alloc::Global;
-use std::collections::{BTreeMap, BTreeSet};
+use std::collections::{BTreeSet, HashMap, HashSet};
 use zt_keys::{Key, Memory};
 
 /// Whether some row of the expression stands in a region that passes.
 pub fn is_shown_at<K: Key, T: RegionTest>(
-    keys: &BTreeMap<K, RegionCounts>,
+    keys: &HashMap<K, RegionCounts>,
     expr: &K,
     test: &T,
 ) -> bool
@@ -29,42 +30,43 @@ pub fn is_shown_at<K: Key, T: RegionTest>(
     }
 }
 
-// Adds the expression where it matches the key and some of its rows stand in a region that passes.
-// The only error is want of memory.
-fn push_matching<K: Key, T: RegionTest>(
-    alloc: Global,
-    expr: &K,
-    counts: &RegionCounts,
-    test: &T,
-    key: &K,
-    exprs: &mut Vec<K>,
-) -> Result<(), Memory>
-    ensures { OnOk result (exprs.new.items ≡ exprs.old.items
-        ++ (if K.matching key.now expr.now && is_shown_in (T.passes test.now) counts.now
-        then expr.now ∷ [] else [])) }
+// Whether the expression with these counts matches the key and some of its rows stand in a region
+// that passes.
+fn is_sought<K: Key, T: RegionTest>(expr: &K, counts: &RegionCounts, test: &T, key: &K) -> bool
+    ensures { result
+        ≡ (K.matching key.now expr.now && is_shown_in (T.passes test.now) counts.now) }
 {
-    if key.matches(expr) && counts.is_shown(test) {
-        exprs.push(expr.copy(alloc)?)?;
-    }
-    Ok(())
+    key.matches(expr) && counts.is_shown(test)
 }
 
-/// The expressions that match the key, of rows in regions that pass, in key order: each is tried.
-/// The only error is want of memory.
-pub fn try_all<K: Key, T: RegionTest>(
-    alloc: Global,
-    keys: &BTreeMap<K, RegionCounts>,
+// Whether the expression matches the key and some of its rows stand in a region that passes.
+fn is_sought_at<K: Key, T: RegionTest>(
+    keys: &HashMap<K, RegionCounts>,
+    expr: &K,
     test: &T,
     key: &K,
-) -> Result<Vec<K>, Memory>
-    ensures { IfOk result (λ exprs. exprs.items
-        ≡ filter (K.matching key.now) (shown_keys (T.passes test.now) keys.now.entries)) }
+) -> bool
+    ensures { result
+        ≡ is_sought K.cmp (K.matching key.now) (T.passes test.now) keys.now.entries expr.now }
 {
-    let mut exprs = Vec::new(alloc);
-    for (expr, counts) in keys {
-        push_matching(alloc, expr, counts, test, key, &mut exprs)?;
+    key.matches(expr) && is_shown_at(keys, expr, test)
+}
+
+// Puts a copy of the expression among those found, where it is one of them. The only error is want
+// of memory.
+fn add_if<K: Key>(
+    alloc: Global,
+    found: &mut BTreeSet<K>,
+    expr: &K,
+    is_one: bool,
+) -> Result<(), Memory>
+    ensures { OnOk result ((q : K) → contains K.cmp found.new q
+        ≡ (if is_at (K.cmp expr.now) q && is_one then true else contains K.cmp found.old q)) }
+{
+    if is_one {
+        found.insert(expr.copy(alloc)?)?;
     }
-    Ok(exprs)
+    Ok(())
 }
 
 // Puts a copy of the expression among those found, where it is sought. The only error is want of
@@ -73,7 +75,7 @@ fn add_sought<K: Key, T: RegionTest>(
     alloc: Global,
     found: &mut BTreeSet<K>,
     expr: &K,
-    keys: &BTreeMap<K, RegionCounts>,
+    keys: &HashMap<K, RegionCounts>,
     test: &T,
     key: &K,
 ) -> Result<(), Memory>
@@ -82,10 +84,7 @@ fn add_sought<K: Key, T: RegionTest>(
         && is_sought K.cmp (K.matching key.now) (T.passes test.now) keys.now.entries expr.now
         then true else contains K.cmp found.old q)) }
 {
-    if key.matches(expr) && is_shown_at(keys, expr, test) {
-        found.insert(expr.copy(alloc)?)?;
-    }
-    Ok(())
+    add_if(alloc, found, expr, is_sought_at(keys, expr, test, key))
 }
 
 // Puts a key among those found, if it is there and sought. The only error is want of memory.
@@ -93,7 +92,7 @@ fn gather_one<K: Key, T: RegionTest>(
     alloc: Global,
     found: &mut BTreeSet<K>,
     one: &Option<K>,
-    keys: &BTreeMap<K, RegionCounts>,
+    keys: &HashMap<K, RegionCounts>,
     test: &T,
     key: &K,
 ) -> Result<(), Memory>
@@ -111,8 +110,8 @@ fn gather_one<K: Key, T: RegionTest>(
 fn gather_more<K: Key, T: RegionTest>(
     alloc: Global,
     found: &mut BTreeSet<K>,
-    more: &BTreeSet<K>,
-    keys: &BTreeMap<K, RegionCounts>,
+    more: &HashSet<K>,
+    keys: &HashMap<K, RegionCounts>,
     test: &T,
     key: &K,
 ) -> Result<(), Memory>
@@ -131,7 +130,7 @@ fn gather_in<K: Key, T: RegionTest>(
     alloc: Global,
     found: &mut BTreeSet<K>,
     group: &KeySet<K>,
-    keys: &BTreeMap<K, RegionCounts>,
+    keys: &HashMap<K, RegionCounts>,
     test: &T,
     key: &K,
 ) -> Result<(), Memory>
@@ -151,7 +150,7 @@ fn gather_at<K: Key, T: RegionTest>(
     found: &mut BTreeSet<K>,
     groups: &KeyGroups<K>,
     number: Option<u64>,
-    keys: &BTreeMap<K, RegionCounts>,
+    keys: &HashMap<K, RegionCounts>,
     test: &T,
     key: &K,
 ) -> Result<(), Memory>
@@ -170,7 +169,7 @@ fn gather_all<K: Key, T: RegionTest>(
     alloc: Global,
     groups: &KeyGroups<K>,
     number: u64,
-    keys: &BTreeMap<K, RegionCounts>,
+    keys: &HashMap<K, RegionCounts>,
     test: &T,
     key: &K,
 ) -> Result<BTreeSet<K>, Memory>
@@ -202,13 +201,110 @@ pub fn try_at<K: Key, T: RegionTest>(
     alloc: Global,
     groups: &KeyGroups<K>,
     number: u64,
-    keys: &BTreeMap<K, RegionCounts>,
+    keys: &HashMap<K, RegionCounts>,
     test: &T,
     key: &K,
 ) -> Result<Vec<K>, Memory>
-    ensures { IfOk result (λ exprs. AreFound K.cmp groups.now number
-        (is_sought K.cmp (K.matching key.now) (T.passes test.now) keys.now.entries) exprs.items) }
+    ensures { IfOk result (λ exprs. AreFound K.cmp (is_found K.cmp groups.now number
+        (is_sought K.cmp (K.matching key.now) (T.passes test.now) keys.now.entries)) exprs.items) }
 {
     let found = gather_all(alloc, groups, number, keys, test, key)?;
+    listed(alloc, found)
+}
+
+// The key and those with wildcards, where they are sought. The only error is want of memory.
+fn gather_plain<K: Key, T: RegionTest>(
+    alloc: Global,
+    wilds: &KeySet<K>,
+    keys: &HashMap<K, RegionCounts>,
+    test: &T,
+    key: &K,
+) -> Result<BTreeSet<K>, Memory>
+    ensures { IfOk result (λ found. (q : K) → contains K.cmp found q
+        ≡ is_found_plain K.cmp key.now wilds.now
+        (is_sought K.cmp (K.matching key.now) (T.passes test.now) keys.now.entries) q) }
+{
+    let mut found = BTreeSet::new(alloc);
+    add_sought(alloc, &mut found, key, keys, test, key)?;
+    gather_in(alloc, &mut found, wilds, keys, test, key)?;
+    Ok(found)
+}
+
+/// The expressions that match the key, of rows in regions that pass, and are the key itself or
+/// stand among those with wildcards, in key order. The only error is want of memory.
+pub fn try_plain<K: Key, T: RegionTest>(
+    alloc: Global,
+    wilds: &KeySet<K>,
+    keys: &HashMap<K, RegionCounts>,
+    test: &T,
+    key: &K,
+) -> Result<Vec<K>, Memory>
+    ensures { IfOk result (λ exprs. AreFound K.cmp (is_found_plain K.cmp key.now wilds.now
+        (is_sought K.cmp (K.matching key.now) (T.passes test.now) keys.now.entries)) exprs.items) }
+{
+    let found = gather_plain(alloc, wilds, keys, test, key)?;
+    listed(alloc, found)
+}
+
+// The expressions of rows in regions that pass. The only error is want of memory.
+fn gather_shown<K: Key, T: RegionTest>(
+    alloc: Global,
+    keys: &HashMap<K, RegionCounts>,
+    test: &T,
+) -> Result<BTreeSet<K>, Memory>
+    ensures { IfOk result (λ found. (q : K) → contains K.cmp found q
+        ≡ is_shown_in (T.passes test.now) (counts_at K.cmp q keys.now.entries)) }
+{
+    let mut found = BTreeSet::new(alloc);
+    for (expr, counts) in keys {
+        add_if(alloc, &mut found, expr, counts.is_shown(test))?;
+    }
+    Ok(found)
+}
+
+// The expressions that match the key, of rows in regions that pass. The only error is want of
+// memory.
+fn gather_matching<K: Key, T: RegionTest>(
+    alloc: Global,
+    keys: &HashMap<K, RegionCounts>,
+    test: &T,
+    key: &K,
+) -> Result<BTreeSet<K>, Memory>
+    ensures { IfOk result (λ found. (q : K) → contains K.cmp found q
+        ≡ is_sought K.cmp (K.matching key.now) (T.passes test.now) keys.now.entries q) }
+{
+    let mut found = BTreeSet::new(alloc);
+    for (expr, counts) in keys {
+        add_if(alloc, &mut found, expr, is_sought(expr, counts, test, key))?;
+    }
+    Ok(found)
+}
+
+/// The expressions of rows in regions that pass, in key order: each is tried. The only error is
+/// want of memory.
+pub fn try_shown<K: Key, T: RegionTest>(
+    alloc: Global,
+    keys: &HashMap<K, RegionCounts>,
+    test: &T,
+) -> Result<Vec<K>, Memory>
+    ensures { IfOk result (λ exprs. exprs.items
+        ≡ shown_keys (T.passes test.now) (ordered_entries K.cmp keys.now.entries)) }
+{
+    let found = gather_shown(alloc, keys, test)?;
+    listed(alloc, found)
+}
+
+/// The expressions that match the key, of rows in regions that pass, in key order: each is tried.
+/// The only error is want of memory.
+pub fn try_all<K: Key, T: RegionTest>(
+    alloc: Global,
+    keys: &HashMap<K, RegionCounts>,
+    test: &T,
+    key: &K,
+) -> Result<Vec<K>, Memory>
+    ensures { IfOk result (λ exprs. exprs.items ≡ filter (K.matching key.now)
+        (shown_keys (T.passes test.now) (ordered_entries K.cmp keys.now.entries))) }
+{
+    let found = gather_matching(alloc, keys, test, key)?;
     listed(alloc, found)
 }

@@ -13,7 +13,7 @@ use Rattle.std.specs.Option.{option_or}
 use Rattle.std.specs.declared.cmp.Ordering.{Ordering}
 use Rattle.std.specs.declared.cmp.Ordering.TheVariants.{Equal}
 use Rattle.zt_keys.specs.Test.{by_test}
-use Rattle.zt_keys.specs.declared.anchor.Anchor.TheVariants.{Whole, First, Last}
+use Rattle.zt_keys.specs.declared.anchor.Anchor.TheVariants.{Whole, First, FirstTwo, Last}
 use Rattle.zt_interest_index.specs.Index.{IsWith, bucket_cmp}
 use Rattle.zt_interest_index.specs.declared.bucket.Bucket.{Bucket}
 use Rattle.zt_interest_index.specs.declared.bucket.Bucket.TheVariants.{Any, At}
@@ -53,10 +53,17 @@ bucket-one Any (At b m) h = cc
 bucket-one (At a n) Any h = cc
 bucket-one (At Whole n) (At Whole m) h = ap (At Whole) (one-number n m h)
 bucket-one (At First n) (At First m) h = ap (At First) (one-number n m h)
+bucket-one (At FirstTwo n) (At FirstTwo m) h = ap (At FirstTwo) (one-number n m h)
 bucket-one (At Last n) (At Last m) h = ap (At Last) (one-number n m h)
 bucket-one (At Whole n) (At First m) h = cc
+bucket-one (At Whole n) (At FirstTwo m) h = cc
 bucket-one (At Whole n) (At Last m) h = cc
 bucket-one (At First n) (At Whole m) h = cc
+bucket-one (At First n) (At FirstTwo m) h = cc
 bucket-one (At First n) (At Last m) h = cc
+bucket-one (At FirstTwo n) (At Whole m) h = cc
+bucket-one (At FirstTwo n) (At First m) h = cc
+bucket-one (At FirstTwo n) (At Last m) h = cc
 bucket-one (At Last n) (At Whole m) h = cc
 bucket-one (At Last n) (At First m) h = cc
+bucket-one (At Last n) (At FirstTwo m) h = cc

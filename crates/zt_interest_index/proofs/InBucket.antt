@@ -1,6 +1,5 @@
 -- A bucket has all interests in an expression that belongs there.
 use Rattle.std.proofs.Common.{◌≡◌, ℕ, Bool, true, false, ◌&&◌, List, Option, refl, subst, sym, ◌∙◌}
-use Rattle.std.specs.List.{list_any}
 use Rattle.zt_keys.specs.declared.anchor.Anchor.{Anchor}
 use Rattle.zt_interest_index.specs.Buckets.{bucket_of}
 use Rattle.zt_interest_index.specs.Held.{belongs-own}

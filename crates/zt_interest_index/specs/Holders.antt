@@ -1,28 +1,26 @@
 -- An index that is that of a list of interests, and the faces that it finds.
---     IsIndexOf anchored index held         the interests of each bucket are those of the list that belong there
---     found_in matching e there numbers n index    the face was found before, or has an interest in the key in a bucket
---                                                  that the key looks into
+--     IsIndexOf anchored index held                the interests of each bucket are those of the list that belong there
+--     asks_in matching e n index buckets           the face has an interest in the key in one of the buckets
 --     HasAllIn about held rows                     the rows have each interest in the expression that is held, and no
 --                                                  other in it
 --     AreHoldersAnd matching e held others faces   the faces that hold an interest in the key, and the others, in
 --                                                  order, each once
 --     holders-found                                a key with a number at each anchor finds them
-use Rattle.std.specs.Prelude.{◌≡◌, ℕ, ◌==◌, Bool, true, false, ◌&&◌, ◌||◌, List, [], ◌∷◌, Option, Some, refl}
+use Rattle.std.specs.Prelude.{◌≡◌, ℕ, ◌==◌, Bool, true, false, ◌&&◌, ◌||◌, List, [], ◌∷◌, slice_index_or, Contains, Option, Some, refl}
 use Rattle.std.specs.BTreeMap.{is_at}
 use Rattle.std.specs.Cmp.{tied_itself}
 use Rattle.std.specs.List.{list_any}
 use Rattle.std.specs.List.Sorted.{IsStrictlySortedBy}
 use Rattle.std.specs.Ordering.{is_eq, nat_cmp}
-use Rattle.std.proofs.Common.{ap, inl, inr, sym, ◌∙◌}
+use Rattle.std.proofs.Common.{ap, sym, ◌∙◌}
+use Rattle.std.proofs.lemmas.List.Folds.{list_any_at}
 use Rattle.zt_keys.specs.declared.anchor.Anchor.{Anchor}
-use Rattle.zt_keys.specs.declared.anchor.Anchor.TheVariants.{Whole, First, Last}
-use Rattle.zt_interest_index.specs.Buckets.{IsLookedFor, anchors_of, bucket_of, looked-for}
+use Rattle.zt_interest_index.specs.Buckets.{anchors_of, bucket_of, looked-for, looked_into}
 use Rattle.zt_interest_index.specs.Holdings.{asks_from}
 use Rattle.zt_interest_index.specs.Index.{bucket_cmp, rows_at}
 use Rattle.zt_interest_index.specs.contracts.bucket.BucketOrd.TheImpl.Laws.{total-law}
 use Rattle.zt_interest_index.specs.declared.bucket.Anchors.{Anchors}
 use Rattle.zt_interest_index.specs.declared.bucket.Bucket.{Bucket}
-use Rattle.zt_interest_index.specs.declared.bucket.Bucket.TheVariants.{Any, At}
 
 module _ {K : Type 0} where
   module _ (anchored : Anchor → K → Option ℕ) where
@@ -38,78 +36,53 @@ module _ {K : Type 0} where
     pub at : (test : (ℕ × ℕ) × Option K → Bool) → ((row : (ℕ × ℕ) × Option K) → test row ≡ true → row.1 ≡ about) → list_any test rows ≡ list_any test held
 
   module _ (matching : K → K → Bool) (e : K) where
-    abbrev pub found_in : Bool → Anchors → ℕ → List (Bucket × List ((ℕ × ℕ) × Option K)) → Bool
-    found_in there numbers n index =
-        (((there || list_any (asks_from matching e n) (rows_at Any index)) || list_any (asks_from matching e n) (rows_at (At Whole numbers.whole) index))
-        || list_any (asks_from matching e n) (rows_at (At Last numbers.last) index)) || list_any (asks_from matching e n) (rows_at (At First numbers.first) index)
+    abbrev pub asks_in : ℕ → List (Bucket × List ((ℕ × ℕ) × Option K)) → List Bucket → Bool
+    asks_in n index buckets = list_any (λ bucket. list_any (asks_from matching e n) (rows_at bucket index)) buckets
 
     pub record AreHoldersAnd (held : List ((ℕ × ℕ) × Option K)) (others faces : List ℕ) : Type 0 where
       pub in_order : IsStrictlySortedBy nat_cmp faces
       pub among : (n : ℕ) → list_any (λ m. is_eq (nat_cmp n m)) faces ≡ (list_any (λ m. n == m) others || list_any (asks_from matching e n) held)
 
 -- ---- tests of a list, together
-or_four : (a b c d w x y z : Bool) → (((a || b) || c) || d) || (((w || x) || y) || z) ≡ (((a || w) || (b || x)) || (c || y)) || (d || z)
-or_four true b c d w x y z = refl
-or_four false true c d true x y z = refl
-or_four false true c d false x y z = refl
-or_four false false true d w x y z = or_true w x
-  where
-    or_true : (w x : Bool) → true ≡ ((w || x) || true) || (d || z)
-    or_true true x = refl
-    or_true false true = refl
-    or_true false false = refl
-or_four false false false true w x y z = or_late w x y
-  where
-    or_late : (w x y : Bool) → true ≡ ((w || x) || y) || true
-    or_late true x y = refl
-    or_late false true y = refl
-    or_late false false true = refl
-    or_late false false false = refl
-or_four false false false false w x y z = refl
-
-module _ {A : Type 0} where
-  any_four : (p q r s : A → Bool) (xs : List A) → list_any (λ x. ((p x || q x) || r x) || s x) xs ≡ (((list_any p xs || list_any q xs) || list_any r xs) || list_any s xs)
-  any_four p q r s [] = refl
-  any_four p q r s (x ∷ xs) =
-      ap (λ b. (((p x || q x) || r x) || s x) || b) (any_four p q r s xs) ∙ or_four (p x) (q x) (r x) (s x) (list_any p xs) (list_any q xs) (list_any r xs) (list_any s xs)
-
-  pub any_alike : (p q : A → Bool) → ((x : A) → p x ≡ q x) → (xs : List A) → list_any p xs ≡ list_any q xs
-  any_alike p q same [] = refl
-  any_alike p q same (x ∷ xs) = λ i. same x i || any_alike p q same xs i
-
-pub by_test : {G : Type 0} (b : Bool) → (b ≡ true → G) → (b ≡ false → G) → G
-by_test true holds fails = holds refl
-by_test false holds fails = fails refl
-
-or_first : (a b : Bool) → a ≡ true → (a || b) ≡ true
-or_first true b h = refl
-or_first false b h = cc
-
-or_second : (a b : Bool) → b ≡ true → (a || b) ≡ true
-or_second true b h = refl
-or_second false b h = h
+or_four : (a b c d : Bool) → ((a || b) || (c || d)) ≡ ((a || c) || (b || d))
+or_four true b c d = refl
+or_four false true true d = refl
+or_four false true false d = refl
+or_four false false c d = refl
 
 and_second : (a b : Bool) → (a && b) ≡ true → b ≡ true
 and_second true b h = h
 and_second false b h = cc
 
+and_no : (a b : Bool) → b ≡ false → (a && b) ≡ false
+and_no true b h = h
+and_no false b h = refl
+
 both_true : (a b : Bool) → a ≡ true → b ≡ true → (a && b) ≡ true
 both_true true b h k = k
 both_true false b h k = cc
 
-or_later : (there a b c d : Bool) → ((((there || a) || b) || c) || d) ≡ (there || (((a || b) || c) || d))
-or_later true a b c d = refl
-or_later false a b c d = refl
+module _ {A : Type 0} where
+  pub any_alike : (p q : A → Bool) → ((x : A) → p x ≡ q x) → (xs : List A) → list_any p xs ≡ list_any q xs
+  any_alike p q same [] = refl
+  any_alike p q same (x ∷ xs) = λ i. same x i || any_alike p q same xs i
 
-no_test : (a b c d t : Bool) → t ≡ false → ((((a && t) || (b && t)) || (c && t)) || (d && t)) ≡ false
-no_test a b c d t h = rw h (none a b c d)
-  where
-    and_no : (x : Bool) → (x && false) ≡ false
-    and_no true = refl
-    and_no false = refl
+  any_none : (p : A → Bool) → ((x : A) → p x ≡ false) → (xs : List A) → list_any p xs ≡ false
+  any_none p none [] = refl
+  any_none p none (x ∷ xs) = rw (none x) (any_none p none xs)
 
-    none : (a b c d : Bool) → ((((a && false) || (b && false)) || (c && false)) || (d && false)) ≡ false
-    none a b c d = rw (and_no a, and_no b, and_no c, and_no d) refl
+  any_either : (p q : A → Bool) (xs : List A) → (list_any p xs || list_any q xs) ≡ list_any (λ x. p x || q x) xs
+  any_either p q [] = refl
+  any_either p q (x ∷ xs) = or_four (p x) (list_any p xs) (q x) (list_any q xs) ∙ ap (λ b. (p x || q x) || b) (any_either p q xs)
+
+-- some pair passes, whichever list is gone over first
+any_pair : {A B : Type 0} (test : A → B → Bool) (xs : List A) (ys : List B) → list_any (λ x. list_any (test x) ys) xs ≡ list_any (λ y. list_any (λ x. test x y) xs) ys
+any_pair test [] ys = sym (any_none (λ y. false) (λ y. refl) ys)
+any_pair test (x ∷ xs) ys = ap (λ b. list_any (test x) ys || b) (any_pair test xs ys) ∙ any_either (test x) (λ y. list_any (λ x. test x y) xs) ys
+
+pub by_test : {G : Type 0} (b : Bool) → (b ≡ true → G) → (b ≡ false → G) → G
+by_test true holds fails = holds refl
+by_test false holds fails = fails refl
 
 -- ---- what a key finds
 module _ {K : Type 0} (matching : K → K → Bool) (anchored : Anchor → K → Option ℕ)
@@ -118,27 +91,24 @@ module _ {K : Type 0} (matching : K → K → Bool) (anchored : Anchor → K →
   here : (bucket : Bucket) (row : (ℕ × ℕ) × Option K) → bucket_of anchored row.1 ≡ bucket → belongs anchored bucket row ≡ true
   here bucket row same = ap (λ b. is_at (bucket_cmp bucket) b) same ∙ ap is_eq (tied_itself total-law bucket)
 
-  -- the row is seen in one of the four buckets exactly if it is about the key
-  seen : (n : ℕ) (row : (ℕ × ℕ) × Option K)
-      → ((((belongs anchored Any row && asks_from matching e n row) || (belongs anchored (At Whole numbers.whole) row && asks_from matching e n row)) || (belongs anchored (At Last numbers.last) row && asks_from matching e n row)) || (belongs anchored (At First numbers.first) row && asks_from matching e n row))
-      ≡ asks_from matching e n row
+  -- the row is seen in one of the buckets exactly if it is about the key
+  seen : (n : ℕ) (row : (ℕ × ℕ) × Option K) → list_any (λ bucket. belongs anchored bucket row && asks_from matching e n row) (looked_into numbers) ≡ asks_from matching e n row
   seen n row =
       by_test (asks_from matching e n row)
       (λ t. found t (looked-for matching anchored agree e numbers is row.1 (and_second _ _ t)) ∙ sym t)
-      (λ t. no_test (belongs anchored Any row) (belongs anchored (At Whole numbers.whole) row) (belongs anchored (At Last numbers.last) row) (belongs anchored (At First numbers.first) row) (asks_from matching e n row) t ∙ sym t)
+      (λ t. any_none (λ bucket. belongs anchored bucket row && asks_from matching e n row) (λ bucket. and_no (belongs anchored bucket row) (asks_from matching e n row) t) (looked_into numbers) ∙ sym t)
     where
-      found : asks_from matching e n row ≡ true → IsLookedFor numbers (bucket_of anchored row.1)
-          → ((((belongs anchored Any row && asks_from matching e n row) || (belongs anchored (At Whole numbers.whole) row && asks_from matching e n row)) || (belongs anchored (At Last numbers.last) row && asks_from matching e n row)) || (belongs anchored (At First numbers.first) row && asks_from matching e n row)) ≡ true
-      found t (inl any) = or_first _ _ (or_first _ _ (or_first _ _ (both_true _ _ (here Any row any) t)))
-      found t (inr (inl whole)) = or_first _ _ (or_first _ _ (or_second _ _ (both_true _ _ (here (At Whole numbers.whole) row whole) t)))
-      found t (inr (inr (inl last))) = or_first _ _ (or_second _ _ (both_true _ _ (here (At Last numbers.last) row last) t))
-      found t (inr (inr (inr first))) = or_second _ _ (both_true _ _ (here (At First numbers.first) row first) t)
+      found : asks_from matching e n row ≡ true → Contains (looked_into numbers) (bucket_of anchored row.1)
+          → list_any (λ bucket. belongs anchored bucket row && asks_from matching e n row) (looked_into numbers) ≡ true
+      found t there =
+          let bucket = slice_index_or (looked_into numbers) there.0 (bucket_of anchored row.1) in
+          list_any_at (λ bucket. belongs anchored bucket row && asks_from matching e n row) (looked_into numbers) there.0 (bucket_of anchored row.1) there.1
+          (both_true _ _ (here bucket row (sym there.2)) t)
 
   pub holders-found : (index : List (Bucket × List ((ℕ × ℕ) × Option K))) (held : List ((ℕ × ℕ) × Option K)) → IsIndexOf anchored index held
-      → (there : Bool) (n : ℕ) → found_in matching e there numbers n index ≡ (there || list_any (asks_from matching e n) held)
-  holders-found index held indexed there n =
+      → (n : ℕ) → asks_in matching e n index (looked_into numbers) ≡ list_any (asks_from matching e n) held
+  holders-found index held indexed n =
       let test = asks_from matching e n in
-      or_later there _ _ _ _ ∙ ap (λ b. there || b) (
-      (λ i. ((indexed.at Any test i || indexed.at (At Whole numbers.whole) test i) || indexed.at (At Last numbers.last) test i) || indexed.at (At First numbers.first) test i)
-      ∙ sym (any_four (λ row. belongs anchored Any row && test row) (λ row. belongs anchored (At Whole numbers.whole) row && test row) (λ row. belongs anchored (At Last numbers.last) row && test row) (λ row. belongs anchored (At First numbers.first) row && test row) held)
-      ∙ any_alike _ test (seen n) held)
+      any_alike _ _ (λ bucket. indexed.at bucket test) (looked_into numbers)
+      ∙ any_pair (λ bucket row. belongs anchored bucket row && test row) (looked_into numbers) held
+      ∙ any_alike _ test (seen n) held

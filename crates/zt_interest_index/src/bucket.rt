@@ -1,6 +1,7 @@
 // In which bucket an interest is kept.
 ghost use Rattle.std.specs.Prelude.{◌≡◌};
 ghost use Rattle.zt_interest_index.specs.Buckets.{anchors_of, bucket_of, bucket_of_key};
+ghost use Rattle.zt_interest_index.specs.Buckets.{looked_into};
 
 use zt_keys::{Anchor, Key};
 
@@ -18,6 +19,7 @@ pub enum Bucket {
 pub struct Anchors {
     pub whole: u64,
     pub last: u64,
+    pub first_two: u64,
     pub first: u64,
 }
 
@@ -27,11 +29,31 @@ pub fn anchors_of<K: Key>(key: &K) -> Option<Anchors>
 {
     let whole = key.anchor(Anchor::Whole)?;
     let last = key.anchor(Anchor::Last)?;
+    let first_two = key.anchor(Anchor::FirstTwo)?;
     let first = key.anchor(Anchor::First)?;
-    Some(Anchors { whole, last, first })
+    Some(Anchors {
+        whole,
+        last,
+        first_two,
+        first,
+    })
 }
 
-// The bucket of interests in the key: at the whole of it, or else at its last part, or else at its first one.
+// The buckets into which a key with these numbers looks.
+pub(crate) fn looked_into(numbers: Anchors) -> [Bucket; 5]
+    ensures { result ≡ looked_into numbers }
+{
+    [
+        Bucket::Any,
+        Bucket::At(Anchor::Whole, numbers.whole),
+        Bucket::At(Anchor::Last, numbers.last),
+        Bucket::At(Anchor::FirstTwo, numbers.first_two),
+        Bucket::At(Anchor::First, numbers.first),
+    ]
+}
+
+// The bucket of interests in the key: at the whole of it, or else at its last part, or else at its
+// first two parts, or else at its first one.
 fn bucket_of_key<K: Key>(key: &K) -> Bucket
     ensures { result ≡ bucket_of_key K.anchored key.now }
 {
@@ -40,6 +62,9 @@ fn bucket_of_key<K: Key>(key: &K) -> Bucket
     }
     if let Some(number) = key.anchor(Anchor::Last) {
         return Bucket::At(Anchor::Last, number);
+    }
+    if let Some(number) = key.anchor(Anchor::FirstTwo) {
+        return Bucket::At(Anchor::FirstTwo, number);
     }
     if let Some(number) = key.anchor(Anchor::First) {
         return Bucket::At(Anchor::First, number);

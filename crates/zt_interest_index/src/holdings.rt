@@ -1,5 +1,6 @@
 // The interests of one bucket.
-ghost use Rattle.std.specs.Prelude.{◌≡◌, ℕ, ◌∷◌, ◌++◌, ◌&&◌, ◌||◌, ◌==◌, [], filter, length, not, IfOk, OnErr, OnOk};
+ghost use Rattle.std.specs.Prelude.{◌≡◌, ℕ, ◌∷◌, ◌++◌, ◌&&◌, ◌||◌, ◌==◌, [], filter, length, not};
+ghost use Rattle.std.specs.Prelude.{IfOk, OnErr, OnOk};
 ghost use Rattle.std.specs.BTreeSet.{contains};
 ghost use Rattle.std.specs.List.{list_any};
 ghost use Rattle.std.specs.Ordering.{nat_cmp};
@@ -34,7 +35,8 @@ fn drop_in<K: Key>(rows: &mut Vec<((u32, u32), Option<K>)>, face: u32, id: u32)
     rows.retain(|row| is_other(row, face, id));
 }
 
-// Puts a face among those found, where its interest is about the key. The only error is want of memory.
+// Puts a face among those found, where its interest is about the key. The only error is want of
+// memory.
 fn add_face<K: Key>(
     found: &mut BTreeSet<u32>,
     row: &((u32, u32), Option<K>),
@@ -49,7 +51,8 @@ fn add_face<K: Key>(
     Ok(())
 }
 
-// Puts the faces among those found whose interests are about the key. The only error is want of memory.
+// Puts the faces among those found whose interests are about the key. The only error is want of
+// memory.
 fn gather_in<K: Key>(
     found: &mut BTreeSet<u32>,
     rows: &[((u32, u32), Option<K>)],
@@ -142,11 +145,12 @@ impl<K: Key> Holdings<K> {
         &self.rows
     }
 
-    /// Puts the faces among those found whose interests are about the key. The only error is want of
-    /// memory.
+    /// Puts the faces among those found whose interests are about the key. The only error is want
+    /// of memory.
     pub fn gather(&self, found: &mut BTreeSet<u32>, expr: &K) -> Result<(), Memory>
         ensures { OnOk result ((n : ℕ) → contains nat_cmp found.new n
-            ≡ (contains nat_cmp found.old n || list_any (asks_from K.matching expr.now n) self.now)) }
+            ≡ (contains nat_cmp found.old n
+            || list_any (asks_from K.matching expr.now n) self.now)) }
     {
         gather_in(found, &self.rows, expr)
     }

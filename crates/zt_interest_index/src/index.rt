@@ -1,25 +1,26 @@
 // Interests by bucket.
-ghost use Rattle.std.specs.Prelude.{◌≡◌, ℕ, ◌++◌, ◌∷◌, ◌||◌, ◌==◌, [], filter, not, true, IfNone, IfOk, IfSome, List, Option, OnErr, OnOk};
+ghost use Rattle.std.specs.Prelude.{◌≡◌, ℕ, ◌++◌, ◌∷◌, ◌||◌, ◌==◌, [], filter, not, true, IfNone};
+ghost use Rattle.std.specs.Prelude.{IfOk, IfSome, List, Option, OnErr, OnOk};
 ghost use Rattle.std.specs.BTreeSet.{contains};
 ghost use Rattle.std.specs.List.{list_any};
 ghost use Rattle.std.specs.List.Sorted.{IsStrictlySortedBy};
 ghost use Rattle.std.specs.Map.{keys_of};
 ghost use Rattle.std.specs.Ordering.{nat_cmp};
 ghost use Rattle.zt_interest_index.specs.Buckets.{anchors_of, bucket_of};
-ghost use Rattle.zt_interest_index.specs.Holders.{AreHoldersAnd, HasAllIn, IsIndexOf, found_in};
+ghost use Rattle.zt_interest_index.specs.Holders.{AreHoldersAnd, HasAllIn, IsIndexOf, asks_in};
 ghost use Rattle.zt_interest_index.specs.Holdings.{asks_from, is_of};
 ghost use Rattle.zt_interest_index.specs.Index.{ChangesAt, IsWith, IsWithout, bucket_cmp, rows_at};
 
-use crate::bucket::{Anchors, Bucket, anchors_of, bucket_of};
+use crate::bucket::{Bucket, anchors_of, bucket_of, looked_into};
 use crate::holdings::{Holdings, copy_about};
 use std::alloc::Global;
 use std::collections::{BTreeMap, BTreeSet};
 use std::marker::Model;
-use zt_keys::{Anchor, Key, Memory};
+use zt_keys::{Key, Memory};
 
-/// The interests of faces, each under its face and id, found by the key of what they are about. An index
-/// beside interests that are kept elsewhere: contracts see its buckets, and the definitions say when they
-/// are those of a list of interests.
+/// The interests of faces, each under its face and id, found by the key of what they are about. An
+/// index beside interests that are kept elsewhere: contracts see its buckets, and the definitions
+/// say when they are those of a list of interests.
 #[derive(Drop)]
 pub struct InterestIndex<K: Key> {
     buckets: BTreeMap<Bucket, Holdings<K>>,
@@ -57,7 +58,8 @@ fn put_in<K: Key>(
     id: u32,
     about: Option<K>,
 ) -> Result<(), Memory>
-    ensures { OnOk result (ChangesAt bucket (λ rows. rows ++ ((face, id), about) ∷ []) buckets.old.entries buckets.new.entries) }
+    ensures { OnOk result (ChangesAt bucket
+        (λ rows. rows ++ ((face, id), about) ∷ []) buckets.old.entries buckets.new.entries) }
 {
     match buckets.get_mut(&bucket) {
         Some(rows) => rows.push(face, id, about),
@@ -77,7 +79,8 @@ fn drop_from<K: Key>(
     face: u32,
     id: u32,
 ) -> bool
-    ensures drops { ChangesAt bucket (filter (λ row. not (is_of face id row))) buckets.old.entries buckets.new.entries }
+    ensures drops { ChangesAt bucket
+        (filter (λ row. not (is_of face id row))) buckets.old.entries buckets.new.entries }
     ensures last { result ≡ true → rows_at bucket buckets.new.entries ≡ [] }
 {
     match buckets.get_mut(&bucket) {
@@ -127,31 +130,22 @@ fn gather_from<K: Key>(
     }
 }
 
-// Puts the faces among those found whose interests are about the key, for a key with these numbers. The
+// Puts the faces among those found whose interests in some of these buckets are about the key. The
 // only error is want of memory.
 fn gather_all<K: Key>(
     found: &mut BTreeSet<u32>,
     buckets: &BTreeMap<Bucket, Holdings<K>>,
-    numbers: Anchors,
+    looked: &[Bucket],
     expr: &K,
 ) -> Result<(), Memory>
     ensures { OnOk result ((n : ℕ) → contains nat_cmp found.new n
-        ≡ found_in K.matching expr.now (contains nat_cmp found.old n) numbers n buckets.now.entries) }
+        ≡ (contains nat_cmp found.old n
+        || asks_in K.matching expr.now n buckets.now.entries looked.now)) }
 {
-    gather_from(found, buckets, Bucket::Any, expr)?;
-    gather_from(
-        found,
-        buckets,
-        Bucket::At(Anchor::Whole, numbers.whole),
-        expr,
-    )?;
-    gather_from(found, buckets, Bucket::At(Anchor::Last, numbers.last), expr)?;
-    gather_from(
-        found,
-        buckets,
-        Bucket::At(Anchor::First, numbers.first),
-        expr,
-    )
+    for bucket in looked {
+        gather_from(found, buckets, *bucket, expr)?;
+    }
+    Ok(())
 }
 
 // Puts a number into a set. The only error is want of memory.
@@ -194,8 +188,8 @@ impl<K: Key> InterestIndex<K> {
         }
     }
 
-    /// The face holds an interest in the expression, or in all keys, under an id. The only error is want
-    /// of memory.
+    /// The face holds an interest in the expression, or in all keys, under an id. The only error is
+    /// want of memory.
     pub fn put(
         &mut self,
         alloc: Global,
@@ -211,7 +205,8 @@ impl<K: Key> InterestIndex<K> {
         put_in(alloc, &mut self.buckets, bucket, face, id, about)
     }
 
-    /// The face holds its interest in the expression, or in all keys, no more, that it held under the id.
+    /// The face holds its interest in the expression, or in all keys, no more, that it held under
+    /// the id.
     pub fn remove(&mut self, face: u32, id: u32, about: &Option<K>)
         ensures { ChangesAt (bucket_of K.anchored about.now)
             (filter (λ row. not (is_of face id row))) self.old self.new }
@@ -222,8 +217,9 @@ impl<K: Key> InterestIndex<K> {
         }
     }
 
-    /// The faces that hold an interest in the key, and these others, in order of number, each once; `None`
-    /// for a key that has no number at some anchor: any face may hold one. The only error is want of memory.
+    /// The faces that hold an interest in the key, and these others, in order of number, each once;
+    /// `None` for a key that has no number at some anchor: any face may hold one. The only error is
+    /// want of memory.
     pub fn holders_and(
         &self,
         alloc: Global,
@@ -238,12 +234,13 @@ impl<K: Key> InterestIndex<K> {
             return Ok(None);
         };
         let mut found = set_of(alloc, others)?;
-        gather_all(&mut found, &self.buckets, numbers, expr)?;
+        gather_all(&mut found, &self.buckets, &looked_into(numbers), expr)?;
         Ok(Some(listed(alloc, &found)?))
     }
 
-    /// The interests in the expression, or those in all keys where it is `None`, each under its face and
-    /// id, and maybe interests in other expressions among them. A look-up, which takes no memory.
+    /// The interests in the expression, or those in all keys where it is `None`, each under its
+    /// face and id, and maybe interests in other expressions among them. A look-up, which takes no
+    /// memory.
     pub fn interests_in(&self, about: &Option<K>) -> &[((u32, u32), Option<K>)]
         ensures { (held : List ((ℕ × ℕ) × Option K)) → IsIndexOf K.anchored self.now held →
             HasAllIn about.now held result.now }

@@ -1,9 +1,9 @@
-//! An index of the interests of faces, by the key of what is asked for: which faces hold an interest in an
-//! expression. It knows keys and the numbers of faces and interests, and no gateway.
+//! An index of the interests of faces, by the key of what is asked for: which faces hold an
+//! interest in an expression. It knows keys and the numbers of faces and interests, and no gateway.
 //!
-//! An interest is kept under a number of its key (`Key::anchor`): of the whole, else of its last part,
-//! else of its first. Keys that match agree at each anchor, so a key with a number at each looks into
-//! four buckets and passes over all others.
+//! An interest is kept under a number of its key (`Key::anchor`): of the whole, else of its last
+//! part, else of its first two, else of its first one. Keys that match agree at each anchor, so a
+//! key with a number at each looks into five buckets and passes over all others.
 #![tactic(auto)]
 
 mod bucket;

@@ -99,9 +99,9 @@ fn held_south<K: Key>(alloc: Global, g: &GatewayState<K>) -> Result<Vec<RemoteIn
     Ok(interests)
 }
 
-/// The interests that a new face is sent: to the north of a client or a peer, where it leads to a gateway
-/// above, what south-bound faces hold, each pair of expression and options once; any other none. The
-/// only error is want of memory.
+/// The interests that a new face is sent: to the north of a client or a peer, where it leads to a
+/// gateway above, what south-bound faces hold, each pair of expression and options once; any other
+/// none. The only error is want of memory.
 pub fn opening_interests<K: Key>(
     alloc: Global,
     g: &GatewayState<K>,
@@ -117,8 +117,8 @@ pub fn opening_interests<K: Key>(
     }
 }
 
-/// The tokens that a new face is told: to the north of a client or a peer those that are visible to it,
-/// any other none. The only error is want of memory.
+/// The tokens that a new face is told: to the north of a client or a peer those that are visible to
+/// it, any other none. The only error is want of memory.
 pub fn opening_tokens<K: Key>(
     alloc: Global,
     g: &GatewayState<K>,

@@ -161,7 +161,8 @@ fn add_target_at<K: Key>(
 ) -> Result<(), Memory>
     ensures { OnOk result (targets.new.items
         ≡ targets.old.items
-        ++ given_at (chosen (is_target g.now asker mode) (λ x. (x.number, x.next))) g.now.faces number) }
+        ++ given_at (chosen (is_target g.now asker mode) (λ x. (x.number, x.next)))
+        g.now.faces number) }
 {
     match find_face(g, number) {
         Some(f) => add_target(g, asker, mode, f, targets),

@@ -5,7 +5,7 @@ ghost use Rattle.zt_interests.specs.Chosen.{all_chosen, chosen};
 ghost use Rattle.zt_interests.specs.Held.{holds_south_as, is_held_as};
 ghost use Rattle.zt_model.specs.Routing.{asks_same, end_upstream, finish, finish_to};
 ghost use Rattle.zt_model.specs.Routing.{is_finished_by, is_held_south, stands};
-ghost use Rattle.zt_model.specs.Rows.{Ask, InterestRow};
+ghost use Rattle.zt_model.specs.Rows.{Ask};
 ghost use Rattle.zt_model.specs.Telling.{was_sent_as};
 ghost use Rattle.zt_region.specs.Region.{is_north};
 ghost use Rattle.zt_protocol.specs.Interest.{has_tokens};
@@ -37,7 +37,7 @@ fn holds_south<K: Key>(f: &FaceState<K>, interest: &RemoteInterest<K>) -> bool
 
 // Whether some south-bound face holds such an interest, in any mode, asking each.
 #[tactic(auto, unfolding(zt_model::specs::Routing::is_held_south))]
-fn does_each_hold_south<K: Key>(g: &GatewayState<K>, interest: &RemoteInterest<K>) -> bool
+fn does_any_hold_south<K: Key>(g: &GatewayState<K>, interest: &RemoteInterest<K>) -> bool
     ensures { result ≡ is_held_south K.cmp K.matching g.now interest.now }
 {
     g.faces().iter().any(|f| holds_south(f, interest))
@@ -45,8 +45,8 @@ fn does_each_hold_south<K: Key>(g: &GatewayState<K>, interest: &RemoteInterest<K
 
 // Whether the face holds such an interest under the id.
 fn holds_as<K: Key>(f: &FaceState<K>, id: InterestId, interest: &RemoteInterest<K>) -> bool
-    ensures { result
-        ≡ list_any (λ row. id == row.0 && asks_same K.cmp K.matching interest.now row.1) f.now.held }
+    ensures { result ≡ list_any (λ row. id == row.0
+        && asks_same K.cmp K.matching interest.now row.1) f.now.held }
 {
     match f.held().find(id) {
         None => false,
@@ -61,7 +61,8 @@ fn holds_south_as<K: Key>(f: &FaceState<K>, id: InterestId, interest: &RemoteInt
     !is_north(f) && holds_as(f, id, interest)
 }
 
-// Whether an interest in an expression, of a face under an id, is such an interest of a face to the south.
+// Whether an interest in an expression, of a face under an id, is such an interest of a face to the
+// south.
 fn is_held_as<K: Key>(
     g: &GatewayState<K>,
     interest: &RemoteInterest<K>,
@@ -96,37 +97,36 @@ fn is_in_tokens<K: Key>(interest: &RemoteInterest<K>) -> bool
     interest.options().contains(InterestOptions::TOKENS)
 }
 
-// Whether some south-bound face holds such an interest, in any mode. One in tokens can be looked up.
+// Whether some south-bound face holds such an interest, in any mode. One in tokens can be looked
+// up.
 fn is_held_south<K: Key>(g: &GatewayState<K>, interest: &RemoteInterest<K>) -> bool
     ensures { result ≡ is_held_south K.cmp K.matching g.now interest.now }
 {
     if is_in_tokens(interest) {
         is_one_held_as(g, interest, g.interests_in(interest.expr()))
     } else {
-        does_each_hold_south(g, interest)
+        does_any_hold_south(g, interest)
     }
 }
 
-// Adds that the interest under this id ends at the face, where it asks for the same.
-fn end_row<K: Key>(
-    interest: &RemoteInterest<K>,
+// Adds that the interests of these ids end at the face.
+fn end_all<K: Key>(
     f: &FaceState<K>,
-    id: InterestId,
-    sent: &RemoteInterest<K>,
+    ids: &[InterestId],
     sends: &mut Vec<(u32, Message<K>)>,
 ) -> Result<(), Memory>
     ensures { OnOk result (sends.new.items ≡ sends.old.items
-        ++ chosen (λ (r : ℕ × InterestRow K). asks_same K.cmp K.matching interest.now r.1)
-        (λ r. (f.now.number, message.InterestFinal r.0)) (id, sent.now)) }
+        ++ map (λ id. (f.now.number, message.InterestFinal id)) ids.now) }
 {
-    if interest.asks_same(sent) {
-        sends.push((f.number(), Message::InterestFinal { id }))?;
+    for id in ids {
+        sends.push((f.number(), Message::InterestFinal { id: *id }))?;
     }
     Ok(())
 }
 
 // Adds that the interests that ask for the same end at the face.
-fn end_rows<K: Key>(
+fn end_same<K: Key>(
+    alloc: Global,
     interest: &RemoteInterest<K>,
     f: &FaceState<K>,
     sends: &mut Vec<(u32, Message<K>)>,
@@ -135,10 +135,8 @@ fn end_rows<K: Key>(
         ++ all_chosen (λ r. asks_same K.cmp K.matching interest.now r.1)
         (λ r. (f.now.number, message.InterestFinal r.0)) f.now.locals) }
 {
-    for (id, sent) in f.locals().iter() {
-        end_row(interest, f, *id, sent, sends)?;
-    }
-    Ok(())
+    let ids = f.locals().ids_of_same(alloc, interest)?;
+    end_all(f, ids.as_slice(), sends)
 }
 
 // Whether the face is to the north, and no south-bound face holds such an interest.
@@ -147,13 +145,6 @@ fn ends_at<K: Key>(g: &GatewayState<K>, interest: &RemoteInterest<K>, f: &FaceSt
         ≡ (is_north f.now.region && not (is_held_south K.cmp K.matching g.now interest.now)) }
 {
     is_north(f) && !is_held_south(g, interest)
-}
-
-// Whether the face was sent such an interest.
-fn was_sent<K: Key>(f: &FaceState<K>, interest: &RemoteInterest<K>) -> bool
-    ensures { result ≡ list_any (λ row. asks_same K.cmp K.matching interest.now row.1) f.now.locals }
-{
-    f.locals().iter().any(|(_, sent)| interest.asks_same(sent))
 }
 
 // An interest that may end upstream.
@@ -168,16 +159,16 @@ impl<'a, K: Key> FaceRule<K> for Ends<'a, K> {
     #[tactic(auto, unfolding(zt_model::specs::Routing::end_upstream_to))]
     fn say(
         &self,
-        _alloc: Global,
+        alloc: Global,
         g: &GatewayState<K>,
         f: &FaceState<K>,
         sends: &mut Vec<(u32, Message<K>)>,
     ) -> Result<(), Memory> {
-        if !was_sent(f, self.0) {
+        if !f.locals().has_same(self.0) {
             return Ok(());
         }
         if ends_at(g, self.0, f) {
-            end_rows(self.0, f, sends)?;
+            end_same(alloc, self.0, f, sends)?;
         }
         Ok(())
     }

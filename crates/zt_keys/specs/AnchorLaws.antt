@@ -1,19 +1,20 @@
 -- Key expressions that match and both have a number at an anchor have the same one there.
-use Rattle.std.specs.Prelude.{◌≡◌, ℕ, Bool, true, false, ◌||◌, ◌==◌, List, [], ◌∷◌, map, Option, Some, None, refl}
+use Rattle.std.specs.Prelude.{◌≡◌, ℕ, Bool, true, false, ◌||◌, ◌==◌, List, [], ◌∷◌, ◌++◌, map, Option, Some, None, refl}
 use Rattle.std.specs.List.{list_any, onto_first, join_with_byte}
 use Rattle.std.specs.Cmp.Lexicographic.{same_text}
 use Rattle.std.proofs.Common.{ap, sym, ◌∙◌, eqb}
 use Rattle.std.proofs.lemmas.Bool.{false≢true, eqb-true}
+use Rattle.std.proofs.lemmas.List.Folds.{list_any-append}
 use Rattle.std.proofs.lemmas.List.Splits.{slice_split-cons_yes, slice_split-cons_no, join_with_byte-slice_split}
 use Rattle.zt_keys.specs.declared.anchor.Anchor.{Anchor}
-use Rattle.zt_keys.specs.declared.anchor.Anchor.TheVariants.{Whole, First, Last}
+use Rattle.zt_keys.specs.declared.anchor.Anchor.TheVariants.{Whole, First, FirstTwo, Last}
 use Rattle.zt_keys.specs.Test.{by_test}
 use Rattle.zt_keys.specs.Chunks.{chunks, is_star, is_double, is_single}
-use Rattle.zt_keys.specs.Expression.{Expression}
+use Rattle.zt_keys.specs.Expression.{Expression, same_expression}
 use Rattle.zt_keys.specs.Parts.{Part, many, one, marked, plain, part_of, is_marked, meets}
 use Rattle.zt_keys.specs.Matching.{matching, parts}
 use Rattle.zt_keys.specs.Meet.{Meet, left_none, left_takes, right_none, right_takes, both, flip, match-to}
-use Rattle.zt_keys.specs.Anchors.{anchored, number_of, number_from, with_byte, first_chunk, last_chunk, last_from}
+use Rattle.zt_keys.specs.Anchors.{anchored, number_of, number_from, with_byte, first_chunk, first_two, last_chunk, last_from}
 
 abbrev is_slash : ℕ → Bool
 is_slash b = b == 47
@@ -144,6 +145,36 @@ meet-first [] (f ∷ fs) s t m = absurd (meet-nothing f (flip m) (text_of-part f
 meet-first (e ∷ es) [] s t m = absurd (meet-nothing e m (text_of-part e s))
 meet-first (e ∷ es) (f ∷ fs) s t m = (meet-next e f m (text_of-part e s) (text_of-part f t)).0
 
+second-starless : (e d : List ℕ) → list_any is_star (e ++ 47 ∷ d) ≡ false → (list_any is_star e ≡ false) × (list_any is_star d ≡ false)
+second-starless e d h = or-false (list_any is_star e) (list_any is_star d) (sym (list_any-append is_star e (47 ∷ d)) ∙ h)
+
+first-starless : (e : List ℕ) (es : List (List ℕ)) → list_any is_star (first_two (e ∷ es)) ≡ false → list_any is_star e ≡ false
+first-starless e [] h = h
+first-starless e (d ∷ es) h = (second-starless e d h).0
+
+-- where one list ends after its first chunk and the other goes on with a plain one, they don't meet
+meet-first_two : (es fs : List (List ℕ)) → list_any is_star (first_two es) ≡ false → list_any is_star (first_two fs) ≡ false → Meet (map part_of es) (map part_of fs) → first_two es ≡ first_two fs
+meet-first_two [] [] s t m = refl
+meet-first_two [] (f ∷ fs) s t m = absurd (meet-nothing f (flip m) (text_of-part f (first-starless f fs t)))
+meet-first_two (e ∷ es) [] s t m = absurd (meet-nothing e m (text_of-part e (first-starless e es s)))
+meet-first_two (e ∷ []) (f ∷ []) s t m = (meet-next e f m (text_of-part e s) (text_of-part f t)).0
+meet-first_two (e ∷ []) (f ∷ g ∷ fs) s t m =
+    let v = second-starless f g t in
+    let rest = (meet-next e f m (text_of-part e s) (text_of-part f v.0)).1 in
+    absurd (meet-nothing g (flip rest) (text_of-part g v.1))
+meet-first_two (e ∷ d ∷ es) (f ∷ []) s t m =
+    let u = second-starless e d s in
+    let rest = (meet-next e f m (text_of-part e u.0) (text_of-part f t)).1 in
+    absurd (meet-nothing d rest (text_of-part d u.1))
+meet-first_two (e ∷ d ∷ es) (f ∷ g ∷ fs) s t m =
+    let u = second-starless e d s in
+    let v = second-starless f g t in
+    let first = meet-next e f m (text_of-part e u.0) (text_of-part f v.0) in
+    let second = meet-next d g first.1 (text_of-part d u.1) (text_of-part g v.1) in
+    let head : e ≡ f = first.0 in
+    let next : d ≡ g = second.0 in
+    cc
+
 last_text_from-parts : (e : List ℕ) (es : List (List ℕ)) → list_any is_star (last_from e es) ≡ false → last_text_from (part_of e) (map part_of es) ≡ Some (last_from e es)
 last_text_from-parts e [] h = text_of-part e h
 last_text_from-parts e (d ∷ es) h = last_text_from-parts d es h
@@ -166,16 +197,24 @@ is_star-slash = refl
 same_chunks : (s t : List ℕ) → chunks s ≡ chunks t → s ≡ t
 same_chunks s t e = sym (join_with_byte-slice_split 47 s) ∙ ap (join_with_byte 47) e ∙ join_with_byte-slice_split 47 t
 
-agree-whole : (s t : List ℕ) (m n : ℕ) → Meet (parts s) (parts t) → number_of s ≡ Some m → number_of t ≡ Some n → m ≡ n
-agree-whole s t m n h e f =
+same-whole : (s t : List ℕ) (m n : ℕ) → Meet (parts s) (parts t) → number_of s ≡ Some m → number_of t ≡ Some n → s ≡ t
+same-whole s t m n h e f =
     let u : Starless (chunks s) = any-chunks is_star is_star-slash s ∙ starless s m e in
     let v : Starless (chunks t) = any-chunks is_star is_star-slash t ∙ starless t n f in
-    same_number s t m n e f (same_chunks s t (meet-whole (chunks s) (chunks t) u v h))
+    same_chunks s t (meet-whole (chunks s) (chunks t) u v h)
+
+agree-whole : (s t : List ℕ) (m n : ℕ) → Meet (parts s) (parts t) → number_of s ≡ Some m → number_of t ≡ Some n → m ≡ n
+agree-whole s t m n h e f = same_number s t m n e f (same-whole s t m n h e f)
 
 agree-first : (s t : List ℕ) (m n : ℕ) → Meet (parts s) (parts t) → number_of (first_chunk (chunks s)) ≡ Some m → number_of (first_chunk (chunks t)) ≡ Some n → m ≡ n
 agree-first s t m n h e f =
     same_number (first_chunk (chunks s)) (first_chunk (chunks t)) m n e f
     (meet-first (chunks s) (chunks t) (starless (first_chunk (chunks s)) m e) (starless (first_chunk (chunks t)) n f) h)
+
+agree-first_two : (s t : List ℕ) (m n : ℕ) → Meet (parts s) (parts t) → number_of (first_two (chunks s)) ≡ Some m → number_of (first_two (chunks t)) ≡ Some n → m ≡ n
+agree-first_two s t m n h e f =
+    same_number (first_two (chunks s)) (first_two (chunks t)) m n e f
+    (meet-first_two (chunks s) (chunks t) (starless (first_two (chunks s)) m e) (starless (first_two (chunks t)) n f) h)
 
 agree-last : (s t : List ℕ) (m n : ℕ) → Meet (parts s) (parts t) → number_of (last_chunk (chunks s)) ≡ Some m → number_of (last_chunk (chunks t)) ≡ Some n → m ≡ n
 agree-last s t m n h e f =
@@ -187,4 +226,10 @@ pub anchors_agree : (at : Anchor) (a b : Expression) (m n : ℕ) → matching a 
 unfolding matching anchored
 anchors_agree Whole a b m n h e f = agree-whole a.bytes b.bytes m n (match-to (parts a.bytes) (parts b.bytes) h) e f
 anchors_agree First a b m n h e f = agree-first a.bytes b.bytes m n (match-to (parts a.bytes) (parts b.bytes) h) e f
+anchors_agree FirstTwo a b m n h e f = agree-first_two a.bytes b.bytes m n (match-to (parts a.bytes) (parts b.bytes) h) e f
 anchors_agree Last a b m n h e f = agree-last a.bytes b.bytes m n (match-to (parts a.bytes) (parts b.bytes) h) e f
+
+-- key expressions that match and have no wildcard are the same
+pub plain_is_same : (a b : Expression) (m n : ℕ) → matching a b ≡ true → anchored Whole a ≡ Some m → anchored Whole b ≡ Some n → a ≡ b
+unfolding matching anchored
+plain_is_same a b m n h e f = same_expression a b (same-whole a.bytes b.bytes m n (match-to (parts a.bytes) (parts b.bytes) h) e f)

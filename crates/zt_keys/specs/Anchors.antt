@@ -1,7 +1,7 @@
 -- The numbers by which key expressions are told apart.
-use Rattle.std.specs.Prelude.{ℕ, ◌*◌, ◌/◌, ◌%◌, ◌^◌, List, [], ◌∷◌, Option, Some, None, cond, bit_xor}
+use Rattle.std.specs.Prelude.{ℕ, ◌*◌, ◌/◌, ◌%◌, ◌^◌, List, [], ◌∷◌, ◌++◌, Option, Some, None, cond, bit_xor}
 use Rattle.zt_keys.specs.declared.anchor.Anchor.{Anchor}
-use Rattle.zt_keys.specs.declared.anchor.Anchor.TheVariants.{Whole, First, Last}
+use Rattle.zt_keys.specs.declared.anchor.Anchor.TheVariants.{Whole, First, FirstTwo, Last}
 use Rattle.zt_keys.specs.Chunks.{chunks, is_star}
 use Rattle.zt_keys.specs.Expression.{Expression}
 
@@ -31,6 +31,12 @@ abbrev pub first_chunk : List (List ℕ) → List ℕ
 first_chunk [] = []
 first_chunk (chunk ∷ rest) = chunk
 
+-- the first two of these chunks with the `/` between them, or the only one
+abbrev pub first_two : List (List ℕ) → List ℕ
+first_two [] = []
+first_two (chunk ∷ []) = chunk
+first_two (chunk ∷ next ∷ rest) = chunk ++ 47 ∷ next
+
 abbrev pub last_from : List ℕ → List (List ℕ) → List ℕ
 last_from chunk [] = chunk
 last_from chunk (next ∷ rest) = last_from next rest
@@ -40,8 +46,9 @@ abbrev pub last_chunk : List (List ℕ) → List ℕ
 last_chunk [] = []
 last_chunk (chunk ∷ rest) = last_from chunk rest
 
--- the number that a key expression has at an anchor: that of all its text, of its first chunk or of its last chunk, unless a `*` stands there
+-- the number that a key expression has at an anchor: that of all its text, of its first chunk, of its first two or of its last chunk, unless a `*` stands there
 unfoldable pub anchored : Anchor → Expression → Option ℕ
 anchored Whole key = number_of key.bytes
 anchored First key = number_of (first_chunk (chunks key.bytes))
+anchored FirstTwo key = number_of (first_two (chunks key.bytes))
 anchored Last key = number_of (last_chunk (chunks key.bytes))

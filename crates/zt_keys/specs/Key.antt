@@ -8,6 +8,7 @@ use Rattle.std.proofs.Common.{sym, ap, ◌∙◌, get_or}
 use Rattle.std.proofs.lemmas.Bool.{false≢true, eqb-true}
 use Rattle.zt_keys.specs.Test.{by_test}
 use Rattle.zt_keys.specs.declared.anchor.Anchor.{Anchor}
+use Rattle.zt_keys.specs.declared.anchor.Anchor.TheVariants.{Whole}
 use Rattle.zt_keys.specs.declared.error.KeyError.{KeyError}
 use Rattle.zt_keys.specs.declared.error.KeyError.TheVariants.{Memory}
 
@@ -33,6 +34,8 @@ pub record KeyLaws {K : Type 0} (cmp : K → K → Ordering) (matching : K → K
   pub matches_back : (a b : K) → matching a b ≡ matching b a
   -- keys that match have the same number at an anchor where both have one
   pub anchors_agree : (at : Anchor) (a b : K) (m n : ℕ) → matching a b ≡ true → anchored at a ≡ Some m → anchored at b ≡ Some n → m ≡ n
+  -- keys that match and both have a number as a whole are the same value
+  pub plain_is_same : (a b : K) (m n : ℕ) → matching a b ≡ true → anchored Whole a ≡ Some m → anchored Whole b ≡ Some n → a ≡ b
 
 -- a key is read from its printed text alone. No law of keys: a type of keys may normalise what it reads
 abbrev pub OneSpelling : {K : Type 0} → (List ℕ → Result K KeyError) → (K → List ℕ) → Type 0

@@ -17,7 +17,7 @@ use Rattle.zt_keys.specs.Test.{by_test}
 use Rattle.zt_keys.specs.Meet.{parts_match-sym, parts_match-itself}
 use Rattle.zt_keys.specs.Key.{KeyLaws, OneSpelling, is_blank}
 use Rattle.zt_keys.specs.Anchors.{anchored}
-use Rattle.zt_keys.specs.AnchorLaws.{any-chunks, anchors_agree}
+use Rattle.zt_keys.specs.AnchorLaws.{any-chunks, anchors_agree, plain_is_same}
 use Rattle.zt_keys.specs.declared.error.KeyError.{KeyError}
 use Rattle.zt_keys.specs.declared.error.KeyError.TheVariants.{Empty, Memory}
 
@@ -174,4 +174,5 @@ expression_laws = record {
   matches_itself = matches_itself;
   matches_back = matches_back;
   anchors_agree = anchors_agree;
+  plain_is_same = plain_is_same;
 }

@@ -7,6 +7,8 @@ pub enum Anchor {
     Whole,
     /// What the key begins with.
     First,
+    /// What the key begins with, two chunks of it.
+    FirstTwo,
     /// What the key ends with.
     Last,
 }

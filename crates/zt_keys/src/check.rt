@@ -1,5 +1,6 @@
 // Whether a text is a key expression, in one pass over its bytes.
-ghost use Rattle.std.specs.Prelude.{◌≡◌, Option, Some, None, MatchResult, IsTrue, ◌+◌, ◌≤◌, ◌<◌, ◌^◌};
+ghost use Rattle.std.specs.Prelude.{◌≡◌, Option, Some, None, MatchResult, IsTrue, ◌+◌, ◌≤◌, ◌<◌};
+ghost use Rattle.std.specs.Prelude.{◌^◌};
 ghost use Rattle.zt_keys.specs.Chunks.{refusal};
 ghost use Rattle.zt_keys.specs.Scan.{next_kind, end_chunk, step};
 
@@ -93,7 +94,8 @@ fn step(scan: Scan, place: usize, byte: u8) -> Result<Scan, KeyError>
 
 // Refuses a text that is no key expression, by the first broken rule.
 pub(crate) fn check(text: &str) -> Result<(), KeyError>
-    ensures { MatchResult result (λ _. refusal text.now ≡ None) (λ error. refusal text.now ≡ Some error) }
+    ensures { MatchResult result (λ _. refusal text.now ≡ None)
+        (λ error. refusal text.now ≡ Some error) }
 {
     if text.is_empty() {
         return Err(KeyError::Empty);

@@ -25,7 +25,8 @@ impl<T: Drop> From<AllocFailed<T>> for Memory {
 pub enum KeyError {
     /// The text has no byte.
     Empty,
-    /// A chunk is empty or has a byte or a wildcard where none may stand; the first such chunk begins at this byte.
+    /// A chunk is empty or has a byte or a wildcard where none may stand; the first such chunk
+    /// begins at this byte.
     BadChunk(usize),
     /// A `**` is followed at once by `**` or `*`; the first such `**` begins at this byte.
     NotCanonical(usize),

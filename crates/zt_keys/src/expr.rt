@@ -1,14 +1,17 @@
 // Key expressions.
-ghost use Rattle.std.specs.Prelude.{◌≡◌, ◌++◌, nat_eq, Some, ◌≢◌, ◌↔◌, IsTrue, IfOk, IfErr, string_bytes, if◌then◌else◌, is_ok, refl};
+ghost use Rattle.std.specs.Prelude.{◌≡◌, ◌++◌, nat_eq, Some, ◌≢◌, ◌↔◌, IsTrue, IfOk, IfErr};
+ghost use Rattle.std.specs.Prelude.{string_bytes, if◌then◌else◌, is_ok, refl};
 ghost use Rattle.std.specs.Arc.{arc_str_bytes};
 ghost use Rattle.std.specs.Hash as fed;
 ghost use Rattle.std.specs.Ordering.{nat_cmp};
-ghost use Rattle.std.specs.Cmp.Lexicographic.{pointwise, slice_cmp, texts_ties, texts_po, nat_list_eq_equiv, nat_list_cmp_total};
+ghost use Rattle.std.specs.Cmp.Lexicographic.{pointwise, slice_cmp, texts_ties, texts_po};
+ghost use Rattle.std.specs.Cmp.Lexicographic.{nat_list_eq_equiv, nat_list_cmp_total};
 ghost use Rattle.std.specs.Cmp.{on_equiv, on_total, on_per, on_po, partial_equiv_from_equiv};
 ghost use Rattle.std.specs.Cmp.Rules.{hashing};
 ghost use Rattle.std.proofs.Common.{rules};
 ghost use Rattle.zt_keys.specs.Key.{Reads};
-ghost use Rattle.zt_keys.specs.Expression.{Expression, expression_code, is_expression, reading, bytes_of};
+ghost use Rattle.zt_keys.specs.Expression.{Expression, expression_code, is_expression, reading};
+ghost use Rattle.zt_keys.specs.Expression.{bytes_of};
 ghost use Rattle.zt_keys.specs.Chunks.{chunks, refusal};
 ghost use Rattle.zt_keys.specs.Matching.{matching, Intersect};
 ghost use Rattle.zt_keys.specs.Anchors.{anchored};
@@ -18,7 +21,7 @@ use crate::anchor::Anchor;
 use crate::check::check;
 use crate::error::{KeyError, Memory};
 use crate::key::Key;
-use crate::numbers::{first_chunk, last_chunk, number_of};
+use crate::numbers::{first_chunk, first_two, last_chunk, number_of};
 use crate::walk::texts_match;
 use std::alloc::Global;
 use std::cmp::Ordering;
@@ -28,7 +31,8 @@ use std::sync::ArcStr;
 
 /// A key expression: one or more chunks with `/` between them, each a name, `*` or `**`.
 ///
-/// Contracts see its bytes and the fact that they are a key expression. The text is shared between copies.
+/// Contracts see its bytes and the fact that they are a key expression. The text is shared between
+/// copies.
 #[derive(Drop)]
 pub struct KeyExpr {
     shared: ArcStr,
@@ -109,32 +113,39 @@ impl Key for KeyExpr {
 
     ghost anchored = { anchored };
 
-    /// Whether some plain list of chunks is a member of both. The two texts are walked together, and the number of chunks that
-    /// are looked at is at most a fixed multiple of the product of the two numbers of chunks, however many `**` there are.
+    /// Whether some plain list of chunks is a member of both. The two texts are walked together,
+    /// and the number of chunks that are looked at is at most a fixed multiple of the product of
+    /// the two numbers of chunks, however many `**` there are.
     fn matches(&self, other: &KeyExpr) -> bool
         ensures value { result ≡ matching self.now other.now }
-        ensures member { IsTrue result ↔ Intersect (chunks self.now.bytes) (chunks other.now.bytes) }
+        ensures member { IsTrue result
+            ↔ Intersect (chunks self.now.bytes) (chunks other.now.bytes) }
     {
         texts_match(self.text().as_bytes(), other.text().as_bytes())
     }
 
-    /// A number of the whole text, of its first chunk or of its last, where no `*` stands there. Only those bytes are read.
+    /// A number of the whole text, of its first chunk, of its first two or of its last, where no
+    /// `*` stands there. Only those bytes are read. The first two of a text of one chunk are that
+    /// chunk.
     #[tactic(auto, unfolding(crate::specs::Anchors::anchored))]
     fn anchor(&self, at: Anchor) -> Option<u64> {
         let text = self.text().as_bytes();
         match at {
             Anchor::Whole => number_of(text),
             Anchor::First => number_of(first_chunk(text)),
+            Anchor::FirstTwo => number_of(first_two(text)),
             Anchor::Last => number_of(last_chunk(text)),
         }
     }
 
-    /// Refuses a text by the first rule that it breaks: `Empty` for the empty text, else `BadChunk` with the place of the first
-    /// bad chunk, else `NotCanonical` with the place of the first `**` that a wildcard follows at once.
+    /// Refuses a text by the first rule that it breaks: `Empty` for the empty text, else `BadChunk`
+    /// with the place of the first bad chunk, else `NotCanonical` with the place of the first `**`
+    /// that a wildcard follows at once.
     fn read(alloc: Global, text: &str) -> Result<KeyExpr, KeyError>
         ensures value { Reads (reading text.now) result }
         ensures text { IfOk result (λ key. key.bytes ≡ text.now) }
-        ensures refused { IfErr result (λ error. error ≢ KeyError.Memory → refusal text.now ≡ Some error) }
+        ensures refused { IfErr result
+            (λ error. error ≢ KeyError.Memory → refusal text.now ≡ Some error) }
     {
         check(text)?;
         let shared = ArcStr::from_str(alloc, text)?;

@@ -1,5 +1,6 @@
 // The trait of keys.
-ghost use Rattle.std.specs.Prelude.{◌≡◌, ℕ, Bool, List, ◌++◌, Option, Result, IfOk, is_ok, if◌then◌else◌, string_bytes};
+ghost use Rattle.std.specs.Prelude.{◌≡◌, ℕ, Bool, List, ◌++◌, Option, Result, IfOk, is_ok};
+ghost use Rattle.std.specs.Prelude.{if◌then◌else◌, string_bytes};
 ghost use Rattle.zt_keys.specs.declared.anchor.Anchor.{Anchor};
 ghost use Rattle.zt_keys.specs.declared.error.KeyError.{KeyError};
 ghost use Rattle.zt_keys.specs.Key.{KeyLaws, Reads};
@@ -23,12 +24,13 @@ pub trait Key: Ord + Eq + Hash + Drop + Sized {
     /// The number that a key has at an anchor, if it has one there.
     ghost anchored: { Anchor → Self → Option ℕ };
 
-    /// Whether the two keys match: a relation of the keys alone, reflexive and symmetric. Takes no memory.
+    /// Whether the two keys match: a relation of the keys alone, reflexive and symmetric. Takes no
+    /// memory.
     fn matches(&self, other: &Self) -> bool
         ensures { result ≡ matching self.now other.now };
 
-    /// A number of the key at the anchor, or `None`. Two keys that match and both have one there have the same one, so that
-    /// keys with another number need not be tried. Takes no memory.
+    /// A number of the key at the anchor, or `None`. Two keys that match and both have one there
+    /// have the same one, so that keys with another number need not be tried. Takes no memory.
     fn anchor(&self, at: Anchor) -> Option<u64>
         ensures { result ≡ anchored at self.now };
 
@@ -40,10 +42,12 @@ pub trait Key: Ord + Eq + Hash + Drop + Sized {
     fn print(&self, alloc: Global) -> Result<String, Memory>
         ensures { IfOk result (λ text. string_bytes text ≡ printed self.now) };
 
-    /// Appends the key's text to `out`. The only error is want of memory, and it leaves `out` as it was.
+    /// Appends the key's text to `out`. The only error is want of memory, and it leaves `out` as it
+    /// was.
     fn print_to(&self, out: &mut String) -> Result<(), Memory>
         ensures { string_bytes out.new
-            ≡ (if is_ok result then string_bytes out.old ++ printed self.now else string_bytes out.old) }
+            ≡ (if is_ok result then string_bytes out.old ++ printed self.now
+            else string_bytes out.old) }
     {
         let alloc = *out.allocator();
         let text = self.print(alloc)?;
@@ -55,7 +59,9 @@ pub trait Key: Ord + Eq + Hash + Drop + Sized {
     fn copy(&self, alloc: Global) -> Result<Self, Memory>
         ensures { IfOk result (λ key. key ≡ self.now) };
 
-    /// Equal keys are the same value, a key's text is read as the key and has no blank, matching is reflexive and
-    /// symmetric, and keys that match have the same number at an anchor where both have one. That order, equality and hash agree is said by the laws of `Ord`, `Eq` and `Hash`.
+    /// Equal keys are the same value, a key's text is read as the key and has no blank, matching is
+    /// reflexive and symmetric, keys that match have the same number at an anchor where both have
+    /// one, and are the same value where both have one as a whole. That order, equality and hash
+    /// agree is said by the laws of `Ord`, `Eq` and `Hash`.
     ghost laws: { KeyLaws Self.cmp matching reading printed anchored };
 }

@@ -1,7 +1,8 @@
 // The numbers of texts, by which keys are told apart.
 ghost use Rattle.std.specs.Prelude.{◌≡◌};
 ghost use Rattle.zt_keys.specs.Chunks.{chunks};
-ghost use Rattle.zt_keys.specs.Anchors.{with_byte, spread, number_of, first_chunk, last_chunk};
+ghost use Rattle.zt_keys.specs.Anchors.{with_byte, spread, number_of, first_chunk, first_two};
+ghost use Rattle.zt_keys.specs.Anchors.{last_chunk};
 
 const SEED: u64 = 0xCBF2_9CE4_8422_2325;
 
@@ -44,6 +45,22 @@ pub(crate) fn first_chunk(text: &[u8]) -> &[u8]
     for (place, byte) in text.iter().enumerate() {
         if *byte == b'/' {
             return &text[..place];
+        }
+    }
+    text
+}
+
+// The text's first two chunks with the `/` between them, or its only chunk. Nothing behind is read.
+pub(crate) fn first_two(text: &[u8]) -> &[u8]
+    ensures { result.now ≡ first_two (chunks text.now) }
+{
+    let mut in_second = false;
+    for (place, byte) in text.iter().enumerate() {
+        if *byte == b'/' {
+            if in_second {
+                return &text[..place];
+            }
+            in_second = true;
         }
     }
     text

@@ -1,4 +1,5 @@
-// What no clause says: tables of texts and pairs, long expressions, and each call through the trait at `KeyExpr`.
+// What no clause says: tables of texts and pairs, long expressions, and each call through the trait
+// at `KeyExpr`.
 ghost use Rattle.std.specs.Prelude.{◌≡◌, IfOk, IfErr};
 
 use crate::{Anchor, Key, KeyError, KeyExpr};
@@ -177,39 +178,40 @@ fn keys_are_copied_and_printed(rt: HostRuntime) -> Result<(), Fail> {
 }
 
 // The numbers of the expression at the anchors, through the trait.
-fn numbers<K: Key>(alloc: Global, text: &str) -> Result<[Option<u64>; 3], KeyError> {
+fn numbers<K: Key>(alloc: Global, text: &str) -> Result<[Option<u64>; 4], KeyError> {
     let key = K::read(alloc, text)?;
     let copy = key.copy(alloc)?;
     Ok([
         key.anchor(Anchor::Whole),
         key.anchor(Anchor::First),
+        key.anchor(Anchor::FirstTwo),
         copy.anchor(Anchor::Last),
     ])
 }
 
 #[test]
 fn keys_have_numbers(rt: HostRuntime) -> Result<(), Fail> {
-    let [whole, first, last] = numbers::<KeyExpr>(rt.alloc(), "a/b/w")?;
-    assert!(rt; whole.is_some() && first.is_some() && last.is_some());
+    let [whole, first, two, last] = numbers::<KeyExpr>(rt.alloc(), "a/b/w")?;
+    assert!(rt; whole.is_some() && first.is_some() && two.is_some() && last.is_some());
     assert_ne!(rt; whole, first);
+    assert_ne!(rt; first, two);
+    assert_ne!(rt; two, whole);
     assert_ne!(rt; first, last);
-    assert_eq!(rt;
-        numbers::<KeyExpr>(rt.alloc(), "a/b/w")?,
-        [whole, first, last]
-    );
-    assert_eq!(rt; numbers::<KeyExpr>(rt.alloc(), "w")?, [last, last, last]);
-    assert_eq!(rt;
-        numbers::<KeyExpr>(rt.alloc(), "*/*/w")?,
-        [None, None, last]
-    );
-    assert_eq!(rt;
-        numbers::<KeyExpr>(rt.alloc(), "a/**")?,
-        [None, first, None]
-    );
-    assert_eq!(rt;
-        numbers::<KeyExpr>(rt.alloc(), "a/*/w")?,
-        [None, first, last]
-    );
-    assert_eq!(rt; numbers::<KeyExpr>(rt.alloc(), "**")?, [None, None, None]);
+    let rows = [
+        ("a/b/w", [whole, first, two, last]),
+        ("w", [last, last, last, last]),
+        ("a/b/**", [None, first, two, None]),
+        ("a/b/*/w", [None, first, two, last]),
+        ("*/*/w", [None, None, None, last]),
+        ("a/**", [None, first, None, None]),
+        ("a/*/w", [None, first, None, last]),
+        ("**", [None, None, None, None]),
+    ];
+    for (text, wanted) in rows {
+        assert_eq!(rt; numbers::<KeyExpr>(rt.alloc(), text)?, wanted, "{text}");
+    }
+    let [pair, _, pair_two, _] = numbers::<KeyExpr>(rt.alloc(), "a/b")?;
+    assert_eq!(rt; pair, two);
+    assert_eq!(rt; pair_two, two);
     Ok(())
 }

@@ -1,16 +1,19 @@
 // Whether two key expressions match, by a walk over their texts that takes no memory.
 //
-// A text is walked chunk by chunk; an empty rest has no chunk left. A segment is what stands before the next chunk that begins
-// with `@`, which no wildcard takes.
+// A text is walked chunk by chunk; an empty rest has no chunk left. A segment is what stands before
+// the next chunk that begins with `@`, which no wildcard takes.
 //
-// The cost: to pass a `**`, the rests of the two segments are scanned, and where a place is looked for, a walk begins at most
-// once at each chunk of one text and goes along the other up to its next `**`. Each pass but the last leaves a chunk of both
-// texts behind. So the chunks looked at are at most a fixed multiple of the product of the two numbers of chunks.
-ghost use Rattle.std.specs.Prelude.{◌≡◌, ◌∷◌, ◌+◌, ◌-◌, ◌<◌, ◌≤◌, ◌==◌, length, drop, false, position, IfSome};
+// The cost: to pass a `**`, the rests of the two segments are scanned, and where a place is looked
+// for, a walk begins at most once at each chunk of one text and goes along the other up to its next
+// `**`. Each pass but the last leaves a chunk of both texts behind. So the chunks looked at are at
+// most a fixed multiple of the product of the two numbers of chunks.
+ghost use Rattle.std.specs.Prelude.{◌≡◌, ◌∷◌, ◌+◌, ◌-◌, ◌<◌, ◌≤◌, ◌==◌, length, drop, false};
+ghost use Rattle.std.specs.Prelude.{position, IfSome};
 ghost use Rattle.std.specs.Option.{option_map};
 ghost use Rattle.zt_keys.specs.Chunks.{is_double, is_single};
 ghost use Rattle.zt_keys.specs.Parts.{many, part_of, meets, is_marked, parts_match};
-ghost use Rattle.zt_keys.specs.Walking.{walked, walked_one, walked_two, width, last_many, after_many, stops, strip, find_place, NoLonger, GoesOn};
+ghost use Rattle.zt_keys.specs.Walking.{walked, walked_one, walked_two, width, last_many};
+ghost use Rattle.zt_keys.specs.Walking.{after_many, stops, strip, find_place, NoLonger, GoesOn};
 
 // Where the first `/` stands.
 fn find_slash(rest: &[u8]) -> Option<usize>
@@ -83,7 +86,8 @@ fn stops(rest: &[u8]) -> bool
     rest.is_empty() || after_double(rest).is_some()
 }
 
-// Walks both texts while their chunks meet one by one, up to the first `**` of either or the end of both.
+// Walks both texts while their chunks meet one by one, up to the first `**` of either or the end of
+// both.
 fn walk<'a>(first: &'a [u8], second: &'a [u8]) -> Option<(&'a [u8], &'a [u8])>
     ensures rest { option_map walked_two result ≡ strip (walked first.now) (walked second.now) }
     ensures shorter { NoLonger result first.now second.now }
@@ -177,9 +181,11 @@ fn skip_chunks(text: &[u8], count: usize) -> &[u8]
     rest
 }
 
-// The first place of the second text at which the first fits up to its next `**`, and what is left of both behind it.
+// The first place of the second text at which the first fits up to its next `**`, and what is left
+// of both behind it.
 fn find_place<'a>(first: &'a [u8], second: &'a [u8]) -> Option<(&'a [u8], &'a [u8])>
-    ensures rest { option_map walked_two result ≡ find_place (walked first.now) (walked second.now) }
+    ensures rest { option_map walked_two result
+        ≡ find_place (walked first.now) (walked second.now) }
     ensures shorter { NoLonger result first.now second.now }
 {
     let mut rest = second;
@@ -199,9 +205,12 @@ fn find_place<'a>(first: &'a [u8], second: &'a [u8]) -> Option<(&'a [u8], &'a [u
 
 // Both texts without the chunks by which the segment of one is longer than that of the other.
 fn align<'a>(first: &'a [u8], second: &'a [u8]) -> (&'a [u8], &'a [u8])
-    ensures first { walked result.0.now ≡ drop (width (walked first.now) - width (walked second.now)) (walked first.now) }
-    ensures second { walked result.1.now ≡ drop (width (walked second.now) - width (walked first.now)) (walked second.now) }
-    ensures shorter { (length result.0.now ≤ length first.now) × (length result.1.now ≤ length second.now) }
+    ensures first { walked result.0.now
+        ≡ drop (width (walked first.now) - width (walked second.now)) (walked first.now) }
+    ensures second { walked result.1.now
+        ≡ drop (width (walked second.now) - width (walked first.now)) (walked second.now) }
+    ensures shorter { (length result.0.now ≤ length first.now)
+        × (length result.1.now ≤ length second.now) }
 {
     let first_len = segment_len(first);
     let second_len = segment_len(second);

@@ -1,9 +1,10 @@
-//! What a transcript shows of the machine: its fold over lines and printed messages, which doesn't ask what a call
-//! says, comes to what the machine keeps.
+//! What a transcript shows of the machine: its fold over lines and printed messages, which doesn't
+//! ask what a call says, comes to what the machine keeps.
 
 ghost use Rattle.std.specs.Prelude.{◌≡◌, Bool};
 ghost use Rattle.zt_protocol.specs.Plain.{PlainCall, PlainLine};
-ghost use Rattle.zt_model.specs.Fabric.{Fabric, altered_by_line, empty_fabric, entry_of, fabric_after, said_by_line, sorted_by_face};
+ghost use Rattle.zt_model.specs.Fabric.{Fabric, altered_by_line, empty_fabric, entry_of};
+ghost use Rattle.zt_model.specs.Fabric.{fabric_after, said_by_line, sorted_by_face};
 ghost use Rattle.zt_model.specs.Refusals.{would_send};
 ghost use Rattle.zt_model.specs.Rows.{Rows};
 ghost use Rattle.zt_model.specs.Says.{altered};
@@ -14,18 +15,21 @@ ghost use Rattle.zt_laws.specs.Shown.{as_shown, without_own};
 
 use zt_keys::Key;
 
-/// What a transcript shows is what the machine keeps, but for the own rows of router regions, which no transcript
-/// shows. It is so of the rows that a call changes itself, where an ask has the pendings that the call sends; of the
-/// fabric that a line changes itself, by what the machine prints for it; and of the fabric after each line, accepted
-/// or refused.
+/// What a transcript shows is what the machine keeps, but for the own rows of router regions, which
+/// no transcript shows. It is so of the rows that a call changes itself, where an ask has the
+/// pendings that the call sends; of the fabric that a line changes itself, by what the machine
+/// prints for it; and of the fabric after each line, accepted or refused.
 pub fn transcripts_show_what_is_kept<K: Key>()
     ensures call { (c : PlainCall K) (g : Rows K) → RowsAreInOrder K.cmp K.matching g
-        → rows_shown K.cmp (would_send K.cmp K.matching c g) c (without_own g) ≡ without_own (altered K.cmp K.matching c g) }
+        → rows_shown K.cmp (would_send K.cmp K.matching c g) c (without_own g)
+        ≡ without_own (altered K.cmp K.matching c g) }
     ensures start { as_shown empty_fabric ≡ empty_fabric {K = K} }
     ensures line { (line : PlainLine K) (s : Fabric K) → FabricIsInOrder K.cmp K.matching s
-        → fabric_with K.cmp K.matching line (sorted_by_face (said_by_line K.cmp K.matching line s)) (as_shown s)
+        → fabric_with K.cmp K.matching line (sorted_by_face (said_by_line K.cmp K.matching line s))
+        (as_shown s)
         ≡ as_shown (altered_by_line K.cmp K.matching line s) }
     ensures entry { (line : PlainLine K) (s : Fabric K) → FabricIsInOrder K.cmp K.matching s
         → (let entry = entry_of K.cmp K.matching line s in
-        fabric_shown K.cmp K.matching line entry (as_shown s) ≡ as_shown (fabric_after K.cmp K.matching line entry s)) }
+        fabric_shown K.cmp K.matching line entry (as_shown s)
+        ≡ as_shown (fabric_after K.cmp K.matching line entry s)) }
 {}

@@ -2,7 +2,8 @@
 ghost use Rattle.std.specs.Prelude.{◌≡◌, ◌++◌, ◌∷◌, [], OnOk, IfErr};
 ghost use Rattle.std.specs.Option.{option_copied};
 ghost use Rattle.zt_fields.specs.Fields.{Finds, fields_left, value_at};
-ghost use Rattle.zt_lines.specs.Items.{subscriber_at, queryable_at, item_at, subscribers_of, queryables_of, entities_read};
+ghost use Rattle.zt_lines.specs.Items.{subscriber_at, queryable_at, item_at, subscribers_of};
+ghost use Rattle.zt_lines.specs.Items.{queryables_of, entities_read};
 
 use crate::lists::push;
 use std::alloc::Global;
@@ -22,7 +23,8 @@ fn subscriber_at<K: Key>(
     alloc: Global,
     rest: Option<&str>,
 ) -> Result<(Item<K>, Option<&str>), LineError>
-    ensures { Finds (λ x. (x.0, fields_left (option_copied x.1))) result (subscriber_at K.reading (fields_left (option_copied rest.entry))) }
+    ensures { Finds (λ x. (x.0, fields_left (option_copied x.1))) result
+        (subscriber_at K.reading (fields_left (option_copied rest.entry))) }
 {
     let (key, rest) = key_at(alloc, rest)?;
     Ok((Item::Subscriber { key }, rest))
@@ -33,7 +35,8 @@ fn queryable_at<K: Key>(
     alloc: Global,
     rest: Option<&str>,
 ) -> Result<(Item<K>, Option<&str>), LineError>
-    ensures { Finds (λ x. (x.0, fields_left (option_copied x.1))) result (queryable_at K.reading (fields_left (option_copied rest.entry))) }
+    ensures { Finds (λ x. (x.0, fields_left (option_copied x.1))) result
+        (queryable_at K.reading (fields_left (option_copied rest.entry))) }
 {
     let (complete, rest) = flag_at(rest)?;
     let (distance, rest) = value_at(rest)?;
@@ -44,7 +47,8 @@ fn queryable_at<K: Key>(
 
 #[tactic(auto, unfolding(crate::specs::Items::item_at))]
 fn item_at<K: Key>(alloc: Global, rest: Option<&str>) -> Result<(Item<K>, Option<&str>), LineError>
-    ensures { Finds (λ x. (x.0, fields_left (option_copied x.1))) result (item_at K.reading (fields_left (option_copied rest.entry))) }
+    ensures { Finds (λ x. (x.0, fields_left (option_copied x.1))) result
+        (item_at K.reading (fields_left (option_copied rest.entry))) }
 {
     let (kind, rest) = field_at(rest)?;
     match kind {
@@ -59,8 +63,10 @@ fn keep<K: Drop>(
     subscribers: &mut Vec<K>,
     queryables: &mut Vec<(K, QueryableInfo)>,
 ) -> Result<(), LineError>
-    ensures subscribers { OnOk result (subscribers.new.items ≡ subscribers.old.items ++ subscribers_of (item ∷ [])) }
-    ensures queryables { OnOk result (queryables.new.items ≡ queryables.old.items ++ queryables_of (item ∷ [])) }
+    ensures subscribers { OnOk result
+        (subscribers.new.items ≡ subscribers.old.items ++ subscribers_of (item ∷ [])) }
+    ensures queryables { OnOk result
+        (queryables.new.items ≡ queryables.old.items ++ queryables_of (item ∷ [])) }
     ensures err { IfErr result (λ e. e ≡ LineError.Memory) }
 {
     match item {
@@ -74,7 +80,8 @@ pub(crate) fn entities_of<K: Key>(
     alloc: Global,
     rest: Option<&str>,
 ) -> Result<(Vec<K>, Vec<(K, QueryableInfo)>), LineError>
-    ensures { Finds (λ x. (x.0.items, x.1.items)) result (entities_read K.reading (fields_left (option_copied rest.entry))) }
+    ensures { Finds (λ x. (x.0.items, x.1.items)) result
+        (entities_read K.reading (fields_left (option_copied rest.entry))) }
 {
     let mut subscribers = Vec::new(alloc);
     let mut queryables = Vec::new(alloc);

@@ -1,9 +1,12 @@
-// Lines, kind by kind. Each function reads what stands behind the line's first word. The kinds stay calls: within
-// one function they would share a frame with the values of all.
+// Lines, kind by kind. Each function reads what stands behind the line's first word. The kinds stay
+// calls: within one function they would share a frame with the values of all.
 ghost use Rattle.std.specs.Option.{option_copied};
 ghost use Rattle.zt_protocol.specs.Plain.{plain_line};
 ghost use Rattle.zt_fields.specs.Fields.{Gives, Finds, fields_left, value_at};
-ghost use Rattle.zt_lines.specs.Reading.{session_at, face_at, entities_at, link_at, unlink_at, step_at, moment_at, declare_at, undeclare_at, interest_at, interest_final_at, declare_final_at, close_at, line_at, line_read};
+ghost use Rattle.zt_lines.specs.Reading.{session_at, face_at, entities_at, link_at, unlink_at};
+ghost use Rattle.zt_lines.specs.Reading.{step_at, moment_at, declare_at, undeclare_at, interest_at};
+ghost use Rattle.zt_lines.specs.Reading.{interest_final_at, declare_final_at, close_at, line_at};
+ghost use Rattle.zt_lines.specs.Reading.{line_read};
 
 use crate::entities::entities_of;
 use crate::makers::{gateway, trees};
@@ -55,7 +58,8 @@ fn face<K>(rest: Option<&str>) -> Result<Line<K>, LineError>
 #[tactic(auto, unfolding(crate::specs::Reading::entities_at))]
 #[inline(never)]
 fn entities<K: Key>(alloc: Global, rest: Option<&str>) -> Result<Line<K>, LineError>
-    ensures { Finds plain_line result (entities_at K.reading (fields_left (option_copied rest.entry))) }
+    ensures { Finds plain_line result
+        (entities_at K.reading (fields_left (option_copied rest.entry))) }
 {
     let (face, rest) = value_at(rest)?;
     let (subscribers, queryables) = entities_of(alloc, rest)?;
@@ -121,7 +125,8 @@ fn moment<K>(rest: Option<&str>) -> Result<Line<K>, LineError>
 #[tactic(auto, unfolding(crate::specs::Reading::declare_at))]
 #[inline(never)]
 fn declare<K: Key>(alloc: Global, rest: Option<&str>) -> Result<Line<K>, LineError>
-    ensures { Finds plain_line result (declare_at K.reading (fields_left (option_copied rest.entry))) }
+    ensures { Finds plain_line result
+        (declare_at K.reading (fields_left (option_copied rest.entry))) }
 {
     let (face, rest) = value_at(rest)?;
     let (id, rest) = value_at(rest)?;
@@ -143,7 +148,8 @@ fn declare<K: Key>(alloc: Global, rest: Option<&str>) -> Result<Line<K>, LineErr
 #[tactic(auto, unfolding(crate::specs::Reading::undeclare_at))]
 #[inline(never)]
 fn undeclare<K: Key>(alloc: Global, rest: Option<&str>) -> Result<Line<K>, LineError>
-    ensures { Finds plain_line result (undeclare_at K.reading (fields_left (option_copied rest.entry))) }
+    ensures { Finds plain_line result
+        (undeclare_at K.reading (fields_left (option_copied rest.entry))) }
 {
     let (face, rest) = value_at(rest)?;
     let (id, rest) = value_at(rest)?;
@@ -163,7 +169,8 @@ fn undeclare<K: Key>(alloc: Global, rest: Option<&str>) -> Result<Line<K>, LineE
 #[tactic(auto, unfolding(crate::specs::Reading::interest_at))]
 #[inline(never)]
 fn interest<K: Key>(alloc: Global, rest: Option<&str>) -> Result<Line<K>, LineError>
-    ensures { Finds plain_line result (interest_at K.reading (fields_left (option_copied rest.entry))) }
+    ensures { Finds plain_line result
+        (interest_at K.reading (fields_left (option_copied rest.entry))) }
 {
     let (face, rest) = value_at(rest)?;
     let (id, rest) = value_at(rest)?;
@@ -247,8 +254,8 @@ fn line<K: Key>(alloc: Global, text: &str) -> Result<Line<K>, LineError>
 
 /// The line of a script that these bytes spell.
 ///
-/// `NotUtf8` comes exactly where the bytes aren't UTF-8, `NotInGrammar` exactly where they are and the
-/// line is in no form of the grammar. The only other error is want of memory.
+/// `NotUtf8` comes exactly where the bytes aren't UTF-8, `NotInGrammar` exactly where they are and
+/// the line is in no form of the grammar. The only other error is want of memory.
 #[tactic(auto, unfolding(crate::specs::Reading::line_read))]
 pub fn read_line<K: Key>(alloc: Global, bytes: &[u8]) -> Result<Line<K>, LineError>
     ensures { Gives plain_line result (line_read K.reading bytes.now) }

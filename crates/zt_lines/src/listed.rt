@@ -20,7 +20,8 @@ pub(crate) fn list_at<'a, V: Spelled>(
     word: &str,
 ) -> Result<(Option<Vec<V>>, Option<&'a str>), LineError>
     ensures { Finds (λ x. (option_map (λ v. v.items) x.0, fields_left (option_copied x.1))) result
-        (optional_value_at (list_read (spelled_by V.of_text) 44) word.now (fields_left (option_copied rest.entry))) }
+        (optional_value_at (list_read (spelled_by V.of_text) 44) word.now
+        (fields_left (option_copied rest.entry))) }
 {
     match optional_at(rest, word) {
         (Some(text), rest) => Ok((Some(list_of(alloc, text, ',')?), rest)),
@@ -34,7 +35,8 @@ pub(crate) fn south_regions_at(
     rest: Option<&str>,
 ) -> Result<(Option<Vec<Region>>, Option<&str>), LineError>
     ensures { Finds (λ x. (option_map (λ v. v.items) x.0, fields_left (option_copied x.1))) result
-        (optional_value_at south_regions_read (codes "regions=") (fields_left (option_copied rest.entry))) }
+        (optional_value_at south_regions_read (codes "regions=")
+        (fields_left (option_copied rest.entry))) }
 {
     match optional_at(rest, "regions=") {
         (Some(text), rest) => Ok((Some(south_regions_of(alloc, text)?), rest)),
@@ -62,7 +64,8 @@ pub(crate) fn name_at(
     rest: Option<&str>,
 ) -> Result<(Option<String>, Option<&str>), LineError>
     ensures { Finds (λ x. (option_map string_bytes x.0, fields_left (option_copied x.1))) result
-        (optional_value_at (spelled_by name_of) (codes "name=") (fields_left (option_copied rest.entry))) }
+        (optional_value_at (spelled_by name_of) (codes "name=")
+        (fields_left (option_copied rest.entry))) }
 {
     match optional_at(rest, "name=") {
         (Some(text), rest) => Ok((Some(name_of(alloc, text)?), rest)),

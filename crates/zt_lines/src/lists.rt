@@ -2,7 +2,8 @@
 ghost use Rattle.std.specs.Prelude.{◌≡◌, ◌<◌, ◌∷◌, ◌++◌, [], OnOk, IfErr, map, string_bytes};
 ghost use Rattle.std.specs.List.{list_all};
 ghost use Rattle.zt_fields.specs.Fields.{Finds, spelled_by};
-ghost use Rattle.zt_lines.specs.Lists.{is_word_byte, is_word, name_of, list_read, is_south, south_regions_read};
+ghost use Rattle.zt_lines.specs.Lists.{is_word_byte, is_word, name_of, list_read, is_south};
+ghost use Rattle.zt_lines.specs.Lists.{south_regions_read};
 
 use std::alloc::Global;
 use zt_fields::{Spelled, first_part};
@@ -89,7 +90,8 @@ pub(crate) fn name_of(alloc: Global, text: &str) -> Result<String, LineError>
 /// Names with `separator` between them.
 pub(crate) fn names_of(alloc: Global, text: &str, separator: char) -> Result<Vec<String>, LineError>
     requires { separator < 128 }
-    ensures { Finds (λ v. map string_bytes v.items) result (list_read (spelled_by name_of) separator text.now) }
+    ensures { Finds (λ v. map string_bytes v.items) result
+        (list_read (spelled_by name_of) separator text.now) }
 {
     let mut members = Vec::new(alloc);
     let mut rest = Some(text);

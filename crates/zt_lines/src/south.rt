@@ -3,7 +3,8 @@ ghost use Rattle.std.specs.Prelude.{◌≡◌, ◌<◌, None, map, codes, string
 ghost use Rattle.std.specs.Option.{option_copied, option_map};
 ghost use Rattle.zt_region.specs.South.{plain_filter, plain_subregion, plain_south};
 ghost use Rattle.zt_fields.specs.Fields.{Finds, spelled_by, parts_left, optional_value_at};
-ghost use Rattle.zt_lines.specs.Lists.{name_of, list_read, conditions_read, positive_read, filter_read, subregion_read, south_read};
+ghost use Rattle.zt_lines.specs.Lists.{name_of, list_read, conditions_read, positive_read};
+ghost use Rattle.zt_lines.specs.Lists.{filter_read, subregion_read, south_read};
 
 use crate::lists::{list_of, names_of, push};
 use std::alloc::Global;
@@ -19,7 +20,8 @@ fn condition_at<'a, V: Spelled>(
     word: &str,
 ) -> Result<(Option<Vec<V>>, Option<&'a str>), LineError>
     ensures { Finds (λ x. (option_map (λ v. v.items) x.0, parts_left 38 (option_copied x.1))) result
-        (optional_value_at (list_read (spelled_by V.of_text) 43) word.now (parts_left 38 (option_copied rest.entry))) }
+        (optional_value_at (list_read (spelled_by V.of_text) 43) word.now
+        (parts_left 38 (option_copied rest.entry))) }
 {
     match optional_part(rest, '&', word) {
         (Some(text), rest) => Ok((Some(list_of(alloc, text, '+')?), rest)),
@@ -32,8 +34,13 @@ fn names_at(
     alloc: Global,
     rest: Option<&str>,
 ) -> Result<(Option<Vec<String>>, Option<&str>), LineError>
-    ensures { Finds (λ x. (option_map (λ v. map string_bytes v.items) x.0, parts_left 38 (option_copied x.1))) result
-        (optional_value_at (list_read (spelled_by name_of) 43) (codes "name:") (parts_left 38 (option_copied rest.entry))) }
+    ensures { Finds (λ x. (
+      option_map (λ v. map string_bytes v.items) x.0,
+      parts_left 38
+          (option_copied x.1),
+    )) result
+        (optional_value_at (list_read (spelled_by name_of) 43) (codes "name:")
+        (parts_left 38 (option_copied rest.entry))) }
 {
     match optional_part(rest, '&', "name:") {
         (Some(text), rest) => Ok((Some(names_of(alloc, text, '+')?), rest)),
@@ -88,7 +95,8 @@ fn filter_of(alloc: Global, text: &str) -> Result<Filter, LineError>
 
 fn filters_of(alloc: Global, text: &str, separator: char) -> Result<Vec<Filter>, LineError>
     requires { separator < 128 }
-    ensures { Finds (λ v. map plain_filter v.items) result (list_read filter_read separator text.now) }
+    ensures { Finds (λ v. map plain_filter v.items) result
+        (list_read filter_read separator text.now) }
 {
     let mut members = Vec::new(alloc);
     let mut rest = Some(text);
@@ -116,7 +124,8 @@ fn subregion_of(alloc: Global, text: &str) -> Result<Subregion, LineError>
 
 fn subregions_of(alloc: Global, text: &str, separator: char) -> Result<Vec<Subregion>, LineError>
     requires { separator < 128 }
-    ensures { Finds (λ v. map plain_subregion v.items) result (list_read subregion_read separator text.now) }
+    ensures { Finds (λ v. map plain_subregion v.items) result
+        (list_read subregion_read separator text.now) }
 {
     let mut members = Vec::new(alloc);
     let mut rest = Some(text);

@@ -1,7 +1,9 @@
 // What an accepted line does and says.
-ghost use Rattle.std.specs.Prelude.{◌≡◌, None, Ok, IfOk, IfSome, OnOk, OnErr, option_map, string_bytes};
+ghost use Rattle.std.specs.Prelude.{◌≡◌, None, Ok, IfOk, IfSome, OnOk, OnErr, option_map};
+ghost use Rattle.std.specs.Prelude.{string_bytes};
 ghost use Rattle.zt_region.specs.South.{plain_south};
-ghost use Rattle.zt_model.specs.Fabric.{call_of, fabric_after, new_rows, said_by_line, sorted_by_face, with_gateway, without_message};
+ghost use Rattle.zt_model.specs.Fabric.{call_of, fabric_after, new_rows, said_by_line};
+ghost use Rattle.zt_model.specs.Fabric.{sorted_by_face, with_gateway, without_message};
 ghost use Rattle.zt_protocol.specs.Plain.{plain_line};
 ghost use Rattle.zt_laws.specs.Order.{FabricIsInOrder};
 ghost use Rattle.zt_laws.specs.Sound.{HasFirstIds, opens_face};
@@ -61,7 +63,8 @@ fn add_gateway<K: Key>(
     })
 }
 
-/// Carries out a line that no cause refuses, whose call is `made`. After want of memory nothing is changed.
+/// Carries out a line that no cause refuses, whose call is `made`. After want of memory nothing is
+/// changed.
 pub(crate) fn accept<K: Key>(
     alloc: Global,
     s: &mut FabricState<K>,

@@ -1,6 +1,7 @@
 // The one call of a line, at its gateway.
 ghost use Rattle.std.specs.Prelude.{◌≡◌, false, IfOk, IfSome, None, Some, option_map};
-ghost use Rattle.zt_model.specs.Fabric.{call_at_place, call_face, call_of, call_of_face, call_of_step, face_at, table_at, with_call_face};
+ghost use Rattle.zt_model.specs.Fabric.{call_at_place, call_face, call_of, call_of_face};
+ghost use Rattle.zt_model.specs.Fabric.{call_of_step, face_at, table_at, with_call_face};
 ghost use Rattle.zt_model.specs.Linking.{call_of_message};
 ghost use Rattle.zt_model.specs.Lists.{nth};
 ghost use Rattle.zt_protocol.specs.Plain.{PlainCall, plain_call, plain_line, trees_of};
@@ -24,7 +25,8 @@ pub(crate) struct CallMade<K: Key> {
 
 impl<K: Key> Model for CallMade<K> {
     ghost use Rattle.std.specs.Prelude.{ℕ};
-    ghost use Rattle.zt_protocol.specs.Plain.{PlainCall as PlainCallValue, plain_call as plain_call_of};
+    ghost use Rattle.zt_protocol.specs.Plain.{PlainCall as PlainCallValue};
+    ghost use Rattle.zt_protocol.specs.Plain.{plain_call as plain_call_of};
 
     ghost Value = { ℕ × PlainCallValue K };
 
@@ -137,7 +139,8 @@ fn call_with_face<K: Key>(alloc: Global, call: &Call<K>, face: u32) -> Result<Ca
     })
 }
 
-/// The call of a message that a face speaks, where the message is one. The only error is want of memory.
+/// The call of a message that a face speaks, where the message is one. The only error is want of
+/// memory.
 fn call_of_message<K: Key>(
     alloc: Global,
     message: &Message<K>,
@@ -145,7 +148,8 @@ fn call_of_message<K: Key>(
 ) -> Result<Option<Call<K>>, Memory>
     ensures made { IfOk result (λ made. option_map plain_call made
         ≡ option_map (with_call_face face) (call_of_message 0 message.now)) }
-    ensures still { IfOk result (λ made. IfSome made (λ call. opens_face (plain_call call) ≡ false)) }
+    ensures still { IfOk result
+        (λ made. IfSome made (λ call. opens_face (plain_call call) ≡ false)) }
 {
     Ok(Some(match message {
         Message::DeclareToken {
@@ -219,7 +223,8 @@ fn face_at<K: Key>(s: &FabricState<K>, gateway: u32, face: u32) -> u32
     }
 }
 
-/// The table, where links name faces by their numbers at the gateway. The only error is want of memory.
+/// The table, where links name faces by their numbers at the gateway. The only error is want of
+/// memory.
 fn table_at<K: Key>(
     alloc: Global,
     s: &FabricState<K>,
@@ -239,8 +244,8 @@ fn table_at<K: Key>(
     })
 }
 
-/// The call of the oldest message in a direction of a link, spoken by the face at the other end. The
-/// only error is want of memory.
+/// The call of the oldest message in a direction of a link, spoken by the face at the other end.
+/// The only error is want of memory.
 fn call_of_step<K: Key>(
     alloc: Global,
     s: &FabricState<K>,
@@ -277,7 +282,8 @@ pub(crate) fn call_of_line<K: Key>(
     line: &Line<K>,
 ) -> Result<Option<CallMade<K>>, Memory>
     ensures made { IfOk result (λ made. made_at s.now made ≡ call_of (plain_line line.now) s.now) }
-    ensures opens { IfOk result (λ made. IfSome made (λ m. opens_face m.1 ≡ is_opening (plain_line line.now))) }
+    ensures opens { IfOk result
+        (λ made. IfSome made (λ m. opens_face m.1 ≡ is_opening (plain_line line.now))) }
 {
     let (gateway, call) = match line {
         Line::Session { gateway, first } => (*gateway, Call::NewSession { first: *first }),

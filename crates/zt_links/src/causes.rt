@@ -5,7 +5,8 @@ ghost use Rattle.zt_region.specs.Region.{whatami_eq};
 ghost use Rattle.zt_region.specs.declared.region.WhatAmI.TheVariants.{Router};
 ghost use Rattle.zt_protocol.specs.Plain.{plain_call, plain_line};
 ghost use Rattle.zt_protocol.specs.declared.errors.Refusal.TheVariants as refusal;
-ghost use Rattle.zt_model.specs.Fabric.{call_face, call_of, is_full, is_linked_face, is_open_link, is_region_of, is_south_router, is_unknown_gateway};
+ghost use Rattle.zt_model.specs.Fabric.{call_face, call_of, is_full, is_linked_face, is_open_link};
+ghost use Rattle.zt_model.specs.Fabric.{is_region_of, is_south_router, is_unknown_gateway};
 ghost use Rattle.zt_model.specs.Linking.{oldest};
 ghost use Rattle.zt_model.specs.Lists.{is_some_and, nth};
 ghost use Rattle.zt_model.specs.Refusals.{GREATEST_NUMBER};
@@ -136,7 +137,8 @@ pub(crate) fn speak_cause<K: Key>(
 ) -> Result<Option<Refusal>, Memory>
     ensures { IfOk result (λ cause. cause
         ≡ or_cause (cause_if (not (is_some (made_at s.now made.now))) refusal.UnknownFace)
-        (or_cause (cause_if (is_linked_face s.now (call_face (plain_call call.now))) refusal.LinkedFace)
+        (or_cause (cause_if (is_linked_face s.now (call_face (plain_call call.now)))
+        refusal.LinkedFace)
         (cause_at K.cmp K.matching (made_at s.now made.now)))) }
 {
     if !is_made(s, made) {
@@ -168,7 +170,9 @@ pub(crate) fn step_cause<K: Key>(
 ) -> Result<Option<Refusal>, Memory>
     ensures { IfOk result (λ cause. cause
         ≡ or_cause (cause_if (not (is_open_link s.now link)) refusal.UnknownLink)
-        (or_cause (cause_if (not (is_some_and (nth link s.now.links) (λ l. is_some (oldest s.now l back)))) refusal.EmptyLink)
+        (or_cause (cause_if
+        (not (is_some_and (nth link s.now.links) (λ l. is_some (oldest s.now l back))))
+        refusal.EmptyLink)
         (cause_at K.cmp K.matching (made_at s.now made.now)))) }
 {
     if !is_open_link(s, link) {
@@ -202,7 +206,8 @@ fn is_south_router(region: &Region) -> bool
 /// Whether the refused pairs name a region that isn't one of these.
 fn names_others(regions: &[Region], refused: &[(Region, Region)]) -> bool
     ensures { result
-        ≡ list_any (λ pair. not (is_region_of regions.now pair.0) || not (is_region_of regions.now pair.1)) refused.now }
+        ≡ list_any (λ pair. not (is_region_of regions.now pair.0)
+        || not (is_region_of regions.now pair.1)) refused.now }
 {
     refused.iter().any(|pair| !has_region(regions, pair.0) || !has_region(regions, pair.1))
 }
@@ -221,8 +226,11 @@ pub(crate) fn gateway_cause<K: Key>(
     refuse: &Admission,
 ) -> Option<Refusal>
     ensures { result
-        ≡ or_cause (cause_if (list_any (λ pair. not (is_region_of regions.now pair.0) || not (is_region_of regions.now pair.1)) refuse.now.refused.items) refusal.NoSuchRegion)
-        (or_cause (cause_if (list_any is_south_router regions.now && not (whatami_eq mode Router)) refusal.RegionConflict)
+        ≡ or_cause (cause_if (list_any
+        (λ pair. not (is_region_of regions.now pair.0) || not (is_region_of regions.now pair.1))
+        refuse.now.refused.items) refusal.NoSuchRegion)
+        (or_cause (cause_if (list_any is_south_router regions.now && not (whatami_eq mode Router))
+        refusal.RegionConflict)
         (cause_if (is_full s.now.gateways) refusal.NumbersSpent)) }
 {
     if names_others(regions, refuse.refused.as_slice()) {

@@ -41,7 +41,8 @@ fn copy_text(alloc: Global, text: &String) -> Result<String, Memory>
 
 /// An equal name, where there is one. The only error is want of memory.
 pub(crate) fn copy_name(alloc: Global, name: &Option<String>) -> Result<Option<String>, Memory>
-    ensures { IfOk result (λ copy. option_map string_bytes copy ≡ option_map string_bytes name.now) }
+    ensures { IfOk result (λ copy. option_map string_bytes copy
+        ≡ option_map string_bytes name.now) }
 {
     match name {
         None => Ok(None),
@@ -74,7 +75,8 @@ fn copy_listed_texts(
 }
 
 fn copy_listed<A: Copy>(alloc: Global, listed: &Option<Vec<A>>) -> Result<Option<Vec<A>>, Memory>
-    ensures { IfOk result (λ copy. option_map (λ v. v.items) copy ≡ option_map (λ v. v.items) listed.now) }
+    ensures { IfOk result (λ copy. option_map (λ v. v.items) copy
+        ≡ option_map (λ v. v.items) listed.now) }
 {
     match listed {
         None => Ok(None),
@@ -116,7 +118,8 @@ fn copy_subregion(alloc: Global, subregion: &Subregion) -> Result<Subregion, Mem
 }
 
 fn copy_subregions(alloc: Global, subregions: &[Subregion]) -> Result<Vec<Subregion>, Memory>
-    ensures { IfOk result (λ copies. map plain_subregion copies.items ≡ map plain_subregion subregions.now) }
+    ensures { IfOk result (λ copies. map plain_subregion copies.items
+        ≡ map plain_subregion subregions.now) }
 {
     let mut copies = Vec::new(alloc);
     for subregion in subregions {

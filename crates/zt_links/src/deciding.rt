@@ -37,7 +37,8 @@ pub(crate) fn cause_of_line<K: Key>(
 ) -> Result<Option<Refusal>, Memory>
     requires call { made_at s.now made.now ≡ call_of (plain_line line.now) s.now }
     requires order { FabricIsInOrder K.cmp K.matching s.now }
-    ensures { IfOk result (λ cause. cause ≡ cause_of_line K.cmp K.matching (plain_line line.now) s.now) }
+    ensures { IfOk result (λ cause. cause
+        ≡ cause_of_line K.cmp K.matching (plain_line line.now) s.now) }
 {
     match line {
         Line::Gateway {

@@ -33,7 +33,8 @@ pub(crate) fn names_no_region<K: Key>(
     node: &NodeState<K>,
     answer: &Result<(Region, Bound), RegionError>,
 ) -> bool
-    ensures { result ≡ is_answer answer.now (λ region bound. not (is_region_of node.now.rows.regions region)) }
+    ensures { result ≡ is_answer answer.now
+        (λ region bound. not (is_region_of node.now.rows.regions region)) }
 {
     match answer {
         Ok((region, _)) => !has_region(node.rows().regions(), *region),
@@ -47,7 +48,8 @@ pub(crate) fn misfits<K: Key>(
     answer: &Result<(Region, Bound), RegionError>,
     other: &NodeState<K>,
 ) -> bool
-    ensures { result ≡ is_answer answer.now (λ region bound. not (fits node.now.rows.mode region other.now.rows.mode bound)) }
+    ensures { result ≡ is_answer answer.now
+        (λ region bound. not (fits node.now.rows.mode region other.now.rows.mode bound)) }
 {
     match answer {
         Ok((region, bound)) => !fits(node.rows().mode(), *region, other.rows().mode(), *bound),
@@ -87,7 +89,8 @@ pub(crate) fn closes_loop<K: Key>(
     gateway: u32,
 ) -> bool
     ensures { result ≡ is_answer answer.now (λ region bound.
-        whatami_eq node.now.rows.mode Client && (is_north region && climbs_to (length s.now.gateways) s.now beyond gateway)) }
+        whatami_eq node.now.rows.mode Client
+        && (is_north region && climbs_to (length s.now.gateways) s.now beyond gateway)) }
 {
     match answer {
         Ok((region, _)) => {

@@ -1,6 +1,7 @@
 //! A fabric of gateways and the links between them.
 ghost use Rattle.std.specs.Prelude.{◌≡◌, true, IfOk, IfSome, OnErr};
-ghost use Rattle.zt_model.specs.Fabric.{after_refusal, call_of, empty_fabric, entry_of, fabric_after};
+ghost use Rattle.zt_model.specs.Fabric.{after_refusal, call_of, empty_fabric, entry_of};
+ghost use Rattle.zt_model.specs.Fabric.{fabric_after};
 ghost use Rattle.zt_protocol.specs.Plain.{plain_entry, plain_line};
 ghost use Rattle.zt_laws.specs.Order.{FabricIsInOrder};
 ghost use Rattle.zt_laws.specs.Sound.{HasFirstIds, opens_face};
@@ -16,8 +17,8 @@ use std::marker::Model;
 use zt_keys::{Key, Memory};
 use zt_protocol::{Entry, Line, Refusal};
 
-/// Gateways with their faces and the links between them, on which the lines of a script are carried out.
-/// Gateways, links, and the faces of all gateways, are numbered from 1 in order of making.
+/// Gateways with their faces and the links between them, on which the lines of a script are carried
+/// out. Gateways, links, and the faces of all gateways, are numbered from 1 in order of making.
 #[derive(Drop)]
 pub struct Fabric<K: Key> {
     alloc: Global,
@@ -46,10 +47,10 @@ impl<K: Key> Fabric<K> {
         }
     }
 
-    /// Carries out one line, and answers its entry: the messages that are sent, in order of face, or why
-    /// the line is refused. A refusal changes nothing, but that a message whose call is refused has left
-    /// its link. The first id of a face is at least 1. The only error is want of memory, after which
-    /// nothing is changed.
+    /// Carries out one line, and answers its entry: the messages that are sent, in order of face,
+    /// or why the line is refused. A refusal changes nothing, but that a message whose call is
+    /// refused has left its link. The first id of a face is at least 1. The only error is want of
+    /// memory, after which nothing is changed.
     pub fn step_line(&mut self, line: &Line<K>) -> Result<Entry<K>, Memory>
         requires { HasFirstIds (plain_line line.now) }
         ensures entry { IfOk result (λ entry. plain_entry entry

@@ -1,4 +1,5 @@
-//! A fabric of gateways and the links between them, in memory, which carries out the lines of a script.
+//! A fabric of gateways and the links between them, in memory, which carries out the lines of a
+//! script.
 #![tactic(auto)]
 
 mod accepting;

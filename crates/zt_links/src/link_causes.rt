@@ -57,7 +57,8 @@ fn closes_loops<K: Key>(
     far: &Result<(Region, Bound), RegionError>,
 ) -> bool
     ensures { result
-        ≡ (closes_loop_at s.now a.now near.now two one || closes_loop_at s.now b.now far.now one two) }
+        ≡ (closes_loop_at s.now a.now near.now two one
+        || closes_loop_at s.now b.now far.now one two) }
 {
     closes_loop(s, a, near, two, one) || closes_loop(s, b, far, one, two)
 }
@@ -80,7 +81,8 @@ fn spends_at_ends<K: Key>(
     requires near { near.now ≡ end_region a.now b.now }
     requires far { far.now ≡ end_region b.now a.now }
     requires order { FabricIsInOrder K.cmp K.matching s.now }
-    ensures { IfOk result (λ spends. spends ≡ line_spends_ids K.cmp K.matching (LinkLine one two first back) s.now) }
+    ensures { IfOk result (λ spends. spends
+        ≡ line_spends_ids K.cmp K.matching (LinkLine one two first back) s.now) }
 {
     match (end_call(near, b, first), end_call(far, a, back)) {
         (Some(forth), Some(answer)) => spends_for_link(alloc, s, one, &forth, two, &answer),
@@ -135,7 +137,8 @@ fn ends_cause<K: Key>(
     requires near_node { nth one s.now.gateways ≡ Some a.now }
     requires far_node { nth two s.now.gateways ≡ Some b.now }
     requires order { FabricIsInOrder K.cmp K.matching s.now }
-    ensures { IfOk result (λ cause. cause ≡ cause_of_line K.cmp K.matching (LinkLine one two first back) s.now) }
+    ensures { IfOk result (λ cause. cause
+        ≡ cause_of_line K.cmp K.matching (LinkLine one two first back) s.now) }
 {
     let near = end_region(alloc, a, b)?;
     let far = end_region(alloc, b, a)?;
@@ -155,7 +158,8 @@ pub(crate) fn link_cause<K: Key>(
     back: u32,
 ) -> Result<Option<Refusal>, Memory>
     requires { FabricIsInOrder K.cmp K.matching s.now }
-    ensures { IfOk result (λ cause. cause ≡ cause_of_line K.cmp K.matching (LinkLine one two first back) s.now) }
+    ensures { IfOk result (λ cause. cause
+        ≡ cause_of_line K.cmp K.matching (LinkLine one two first back) s.now) }
 {
     let Some(a) = member_at(s.gateways(), one) else {
         return Ok(Some(Refusal::UnknownGateway));

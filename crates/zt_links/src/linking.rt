@@ -1,5 +1,6 @@
 // The two ends of a link: the regions of their faces, and the calls that open them.
-ghost use Rattle.std.specs.Prelude.{◌≡◌, ◌<◌, ◌≤◌, ◌^◌, ◌||◌, ◌+◌, ◌++◌, false, true, length, map, Some, None, Ok, Err, IfOk, OnErr, OnOk, option_map};
+ghost use Rattle.std.specs.Prelude.{◌≡◌, ◌<◌, ◌≤◌, ◌^◌, ◌||◌, ◌+◌, ◌++◌, false, true, length, map};
+ghost use Rattle.std.specs.Prelude.{Some, None, Ok, Err, IfOk, OnErr, OnOk, option_map};
 ghost use Rattle.zt_model.specs.Fabric.{call_at, is_unknown_gateway, sorted_by_face};
 ghost use Rattle.zt_laws.specs.Order.{FabricIsInOrder};
 ghost use Rattle.zt_laws.specs.Sound.{opens_face, rows_after_call};
@@ -7,8 +8,10 @@ ghost use Rattle.zt_region.specs.Region.{is_north};
 ghost use Rattle.zt_protocol.specs.Plain.{NewTransport, plain_call};
 ghost use Rattle.zt_region.specs.South.{plain_peer, plain_south, subregion_count};
 ghost use Rattle.zt_places.specs.Found.{AreBelow};
-ghost use Rattle.zt_links.specs.Lines.{agreed, joined, opened_by_call, opened_end, row_after, said_by_opening, undone, without_last_place};
-ghost use Rattle.zt_model.specs.Linking.{climbs_to, with_link, end_region, gateway_above, gateway_beyond, peer_of};
+ghost use Rattle.zt_links.specs.Lines.{agreed, joined, opened_by_call, opened_end, row_after};
+ghost use Rattle.zt_links.specs.Lines.{said_by_opening, undone, without_last_place};
+ghost use Rattle.zt_model.specs.Linking.{climbs_to, with_link, end_region, gateway_above};
+ghost use Rattle.zt_model.specs.Linking.{gateway_beyond, peer_of};
 ghost use Rattle.zt_model.specs.Lists.{first_where, is_some_and, nth};
 ghost use Rattle.zt_model.specs.Refusals.{spends_ids};
 
@@ -63,7 +66,8 @@ fn agree(
     requires own { subregion_count south.now < 2 ^ 32 }
     requires other { subregion_count other_south.now < 2 ^ 32 }
     ensures { result
-        ≡ agreed (plain_peer peer.now) (plain_peer beyond.now) mode (plain_south south.now) other_mode (plain_south other_south.now) }
+        ≡ agreed (plain_peer peer.now) (plain_peer beyond.now) mode
+        (plain_south south.now) other_mode (plain_south other_south.now) }
 {
     match compute_transient_bound_of(peer, other_mode, other_south) {
         Ok(bound) => compute_region_of(beyond, mode, south, bound),
@@ -71,8 +75,8 @@ fn agree(
     }
 }
 
-/// The region of a gateway's face to another, and that one's bound. That there are too many subregions
-/// counts as want of memory.
+/// The region of a gateway's face to another, and that one's bound. That there are too many
+/// subregions counts as want of memory.
 pub(crate) fn end_region<K: Key>(
     alloc: Global,
     own: &NodeState<K>,
@@ -173,7 +177,8 @@ pub(crate) fn climbs_to<K: Key>(s: &FabricState<K>, most: usize, from: u32, to: 
     at == to
 }
 
-/// Opens the face at an end of a link, whose gateway exists. After want of memory nothing is changed.
+/// Opens the face at an end of a link, whose gateway exists. After want of memory nothing is
+/// changed.
 fn open_end<K: Key>(
     alloc: Global,
     s: &mut FabricState<K>,
@@ -185,7 +190,8 @@ fn open_end<K: Key>(
     requires order { FabricIsInOrder K.cmp K.matching s.old }
     ensures says { IfOk result (λ turned. turned.printed.items
         ≡ said_by_opening K.cmp K.matching gateway (plain_call call.now) s.old) }
-    ensures does { OnOk result (s.new ≡ opened_end K.cmp K.matching gateway (plain_call call.now) s.old) }
+    ensures does { OnOk result
+        (s.new ≡ opened_end K.cmp K.matching gateway (plain_call call.now) s.old) }
     ensures links { OnOk result (s.new.links ≡ s.old.links) }
     ensures faces { OnOk result (length s.new.faces ≡ length s.old.faces + 1) }
     ensures free { OnOk result (AreBelow (length s.new.faces) s.new.links) }
@@ -217,8 +223,8 @@ fn next_number(count: usize) -> Result<u32, Memory>
     Ok(count as u32 + 1)
 }
 
-/// Makes a link between two faces that are open, and what is said then waits. After want of memory nothing is
-/// changed.
+/// Makes a link between two faces that are open, and what is said then waits. After want of memory
+/// nothing is changed.
 fn join<K: Key>(
     alloc: Global,
     s: &mut FabricState<K>,
@@ -265,7 +271,8 @@ fn open_other<K: Key>(
     ensures says { IfOk result (λ sent. sent.items ≡ sorted_by_face
         (first.items ++ said_by_opening K.cmp K.matching gateway (plain_call call.now) s.old)) }
     ensures does { IfOk result (λ sent. s.new
-        ≡ joined face other sent.items (opened_end K.cmp K.matching gateway (plain_call call.now) s.old)) }
+        ≡ joined face other sent.items
+        (opened_end K.cmp K.matching gateway (plain_call call.now) s.old)) }
     ensures err { OnErr result (s.new ≡ s.old) }
 {
     let turned = open_end(alloc, s, gateway, call)?;
@@ -278,8 +285,8 @@ fn open_other<K: Key>(
     }
 }
 
-/// Opens the faces of a link between two gateways, one after the other, and makes the link. After want of
-/// memory nothing is changed.
+/// Opens the faces of a link between two gateways, one after the other, and makes the link. After
+/// want of memory nothing is changed.
 pub(crate) fn make_link<K: Key>(
     alloc: Global,
     s: &mut FabricState<K>,
@@ -293,13 +300,18 @@ pub(crate) fn make_link<K: Key>(
     requires there_one { is_unknown_gateway s.old one ≡ false }
     requires there_two { is_unknown_gateway s.old two ≡ false }
     requires order { FabricIsInOrder K.cmp K.matching s.old }
-    requires order_between { FabricIsInOrder K.cmp K.matching (opened_by_call K.cmp K.matching one (plain_call forth.now) s.old) }
+    requires order_between { FabricIsInOrder K.cmp K.matching
+        (opened_by_call K.cmp K.matching one (plain_call forth.now) s.old) }
     ensures says { IfOk result (λ sent. sent.items ≡ sorted_by_face
         (said_by_opening K.cmp K.matching one (plain_call forth.now) s.old
-        ++ said_by_opening K.cmp K.matching two (plain_call back.now) (opened_by_call K.cmp K.matching one (plain_call forth.now) s.old))) }
+        ++ said_by_opening K.cmp K.matching two (plain_call back.now)
+        (opened_by_call K.cmp K.matching one (plain_call forth.now) s.old))) }
     ensures does { IfOk result (λ sent. s.new ≡ record
-        (opened_by_call K.cmp K.matching two (plain_call back.now) (opened_by_call K.cmp K.matching one (plain_call forth.now) s.old))
-        { links = (with_link s.old).links; waiting = map (row_after None sent.items) (with_link s.old).waiting }) }
+        (opened_by_call K.cmp K.matching two (plain_call back.now)
+        (opened_by_call K.cmp K.matching one (plain_call forth.now) s.old)) {
+          links = (with_link s.old).links;
+          waiting = map (row_after None sent.items) (with_link s.old).waiting;
+        }) }
     ensures err { OnErr result (s.new ≡ s.old) }
 {
     let face = next_number(s.places().len())?;
@@ -321,7 +333,9 @@ fn spends_at<K: Key>(
     gateway: u32,
     call: &Call<K>,
 ) -> Result<bool, Memory>
-    ensures { IfOk result (λ spends. spends ≡ is_some_and (call_at s.now gateway (plain_call call.now)) (λ at. spends_ids K.cmp K.matching at.call at.rows)) }
+    ensures { IfOk result (λ spends. spends
+        ≡ is_some_and (call_at s.now gateway (plain_call call.now))
+        (λ at. spends_ids K.cmp K.matching at.call at.rows)) }
 {
     match member_at(s.gateways(), gateway) {
         None => Ok(false),
@@ -329,8 +343,8 @@ fn spends_at<K: Key>(
     }
 }
 
-/// A gateway's rows after a call that opens a face. The only error is want of memory; that the face has no
-/// number counts as such.
+/// A gateway's rows after a call that opens a face. The only error is want of memory; that the face
+/// has no number counts as such.
 fn rows_behind<K: Key>(
     alloc: Global,
     rows: &GatewayState<K>,
@@ -347,7 +361,8 @@ fn rows_behind<K: Key>(
     Ok(after)
 }
 
-/// Whether a call needs more ids than are left behind another one at the same gateway, where that exists.
+/// Whether a call needs more ids than are left behind another one at the same gateway, where that
+/// exists.
 fn spends_behind<K: Key>(
     alloc: Global,
     s: &FabricState<K>,
@@ -356,7 +371,8 @@ fn spends_behind<K: Key>(
     back: &Call<K>,
 ) -> Result<bool, Memory>
     ensures { IfOk result (λ spends. spends ≡ is_some_and (nth gateway s.now.gateways) (λ node.
-        spends_ids K.cmp K.matching (plain_call back.now) (rows_after_call K.cmp K.matching (plain_call forth.now) node.rows))) }
+        spends_ids K.cmp K.matching (plain_call back.now)
+        (rows_after_call K.cmp K.matching (plain_call forth.now) node.rows))) }
 {
     match member_at(s.gateways(), gateway) {
         None => Ok(false),
@@ -367,8 +383,8 @@ fn spends_behind<K: Key>(
     }
 }
 
-/// Whether one of the calls that open the faces of a link needs more ids than are left; the second is made
-/// on the fabric that the first leaves.
+/// Whether one of the calls that open the faces of a link needs more ids than are left; the second
+/// is made on the fabric that the first leaves.
 pub(crate) fn spends_for_link<K: Key>(
     alloc: Global,
     s: &FabricState<K>,
@@ -380,8 +396,11 @@ pub(crate) fn spends_for_link<K: Key>(
     requires opens { opens_face (plain_call forth.now) ≡ true }
     requires order { FabricIsInOrder K.cmp K.matching s.now }
     ensures { IfOk result (λ spends. spends
-        ≡ (is_some_and (call_at s.now one (plain_call forth.now)) (λ at. spends_ids K.cmp K.matching at.call at.rows)
-        || is_some_and (call_at (opened_by_call K.cmp K.matching one (plain_call forth.now) s.now) two (plain_call back.now)) (λ at. spends_ids K.cmp K.matching at.call at.rows))) }
+        ≡ (is_some_and (call_at s.now one (plain_call forth.now))
+        (λ at. spends_ids K.cmp K.matching at.call at.rows)
+        || is_some_and (call_at
+        (opened_by_call K.cmp K.matching one (plain_call forth.now) s.now) two
+        (plain_call back.now)) (λ at. spends_ids K.cmp K.matching at.call at.rows))) }
 {
     if spends_at(alloc, s, one, forth)? {
         return Ok(true);

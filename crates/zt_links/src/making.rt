@@ -1,6 +1,8 @@
 // Calls that are carried out at their gateways.
-ghost use Rattle.std.specs.Prelude.{◌≡◌, ◌+◌, ◌<◌, true, false, [], ◌∷◌, Some, length, None, IfOk, IfSome, OnOk, OnErr};
-ghost use Rattle.zt_model.specs.Fabric.{after_hearing, altered_at, call_at, opened_at, said_at, sorted_by_face, with_place, with_waiting};
+ghost use Rattle.std.specs.Prelude.{◌≡◌, ◌+◌, ◌<◌, true, false, [], ◌∷◌, Some, length, None, IfOk};
+ghost use Rattle.std.specs.Prelude.{IfSome, OnOk, OnErr};
+ghost use Rattle.zt_model.specs.Fabric.{after_hearing, altered_at, call_at, opened_at, said_at};
+ghost use Rattle.zt_model.specs.Fabric.{sorted_by_face, with_place, with_waiting};
 ghost use Rattle.zt_model.specs.Lists.{nth};
 ghost use Rattle.zt_model.specs.Places.{Node};
 ghost use Rattle.zt_model.specs.Says.{said};
@@ -19,7 +21,8 @@ use zt_keys::{Key, Memory};
 use zt_protocol::{Call, Message, Sent};
 use zt_state::GatewayState;
 
-/// A gateway after a call, and what the call says, as the gateway's faces hear it and as it is printed.
+/// A gateway after a call, and what the call says, as the gateway's faces hear it and as it is
+/// printed.
 #[derive(Drop)]
 pub(crate) struct Prepared<K: Key> {
     pub(crate) rows: GatewayState<K>,
@@ -63,8 +66,8 @@ pub(crate) fn prepare<K: Key>(
     })
 }
 
-/// Carries out a call at its gateway, where the oldest message of a face's link may be taken. After want of
-/// memory nothing is changed.
+/// Carries out a call at its gateway, where the oldest message of a face's link may be taken. After
+/// want of memory nothing is changed.
 pub(crate) fn carry_at<K: Key>(
     alloc: Global,
     s: &mut FabricState<K>,
@@ -77,7 +80,8 @@ pub(crate) fn carry_at<K: Key>(
     requires counted { gateway ≡ at + 1 }
     ensures says { IfOk result (λ sent. sent.items
         ≡ said_sorted K.cmp K.matching gateway (plain_call call.now) s.old) }
-    ensures does { OnOk result (s.new ≡ carried K.cmp K.matching taken gateway (plain_call call.now) s.old) }
+    ensures does { OnOk result
+        (s.new ≡ carried K.cmp K.matching taken gateway (plain_call call.now) s.old) }
     ensures err { OnErr result (s.new ≡ s.old) }
 {
     let prepared = prepare(alloc, s, at, gateway, call)?;
@@ -87,8 +91,8 @@ pub(crate) fn carry_at<K: Key>(
     Ok(sent)
 }
 
-/// Makes the one call of a line that opens no face, where its gateway or face exists. The oldest message
-/// of a face's link may be taken. After want of memory nothing is changed.
+/// Makes the one call of a line that opens no face, where its gateway or face exists. The oldest
+/// message of a face's link may be taken. After want of memory nothing is changed.
 pub(crate) fn make_call<K: Key>(
     alloc: Global,
     s: &mut FabricState<K>,
@@ -117,15 +121,16 @@ pub(crate) fn make_call<K: Key>(
     }
 }
 
-/// The number of the face that a gateway makes next. That it has none counts as want of memory; there are
-/// fewer places than numbers, so this is never so.
+/// The number of the face that a gateway makes next. That it has none counts as want of memory;
+/// there are fewer places than numbers, so this is never so.
 pub(crate) fn next_face<K: Key>(g: &GatewayState<K>) -> Result<u32, Memory>
     ensures { IfOk result (λ face. face ≡ g.now.made + 1) }
 {
     g.made().checked_add(1).ok_or(Memory)
 }
 
-/// Opens a face at its gateway, where its place stands last. After want of memory nothing is changed.
+/// Opens a face at its gateway, where its place stands last. After want of memory nothing is
+/// changed.
 fn open_at<K: Key>(
     alloc: Global,
     s: &mut FabricState<K>,
@@ -152,8 +157,8 @@ fn open_at<K: Key>(
     }
 }
 
-/// Makes the call of a line that opens a face, where its gateway exists. After want of memory nothing is
-/// changed.
+/// Makes the call of a line that opens a face, where its gateway exists. After want of memory
+/// nothing is changed.
 pub(crate) fn open_face<K: Key>(
     alloc: Global,
     s: &mut FabricState<K>,
@@ -162,7 +167,8 @@ pub(crate) fn open_face<K: Key>(
     requires opens { IfSome made.now (λ made. opens_face made.1 ≡ true) }
     requires order { FabricIsInOrder K.cmp K.matching s.old }
     ensures says { IfOk result (λ sent. sent.items
-        ≡ sorted_by_face (said_at K.cmp K.matching (opened_at K.cmp K.matching (made_at s.old made.now) s.old) (made_at s.old made.now))) }
+        ≡ sorted_by_face (said_at K.cmp K.matching
+        (opened_at K.cmp K.matching (made_at s.old made.now) s.old) (made_at s.old made.now))) }
     ensures does { IfOk result (λ sent. s.new
         ≡ with_waiting sent.items (after_hearing K.cmp sent.items
         (opened_at K.cmp K.matching (made_at s.old made.now) s.old))) }

@@ -7,7 +7,9 @@ ghost use Rattle.zt_model.specs.Lists.{nth};
 pub(crate) fn place_of_number<A>(members: &[A], number: u32) -> Option<usize>
     ensures within { IfSome result (λ place. place < length members.now) }
     ensures counted { IfSome result (λ place. number ≡ place + 1) }
-    ensures found { IfSome result (λ place. (member : A) → nth number members.now ≡ Some (slice_index_or members.now place member)) }
+    ensures found { IfSome result
+        (λ place. (member : A)
+        → nth number members.now ≡ Some (slice_index_or members.now place member)) }
     ensures none { IfNone result (nth number members.now ≡ None) }
 {
     if number == 0 || number as usize > members.len() {

@@ -15,7 +15,8 @@ pub(crate) fn print_all<K: Key>(
     gateway: u32,
     sends: &[(u32, Message<K>)],
 ) -> Result<Vec<Sent<K>>, Memory>
-    ensures { IfOk result (λ printed_. printed_.items ≡ map (printed places.now gateway) sends.now) }
+    ensures { IfOk result (λ printed_. printed_.items
+        ≡ map (printed places.now gateway) sends.now) }
 {
     let mut printed = Vec::new(alloc);
     for (face, message) in sends {

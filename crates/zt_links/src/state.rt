@@ -1,7 +1,10 @@
 // What a fabric keeps: gateways, the places of their faces, links, and what waits on them.
-ghost use Rattle.std.specs.Prelude.{◌≡◌, ◌+◌, ◌-◌, ◌<◌, ◌≤◌, ◌&&◌, ◌++◌, [], ◌∷◌, false, true, None, Some, if◌then◌else◌, length, take, vec_len, IfOk, OnOk, OnErr};
+ghost use Rattle.std.specs.Prelude.{◌≡◌, ◌+◌, ◌-◌, ◌<◌, ◌≤◌, ◌&&◌, ◌++◌, [], ◌∷◌, false, true};
+ghost use Rattle.std.specs.Prelude.{None, Some, if◌then◌else◌, length, take, vec_len, IfOk, OnOk};
+ghost use Rattle.std.specs.Prelude.{OnErr};
 ghost use Rattle.std.specs.Option.{option_copied};
-ghost use Rattle.zt_model.specs.Fabric.{at_nth, empty_fabric, with_gateway, with_rows, with_waiting};
+ghost use Rattle.zt_model.specs.Fabric.{at_nth, empty_fabric, with_gateway, with_rows};
+ghost use Rattle.zt_model.specs.Fabric.{with_waiting};
 ghost use Rattle.zt_model.specs.Linking.{is_end_of, with_taken};
 ghost use Rattle.zt_model.specs.Lists.{first_where, nth, without_id};
 ghost use Rattle.zt_places.specs.Found.{AreBelow};
@@ -39,7 +42,11 @@ impl<K: Key> Model for NodeState<K> {
 
     ghost Value = { Node K };
 
-    ghost view = { λ n. record { rows = n.twin; south = plain_south n.south; name = option_map string_bytes n.name } };
+    ghost view = { λ n. record {
+      rows = n.twin;
+      south = plain_south n.south;
+      name = option_map string_bytes n.name;
+    } };
 }
 
 impl<K: Key> NodeState<K> {
@@ -58,8 +65,8 @@ impl<K: Key> NodeState<K> {
     }
 }
 
-/// Gateways, the places of all faces, the links and what waits on them, each numbered from 1 in order
-/// of making.
+/// Gateways, the places of all faces, the links and what waits on them, each numbered from 1 in
+/// order of making.
 #[derive(Drop)]
 pub(crate) struct FabricState<K: Key> {
     pub(crate) gateways: Vec<NodeState<K>>,
@@ -157,9 +164,11 @@ impl<K: Key> FabricState<K> {
         call: &Call<K>,
     ) -> Result<Ahead<K>, Memory>
         requires { at < length self.old.gateways }
-        ensures state { IfOk result (λ ahead. (node : Node K) → nth (at + 1) self.old.gateways ≡ Some node
+        ensures state { IfOk result
+            (λ ahead. (node : Node K) → nth (at + 1) self.old.gateways ≡ Some node
             → ahead.state ≡ rows_after_call K.cmp K.matching (plain_call call.now) node.rows) }
-        ensures said { IfOk result (λ ahead. (node : Node K) → nth (at + 1) self.old.gateways ≡ Some node
+        ensures said { IfOk result
+            (λ ahead. (node : Node K) → nth (at + 1) self.old.gateways ≡ Some node
             → ahead.said.items ≡ said K.cmp K.matching (plain_call call.now) node.rows) }
         ensures same { self.new ≡ self.old }
     {
@@ -189,7 +198,8 @@ impl<K: Key> FabricState<K> {
     pub(crate) fn put_rows(&mut self, at: usize, rows: GatewayState<K>) -> GatewayState<K>
         requires { at < length self.old.gateways }
         ensures put { self.new ≡ with_rows (at + 1) (λ _. rows) self.old }
-        ensures former { (node : Node K) → nth (at + 1) self.old.gateways ≡ Some node → result ≡ node.rows }
+        ensures former { (node : Node K) → nth (at + 1) self.old.gateways ≡ Some node
+            → result ≡ node.rows }
     {
         put_rows_at(&mut self.gateways, at, rows)
     }
@@ -211,7 +221,10 @@ impl<K: Key> FabricState<K> {
         face: u32,
     ) -> Result<(), Memory>
         ensures ok { OnOk result (self.new
-            ≡ record self.old { faces = self.old.faces ++ record { gateway = gateway; face = face } ∷ [] }) }
+            ≡ record self.old {
+              faces = self.old.faces ++ record { gateway = gateway; face = face }
+                  ∷ [];
+            }) }
         ensures free { OnOk result (AreBelow (length self.new.faces) self.new.links) }
         ensures back { OnOk result (without_last_place self.new ≡ self.old) }
         ensures err { OnErr result (self.new ≡ self.old) }
@@ -226,8 +239,8 @@ impl<K: Key> FabricState<K> {
         )
     }
 
-    /// A place that ends an open link is put behind the others, and nothing waits there. After want of
-    /// memory nothing is changed.
+    /// A place that ends an open link is put behind the others, and nothing waits there. After want
+    /// of memory nothing is changed.
     pub(crate) fn push_end(&mut self, alloc: Global, gateway: u32, face: u32) -> Result<(), Memory>
         ensures ok { OnOk result (self.new ≡ record self.old {
           faces = self.old.faces ++ record { gateway = gateway; face = face } ∷ [];
@@ -255,8 +268,8 @@ impl<K: Key> FabricState<K> {
         pop_both(&mut self.places, &mut self.queues);
     }
 
-    /// An open link between two faces, which come behind those of all others, is put behind these. After want
-    /// of memory nothing is changed.
+    /// An open link between two faces, which come behind those of all others, is put behind these.
+    /// After want of memory nothing is changed.
     pub(crate) fn push_link(&mut self, one: u32, two: u32) -> Result<(), Memory>
         requires below { AreBelow one self.old.links }
         requires rising { one < two }
@@ -281,13 +294,16 @@ impl<K: Key> FabricState<K> {
     pub(crate) fn shut_link(&mut self, at: usize)
         requires { at < length self.old.links }
         ensures { self.new
-            ≡ record self.old { links = at_nth (at + 1) (λ l. record l { is_open = false }) self.old.links } }
+            ≡ record self.old {
+              links = at_nth (at + 1)
+                  (λ l. record l { is_open = false }) self.old.links;
+            } }
     {
         self.links.shut(at);
     }
 
-    /// The oldest message of a face's link is taken, and then messages wait, each where its face ends an
-    /// open link. After want of memory nothing is changed.
+    /// The oldest message of a face's link is taken, and then messages wait, each where its face
+    /// ends an open link. After want of memory nothing is changed.
     pub(crate) fn turn_waiting(
         &mut self,
         alloc: Global,
@@ -326,7 +342,8 @@ fn push_both<K: Key>(
 ) -> Result<(), Memory>
     ensures places { OnOk result (places.new
         ≡ places.old ++ record { gateway = gateway; face = face } ∷ []) }
-    ensures queues { OnOk result (queues.new ≡ queues.old ++ (if ends_link then Some [] else None) ∷ []) }
+    ensures queues { OnOk result
+        (queues.new ≡ queues.old ++ (if ends_link then Some [] else None) ∷ []) }
     ensures places_err { OnErr result (places.new ≡ places.old) }
     ensures queues_err { OnErr result (queues.new ≡ queues.old) }
 {
@@ -356,9 +373,11 @@ fn prepare_in<K: Key>(
     call: &Call<K>,
 ) -> Result<Ahead<K>, Memory>
     requires { at < vec_len gateways.old }
-    ensures state { IfOk result (λ ahead. (node : Node K) → nth (at + 1) gateways.old.items ≡ Some node
+    ensures state { IfOk result
+        (λ ahead. (node : Node K) → nth (at + 1) gateways.old.items ≡ Some node
         → ahead.state ≡ rows_after_call K.cmp K.matching (plain_call call.now) node.rows) }
-    ensures said { IfOk result (λ ahead. (node : Node K) → nth (at + 1) gateways.old.items ≡ Some node
+    ensures said { IfOk result
+        (λ ahead. (node : Node K) → nth (at + 1) gateways.old.items ≡ Some node
         → ahead.said.items ≡ said K.cmp K.matching (plain_call call.now) node.rows) }
     ensures same { gateways.new.items ≡ gateways.old.items }
 {
@@ -379,7 +398,8 @@ fn commit_in<K: Key>(
         → rows ≡ rows_after_call K.cmp K.matching (plain_call call.now) node.rows }
     requires said { (node : Node K) → nth (at + 1) gateways.old.items ≡ Some node
         → sends.now ≡ said K.cmp K.matching (plain_call call.now) node.rows }
-    ensures { gateways.new.items ≡ at_nth (at + 1) (λ node. record node { rows = rows }) gateways.old.items }
+    ensures { gateways.new.items
+        ≡ at_nth (at + 1) (λ node. record node { rows = rows }) gateways.old.items }
 {
     let node = &mut gateways[at];
     node.twin.commit(alloc, rows, call, sends);
@@ -391,8 +411,10 @@ fn put_rows_at<K: Key>(
     rows: GatewayState<K>,
 ) -> GatewayState<K>
     requires { at < vec_len gateways.old }
-    ensures put { gateways.new.items ≡ at_nth (at + 1) (λ node. record node { rows = rows }) gateways.old.items }
-    ensures former { (node : Node K) → nth (at + 1) gateways.old.items ≡ Some node → result ≡ node.rows }
+    ensures put { gateways.new.items
+        ≡ at_nth (at + 1) (λ node. record node { rows = rows }) gateways.old.items }
+    ensures former { (node : Node K) → nth (at + 1) gateways.old.items ≡ Some node
+        → result ≡ node.rows }
 {
     let node = &mut gateways[at];
     node.twin.put(rows)

@@ -1,4 +1,5 @@
-// Calls that are carried out at a gateway for a line that makes two, and undone where the line fails.
+// Calls that are carried out at a gateway for a line that makes two, and undone where the line
+// fails.
 ghost use Rattle.std.specs.Prelude.{◌≡◌, length, IfOk, OnErr, OnOk};
 ghost use Rattle.zt_model.specs.Fabric.{call_at, said_at, with_rows};
 ghost use Rattle.zt_protocol.specs.Plain.{plain_call};
@@ -14,8 +15,8 @@ use zt_keys::{Key, Memory};
 use zt_protocol::{Call, Sent};
 use zt_state::GatewayState;
 
-/// A gateway where a call was carried out, what it kept before, and what the call says. Where there is no
-/// such gateway nothing was kept, and nothing is said.
+/// A gateway where a call was carried out, what it kept before, and what the call says. Where there
+/// is no such gateway nothing was kept, and nothing is said.
 #[derive(Drop)]
 pub(crate) struct Turned<K: Key> {
     pub(crate) gateway: u32,
@@ -32,7 +33,8 @@ pub(crate) fn hear_call<K: Key>(
 ) -> Result<Turned<K>, Memory>
     ensures says { IfOk result (λ turned. turned.printed.items
         ≡ said_at K.cmp K.matching s.old (call_at s.old gateway (plain_call call.now))) }
-    ensures does { OnOk result (s.new ≡ with_rows gateway (rows_after_call K.cmp K.matching (plain_call call.now)) s.old) }
+    ensures does { OnOk result
+        (s.new ≡ with_rows gateway (rows_after_call K.cmp K.matching (plain_call call.now)) s.old) }
     ensures back { IfOk result (λ turned. undone turned.former turned.gateway s.new ≡ s.old) }
     ensures err { OnErr result (s.new ≡ s.old) }
 {
@@ -76,8 +78,8 @@ fn put_back<K: Key>(s: &mut FabricState<K>, gateway: u32, rows: GatewayState<K>)
     }
 }
 
-/// A face that was opened for a link, which isn't made yet, is taken away again, and its gateway keeps what
-/// it kept before.
+/// A face that was opened for a link, which isn't made yet, is taken away again, and its gateway
+/// keeps what it kept before.
 pub(crate) fn undo_opening<K: Key>(
     s: &mut FabricState<K>,
     gateway: u32,

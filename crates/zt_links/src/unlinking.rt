@@ -1,7 +1,9 @@
 // Links that are closed, and the faces at their ends.
-ghost use Rattle.std.specs.Prelude.{◌≡◌, ◌++◌, ◌==◌, [], ◌∷◌, ◌+◌, ◌<◌, Ok, IfOk, OnOk, OnErr, length, not};
+ghost use Rattle.std.specs.Prelude.{◌≡◌, ◌++◌, ◌==◌, [], ◌∷◌, ◌+◌, ◌<◌, Ok, IfOk, OnOk, OnErr};
+ghost use Rattle.std.specs.Prelude.{length, not};
 ghost use Rattle.std.specs.List.{list_any};
-ghost use Rattle.zt_model.specs.Fabric.{after_closing, both_ends, closing_call, fabric_after, said_at, said_by_line, sorted_by_face};
+ghost use Rattle.zt_model.specs.Fabric.{after_closing, both_ends, closing_call, fabric_after};
+ghost use Rattle.zt_model.specs.Fabric.{said_at, said_by_line, sorted_by_face};
 ghost use Rattle.zt_protocol.specs.Plain.{Unlink};
 ghost use Rattle.zt_links.specs.Lines.{for_others, parted, undone};
 ghost use Rattle.zt_laws.specs.Order.{FabricIsInOrder};
@@ -76,8 +78,8 @@ fn add_others<K: Key>(
     Ok(())
 }
 
-/// Closes a link between two faces that are closed: what waits on it is dropped, and what their closings
-/// say to others is answered, and waits. After want of memory nothing is changed.
+/// Closes a link between two faces that are closed: what waits on it is dropped, and what their
+/// closings say to others is answered, and waits. After want of memory nothing is changed.
 fn part<K: Key>(
     alloc: Global,
     s: &mut FabricState<K>,
@@ -104,8 +106,8 @@ fn part<K: Key>(
     Ok(sent)
 }
 
-/// The second face of a link is closed, and then the link; answers what its closing says to others, behind
-/// what the first one's says. After want of memory nothing is changed.
+/// The second face of a link is closed, and then the link; answers what its closing says to others,
+/// behind what the first one's says. After want of memory nothing is changed.
 fn close_other<K: Key>(
     alloc: Global,
     s: &mut FabricState<K>,
@@ -132,8 +134,8 @@ fn close_other<K: Key>(
     }
 }
 
-/// Both faces of a link are closed, one after the other, and what they didn't say to each other is answered.
-/// After want of memory nothing is changed.
+/// Both faces of a link are closed, one after the other, and what they didn't say to each other is
+/// answered. After want of memory nothing is changed.
 fn close_both<K: Key>(
     alloc: Global,
     s: &mut FabricState<K>,

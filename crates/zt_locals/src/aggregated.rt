@@ -1,10 +1,12 @@
 // Insertion of aggregated resources, by the rules.
-ghost use Rattle.std.specs.Prelude.{◌≡◌, ◌≤◌, ◌<◌, [], insert, None, slice_index_or, slice_set, vec_len, IsTrue, IfOk, OnOk, OnErr, MatchOption};
+ghost use Rattle.std.specs.Prelude.{◌≡◌, ◌≤◌, ◌<◌, [], insert, None, slice_index_or, slice_set};
+ghost use Rattle.std.specs.Prelude.{vec_len, IsTrue, IfOk, OnOk, OnErr, MatchOption};
 ghost use Rattle.std.specs.Option.{ForNone, option_map};
 ghost use Rattle.std.specs.FinMap.Entries.{find, put, is_sorted};
 ghost use Rattle.zt_locals.specs.Folding.{AreFolds, aggregate_of, fold_from};
 ghost use Rattle.zt_locals.specs.Interests.{joined};
-ghost use Rattle.zt_locals.specs.Resources.{IsSound, aggregated_id_among, aggregated_row, aggregated_interests_of};
+ghost use Rattle.zt_locals.specs.Resources.{IsSound, aggregated_id_among, aggregated_row};
+ghost use Rattle.zt_locals.specs.Resources.{aggregated_interests_of};
 ghost use Rattle.zt_locals.specs.declared.rows.AggregatedRow.{AggregatedRow};
 
 use crate::fold::fold_onto;
@@ -37,9 +39,15 @@ fn join_row<Id: Copy, Res: LocalResourceTrait, Info: Copy>(
     interests: &[InterestId],
 ) -> Result<(Id, Option<Info>), Memory>
     requires { place < vec_len rows.old }
-    ensures ok { IfOk result (λ r. (row : Res × AggregatedRow Id Info) → row ≡ slice_index_or rows.old.items place row → rows.new.items ≡ slice_set rows.old.items place (row.0, aggregated_row r.0 r.1 (joined row.1.interests interests.now))) }
-    ensures id { IfOk result (λ r. (row : Res × AggregatedRow Id Info) → row ≡ slice_index_or rows.old.items place row → r.0 ≡ row.1.id) }
-    ensures info { IfOk result (λ r. (row : Res × AggregatedRow Id Info) → row ≡ slice_index_or rows.old.items place row → r.1 ≡ row.1.info) }
+    ensures ok { IfOk result (λ r. (row : Res × AggregatedRow Id Info)
+        → row ≡ slice_index_or rows.old.items place row
+        → rows.new.items ≡ slice_set rows.old.items place
+        (row.0, aggregated_row r.0 r.1 (joined row.1.interests interests.now))) }
+    ensures id { IfOk result (λ r. (row : Res × AggregatedRow Id Info)
+        → row ≡ slice_index_or rows.old.items place row → r.0 ≡ row.1.id) }
+    ensures info { IfOk result
+        (λ r. (row : Res × AggregatedRow Id Info) → row ≡ slice_index_or rows.old.items place row
+        → r.1 ≡ row.1.info) }
     ensures err { OnErr result (rows.new.items ≡ rows.old.items) }
 {
     let row = &mut rows[place];
@@ -63,10 +71,16 @@ fn insert_new<
 ) -> Result<(Id, Option<Info>), Memory>
     requires in_order { IsTrue (is_sorted Res.cmp simple.now) }
     requires within { place ≤ vec_len rows.old }
-    requires callable { ForNone (option_map (λ row. row.id) (find Res.cmp key simple.now)) (F.pre f_id) }
-    ensures id { IfOk result (λ r. MatchOption (option_map (λ row. row.id) (find Res.cmp key simple.now)) (F.post f_id r.0) (λ id. r.0 ≡ id)) }
-    ensures info { IfOk result (λ r. r.1 ≡ fold_from Res.matching Info.aggregating key None simple.now) }
-    ensures rows { IfOk result (λ r. rows.new.items ≡ insert rows.old.items place (key, aggregated_row r.0 r.1 (joined [] interests.now))) }
+    requires callable { ForNone (option_map (λ row. row.id) (find Res.cmp key simple.now))
+        (F.pre f_id) }
+    ensures id { IfOk result (λ r. MatchOption
+        (option_map (λ row. row.id) (find Res.cmp key simple.now)) (F.post f_id r.0)
+        (λ id. r.0 ≡ id)) }
+    ensures info { IfOk result
+        (λ r. r.1 ≡ fold_from Res.matching Info.aggregating key None simple.now) }
+    ensures rows { IfOk result
+        (λ r. rows.new.items
+        ≡ insert rows.old.items place (key, aggregated_row r.0 r.1 (joined [] interests.now))) }
     ensures err { OnErr result (rows.new.items ≡ rows.old.items) }
 {
     let mut set = InterestSet::new(*rows.allocator());
@@ -97,10 +111,19 @@ pub(crate) fn insert_aggregated<
     interests: &[InterestId],
 ) -> Result<(Id, Option<Info>), Memory>
     requires sound { IsSound Res.cmp Res.matching Info.aggregating simple.now rows.old.items }
-    requires callable { ForNone (aggregated_id_among (find Res.cmp key rows.old.items) (find Res.cmp key simple.now)) (F.pre f_id) }
-    ensures id { IfOk result (λ r. MatchOption (aggregated_id_among (find Res.cmp key rows.old.items) (find Res.cmp key simple.now)) (F.post f_id r.0) (λ id. r.0 ≡ id)) }
-    ensures info { IfOk result (λ r. r.1 ≡ aggregate_of Res.matching Info.aggregating key simple.now) }
-    ensures rows { IfOk result (λ r. rows.new.items ≡ put Res.cmp key (aggregated_row r.0 r.1 (joined (aggregated_interests_of (find Res.cmp key rows.old.items)) interests.now)) rows.old.items) }
+    requires callable { ForNone
+        (aggregated_id_among (find Res.cmp key rows.old.items) (find Res.cmp key simple.now))
+        (F.pre f_id) }
+    ensures id { IfOk result (λ r. MatchOption
+        (aggregated_id_among (find Res.cmp key rows.old.items) (find Res.cmp key simple.now))
+        (F.post f_id r.0) (λ id. r.0 ≡ id)) }
+    ensures info { IfOk result
+        (λ r. r.1 ≡ aggregate_of Res.matching Info.aggregating key simple.now) }
+    ensures rows { IfOk result
+        (λ r. rows.new.items
+        ≡ put Res.cmp key (aggregated_row r.0 r.1
+        (joined (aggregated_interests_of (find Res.cmp key rows.old.items)) interests.now))
+        rows.old.items) }
     ensures err { OnErr result (rows.new.items ≡ rows.old.items) }
     ensures sound { IsSound Res.cmp Res.matching Info.aggregating simple.now rows.new.items }
 {

@@ -1,8 +1,10 @@
 // The end of interests, and the rows that go with them.
-ghost use Rattle.std.specs.Prelude.{◌≡◌, ◌<◌, map, filter, not, is_some, Ok, slice_index_or, slice_set, vec_len};
+ghost use Rattle.std.specs.Prelude.{◌≡◌, ◌<◌, map, filter, not, is_some, Ok, slice_index_or};
+ghost use Rattle.std.specs.Prelude.{slice_set, vec_len};
 ghost use Rattle.std.specs.FinMap.Entries.{find};
 ghost use Rattle.zt_ordered.specs.Rows.{place};
-ghost use Rattle.zt_locals.specs.Ending.{belongs, goes_with, is_unheld, unasked, unasked_rows, ending, aggregated_after, simple_after};
+ghost use Rattle.zt_locals.specs.Ending.{belongs, goes_with, is_unheld, unasked, unasked_rows};
+ghost use Rattle.zt_locals.specs.Ending.{ending, aggregated_after, simple_after};
 ghost use Rattle.zt_locals.specs.Interests.{without_interest};
 ghost use Rattle.zt_locals.specs.Resources.{IsSound, aggregated_row};
 ghost use Rattle.zt_locals.specs.declared.rows.AggregatedRow.{AggregatedRow};
@@ -39,7 +41,8 @@ fn drop_going<Id: Drop, Res: LocalResourceTrait, Info: Drop>(
     aggregated: &[(Res, AggregatedRow<Id, Info>)],
     id: InterestId,
 )
-    ensures { simple.new.items ≡ filter (λ row. not (goes_with Res.matching id aggregated.now row)) simple.old.items }
+    ensures { simple.new.items
+        ≡ filter (λ row. not (goes_with Res.matching id aggregated.now row)) simple.old.items }
 {
     simple.retain(|row| !goes(aggregated, row, id));
 }
@@ -60,10 +63,13 @@ pub(crate) fn end_simple_interest<
     Res: LocalResourceTrait,
     Info: LocalResourceInfoTrait<Res>,
 >(body: &mut Body<Id, Res, Info>, id: InterestId)
-    requires { IsSound Res.cmp Res.matching Info.aggregating body.old.simple.items body.old.aggregated.items }
-    ensures simple { body.new.simple.items ≡ unasked_rows Res.matching id body.old.aggregated.items body.old.simple.items }
+    requires { IsSound Res.cmp Res.matching Info.aggregating body.old.simple.items
+        body.old.aggregated.items }
+    ensures simple { body.new.simple.items
+        ≡ unasked_rows Res.matching id body.old.aggregated.items body.old.simple.items }
     ensures aggregated { body.new.aggregated.items ≡ body.old.aggregated.items }
-    ensures sound { IsSound Res.cmp Res.matching Info.aggregating body.new.simple.items body.new.aggregated.items }
+    ensures sound { IsSound Res.cmp Res.matching Info.aggregating body.new.simple.items
+        body.new.aggregated.items }
 {
     drop_going(&mut body.simple, &body.aggregated, id);
     unask_each(&mut body.simple, id);
@@ -80,13 +86,15 @@ fn is_left<Id, Res: LocalResourceTrait, Info>(
     !key.matches(&row.0) || !row.1.interests.is_empty() || belongs_to_one(left, &row.0)
 }
 
-/// Takes the simple rows out that go with the aggregated resource of a key; those that are left stand beside it.
+/// Takes the simple rows out that go with the aggregated resource of a key; those that are left
+/// stand beside it.
 fn drop_unheld<Id: Drop, Res: LocalResourceTrait, Info: Drop>(
     simple: &mut Vec<(Res, SimpleRow<Id, Info>)>,
     left: &[(Res, AggregatedRow<Id, Info>)],
     key: &Res,
 )
-    ensures { simple.new.items ≡ filter (λ row. not (is_unheld Res.matching key.now left.now row)) simple.old.items }
+    ensures { simple.new.items
+        ≡ filter (λ row. not (is_unheld Res.matching key.now left.now row)) simple.old.items }
 {
     simple.retain(|row| is_left(left, row, key));
 }
@@ -98,7 +106,9 @@ fn unask_row<Id, Res, Info: Copy>(
     id: InterestId,
 )
     requires { at < vec_len rows.old }
-    ensures { (row : Res × AggregatedRow Id Info) → row ≡ slice_index_or rows.old.items at row → rows.new.items ≡ slice_set rows.old.items at (row.0, aggregated_row row.1.id row.1.info (without_interest id row.1.interests)) }
+    ensures { (row : Res × AggregatedRow Id Info) → row ≡ slice_index_or rows.old.items at row
+        → rows.new.items ≡ slice_set rows.old.items at
+        (row.0, aggregated_row row.1.id row.1.info (without_interest id row.1.interests)) }
 {
     let row = &mut rows[at];
     row.1.interests.remove(id);
@@ -111,13 +121,20 @@ fn end_at<Id: Copy, Res: LocalResourceTrait, Info: LocalResourceInfoTrait<Res>>(
     key: &Res,
     id: InterestId,
 ) -> bool
-    requires sound { IsSound Res.cmp Res.matching Info.aggregating body.old.simple.items body.old.aggregated.items }
+    requires sound { IsSound Res.cmp Res.matching Info.aggregating body.old.simple.items
+        body.old.aggregated.items }
     requires within { at < vec_len body.old.aggregated }
     requires at { place Res.cmp key.now body.old.aggregated.items ≡ Ok at }
     ensures answer { result ≡ is_some (ending id (find Res.cmp key.now body.old.aggregated.items)) }
-    ensures aggregated { body.new.aggregated.items ≡ aggregated_after Res.cmp key.now (ending id (find Res.cmp key.now body.old.aggregated.items)) body.old.aggregated.items }
-    ensures simple { body.new.simple.items ≡ simple_after Res.matching key.now (ending id (find Res.cmp key.now body.old.aggregated.items)) body.new.aggregated.items body.old.simple.items }
-    ensures sound { IsSound Res.cmp Res.matching Info.aggregating body.new.simple.items body.new.aggregated.items }
+    ensures aggregated { body.new.aggregated.items
+        ≡ aggregated_after Res.cmp key.now
+        (ending id (find Res.cmp key.now body.old.aggregated.items)) body.old.aggregated.items }
+    ensures simple { body.new.simple.items
+        ≡ simple_after Res.matching key.now
+        (ending id (find Res.cmp key.now body.old.aggregated.items)) body.new.aggregated.items
+        body.old.simple.items }
+    ensures sound { IsSound Res.cmp Res.matching Info.aggregating body.new.simple.items
+        body.new.aggregated.items }
 {
     let interests = &body.aggregated[at].1.interests;
     if !interests.contains(id) {
@@ -132,17 +149,25 @@ fn end_at<Id: Copy, Res: LocalResourceTrait, Info: LocalResourceInfoTrait<Res>>(
     true
 }
 
-/// Ends an interest in the aggregated row under the key, if there is one and it has the interest. Answers whether.
+/// Ends an interest in the aggregated row under the key, if there is one and it has the interest.
+/// Answers whether.
 pub(crate) fn end_aggregated_interest<
     Id: Copy,
     Res: LocalResourceTrait,
     Info: LocalResourceInfoTrait<Res>,
 >(body: &mut Body<Id, Res, Info>, key: &Res, id: InterestId) -> bool
-    requires { IsSound Res.cmp Res.matching Info.aggregating body.old.simple.items body.old.aggregated.items }
+    requires { IsSound Res.cmp Res.matching Info.aggregating body.old.simple.items
+        body.old.aggregated.items }
     ensures answer { result ≡ is_some (ending id (find Res.cmp key.now body.old.aggregated.items)) }
-    ensures aggregated { body.new.aggregated.items ≡ aggregated_after Res.cmp key.now (ending id (find Res.cmp key.now body.old.aggregated.items)) body.old.aggregated.items }
-    ensures simple { body.new.simple.items ≡ simple_after Res.matching key.now (ending id (find Res.cmp key.now body.old.aggregated.items)) body.new.aggregated.items body.old.simple.items }
-    ensures sound { IsSound Res.cmp Res.matching Info.aggregating body.new.simple.items body.new.aggregated.items }
+    ensures aggregated { body.new.aggregated.items
+        ≡ aggregated_after Res.cmp key.now
+        (ending id (find Res.cmp key.now body.old.aggregated.items)) body.old.aggregated.items }
+    ensures simple { body.new.simple.items
+        ≡ simple_after Res.matching key.now
+        (ending id (find Res.cmp key.now body.old.aggregated.items)) body.new.aggregated.items
+        body.old.simple.items }
+    ensures sound { IsSound Res.cmp Res.matching Info.aggregating body.new.simple.items
+        body.new.aggregated.items }
 {
     match place_of(&body.aggregated, key) {
         Ok(at) => end_at(body, at, key, id),

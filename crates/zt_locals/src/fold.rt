@@ -46,13 +46,15 @@ fn fold_others<Id: Copy, Res: LocalResourceTrait, Info: LocalResourceInfoTrait<R
     place: usize,
 ) -> Option<Info>
     requires { place < length rows.now }
-    ensures { result ≡ fold_from Res.matching Info.aggregating into.now None (remove rows.now place) }
+    ensures { result ≡ fold_from Res.matching Info.aggregating into.now None
+        (remove rows.now place) }
 {
     let front = fold_onto(into, None, &rows[..place]);
     fold_onto(into, front, &rows[place + 1..])
 }
 
-/// The info of an aggregated row after the simple row under a key, at the place `gone`, went, and one with the info `come` came.
+/// The info of an aggregated row after the simple row under a key, at the place `gone`, went, and
+/// one with the info `come` came.
 fn find_info_after<Id: Copy, Res: LocalResourceTrait, Info: LocalResourceInfoTrait<Res>>(
     row: &(Res, AggregatedRow<Id, Info>),
     simple: &[(Res, SimpleRow<Id, Info>)],
@@ -61,7 +63,8 @@ fn find_info_after<Id: Copy, Res: LocalResourceTrait, Info: LocalResourceInfoTra
     come: Option<Info>,
 ) -> Option<Info>
     requires { ForSome gone (λ place. place < length simple.now) }
-    ensures { result ≡ info_after Res.matching Info.aggregating simple.now gone key.now come row.now }
+    ensures { result ≡ info_after Res.matching Info.aggregating simple.now gone key.now come
+        row.now }
 {
     if !row.0.matches(key) {
         return row.1.info;
@@ -86,7 +89,8 @@ pub(crate) fn infos_after<Id: Copy, Res: LocalResourceTrait, Info: LocalResource
     come: Option<Info>,
 ) -> Result<Vec<Option<Info>>, Memory>
     requires { ForSome gone (λ place. place < length simple.now) }
-    ensures { IfOk result (λ infos. infos.items ≡ map (info_after Res.matching Info.aggregating simple.now gone key.now come) rows.now) }
+    ensures { IfOk result (λ infos. infos.items
+        ≡ map (info_after Res.matching Info.aggregating simple.now gone key.now come) rows.now) }
 {
     let mut infos = Vec::new(alloc);
     for row in rows {

@@ -1,13 +1,16 @@
 // Sets of interests.
-ghost use Rattle.std.specs.Prelude.{◌≡◌, ◌+◌, ◌<◌, ◌≤◌, [], not, length, vec_len, vec_capacity, OnOk, OnErr};
-ghost use Rattle.zt_locals.specs.Interests.{has_none, has_interest, is_only, joined, with_interest, without_interest};
+ghost use Rattle.std.specs.Prelude.{◌≡◌, ◌+◌, ◌<◌, ◌≤◌, [], not, length, vec_len, vec_capacity};
+ghost use Rattle.std.specs.Prelude.{OnOk, OnErr};
+ghost use Rattle.zt_locals.specs.Interests.{has_none, has_interest, is_only, joined, with_interest};
+ghost use Rattle.zt_locals.specs.Interests.{without_interest};
 
 use std::alloc::Global;
 use std::marker::Model;
 use zt_keys::Memory;
 use zt_protocol::InterestId;
 
-/// The ids of interests, each once, in the order in which they came. Contracts see them as that list.
+/// The ids of interests, each once, in the order in which they came. Contracts see them as that
+/// list.
 #[derive(Drop)]
 pub(crate) struct InterestSet {
     ids: Vec<InterestId>,

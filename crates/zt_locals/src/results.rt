@@ -1,6 +1,8 @@
 // What a call tells of the rows.
-ghost use Rattle.std.specs.Prelude.{◌≡◌, ◌<◌, ◌≤◌, ◌++◌, length, map, insert, vec_len, vec_capacity, IsSome, OnOk, IfOk};
-ghost use Rattle.zt_locals.specs.Results.{has_changed, insert_result, remove_result, beside, placed, with_told, with_untold};
+ghost use Rattle.std.specs.Prelude.{◌≡◌, ◌<◌, ◌≤◌, ◌++◌, length, map, insert, vec_len};
+ghost use Rattle.std.specs.Prelude.{vec_capacity, IsSome, OnOk, IfOk};
+ghost use Rattle.zt_locals.specs.Results.{has_changed, insert_result, remove_result, beside};
+ghost use Rattle.zt_locals.specs.Results.{placed, with_told, with_untold};
 
 use crate::rows::{AggregatedRow, LocalResourceInsertResult, LocalResourceRemoveResult};
 use crate::traits::{LocalResourceInfoTrait, LocalResourceTrait};
@@ -26,7 +28,8 @@ fn push_insert_change<Id: Copy, Res: LocalResourceTrait, Info: LocalResourceInfo
     row: &(Res, AggregatedRow<Id, Info>),
     after: Option<Info>,
 ) -> Result<(), Memory>
-    ensures { OnOk result (results.new.items ≡ results.old.items ++ insert_result Info.eq row.now after) }
+    ensures { OnOk result (results.new.items
+        ≡ results.old.items ++ insert_result Info.eq row.now after) }
 {
     if !is_changed(row.1.info, after) {
         return Ok(());
@@ -52,7 +55,8 @@ pub(crate) fn insert_changes<Id: Copy, Res: LocalResourceTrait, Info: LocalResou
     infos: &[Option<Info>],
 ) -> Result<Vec<LocalResourceInsertResult<Id, Res, Info>>, Memory>
     requires { length rows.now ≡ length infos.now }
-    ensures { IfOk result (λ results. results.items ≡ beside (insert_result Info.eq) rows.now infos.now) }
+    ensures { IfOk result (λ results. results.items
+        ≡ beside (insert_result Info.eq) rows.now infos.now) }
 {
     let mut results = Vec::new(alloc);
     for at in 0..rows.len() {
@@ -67,7 +71,8 @@ fn push_remove_change<Id: Copy, Res: LocalResourceTrait, Info: LocalResourceInfo
     row: &(Res, AggregatedRow<Id, Info>),
     after: Option<Info>,
 ) -> Result<(), Memory>
-    ensures { OnOk result (results.new.items ≡ results.old.items ++ remove_result Info.eq row.now after) }
+    ensures { OnOk result (results.new.items
+        ≡ results.old.items ++ remove_result Info.eq row.now after) }
 {
     if !is_changed(row.1.info, after) {
         return Ok(());
@@ -88,7 +93,8 @@ pub(crate) fn remove_changes<Id: Copy, Res: LocalResourceTrait, Info: LocalResou
     infos: &[Option<Info>],
 ) -> Result<Vec<LocalResourceRemoveResult<Id, Res, Info>>, Memory>
     requires { length rows.now ≡ length infos.now }
-    ensures { IfOk result (λ results. results.items ≡ beside (remove_result Info.eq) rows.now infos.now) }
+    ensures { IfOk result (λ results. results.items
+        ≡ beside (remove_result Info.eq) rows.now infos.now) }
 {
     let mut results = Vec::new(alloc);
     for at in 0..rows.len() {
@@ -102,7 +108,8 @@ fn place_of_told<Id, Res: Ord, Info>(
     one: &LocalResourceInsertResult<Id, Res, Info>,
 ) -> usize
     ensures bound { result ≤ length others.now }
-    ensures place { placed Res.cmp (λ told. told.resource) one.now others.now ≡ insert others.now result one.now }
+    ensures place { placed Res.cmp (λ told. told.resource) one.now others.now
+        ≡ insert others.now result one.now }
 {
     for (place, other) in others.iter().enumerate() {
         match other.resource.cmp(&one.resource) {
@@ -156,7 +163,8 @@ fn place_of_untold<Id, Res: Ord, Info>(
     one: &LocalResourceRemoveResult<Id, Res, Info>,
 ) -> usize
     ensures bound { result ≤ length others.now }
-    ensures place { placed Res.cmp (λ told. told.resource) one.now others.now ≡ insert others.now result one.now }
+    ensures place { placed Res.cmp (λ told. told.resource) one.now others.now
+        ≡ insert others.now result one.now }
 {
     for (place, other) in others.iter().enumerate() {
         match other.resource.cmp(&one.resource) {

@@ -9,8 +9,8 @@ pub struct SimpleRow<Id, Info> {
     pub(crate) interests: InterestSet,
 }
 
-/// An aggregated resource: its id, what it has of the simple resources that match it, and the interests that it answers. Its
-/// key stands beside it.
+/// An aggregated resource: its id, what it has of the simple resources that match it, and the
+/// interests that it answers. Its key stands beside it.
 #[derive(Drop)]
 pub struct AggregatedRow<Id, Info> {
     pub(crate) id: Id,

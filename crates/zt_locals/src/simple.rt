@@ -1,11 +1,15 @@
 // Changes of the simple rows, and of the infos of the aggregated ones with them.
-ghost use Rattle.std.specs.Prelude.{◌≡◌, ◌<◌, ◌≤◌, [], ◌==◌, length, map, insert, remove, Some, None, Option, if◌then◌else◌, slice_index_or, slice_set, vec_len, vec_capacity, IsSome, IsTrue, IfOk, OnOk, OnErr, MatchOption};
+ghost use Rattle.std.specs.Prelude.{◌≡◌, ◌<◌, ◌≤◌, [], ◌==◌, length, map, insert, remove, Some};
+ghost use Rattle.std.specs.Prelude.{None, Option, if◌then◌else◌, slice_index_or, slice_set};
+ghost use Rattle.std.specs.Prelude.{vec_len, vec_capacity, IsSome, IsTrue, IfOk, OnOk, OnErr};
+ghost use Rattle.std.specs.Prelude.{MatchOption};
 ghost use Rattle.std.specs.Option.{ForNone, option_map};
 ghost use Rattle.std.specs.FinMap.Entries.{find, is_sorted};
 ghost use Rattle.zt_locals.specs.Folding.{info_after, with_infos};
 ghost use Rattle.zt_locals.specs.Interests.{has_none, joined};
 ghost use Rattle.zt_locals.specs.Resources.{is_told, is_untold, simple_row};
-ghost use Rattle.zt_locals.specs.Results.{insert_result, remove_result, beside, with_told, with_untold};
+ghost use Rattle.zt_locals.specs.Results.{insert_result, remove_result, beside, with_told};
+ghost use Rattle.zt_locals.specs.Results.{with_untold};
 ghost use Rattle.zt_locals.specs.declared.rows.SimpleRow.{SimpleRow};
 
 use crate::fold::{infos_after, set_infos};
@@ -36,11 +40,18 @@ fn plan_new<Id: Copy, Res: LocalResourceTrait, Info: LocalResourceInfoTrait<Res>
     info: Info,
     interests: &[InterestId],
 ) -> Result<Planned<Id, Res, Info>, Memory>
-    ensures infos { IfOk result (λ plan. plan.infos.items ≡ map (info_after Res.matching Info.aggregating body.now.simple.items None key.now (Some info)) body.now.aggregated.items) }
-    ensures results { IfOk result (λ plan. plan.results.items ≡ beside (insert_result Info.eq) body.now.aggregated.items plan.infos.items) }
+    ensures infos { IfOk result
+        (λ plan. plan.infos.items
+        ≡ map (info_after Res.matching Info.aggregating body.now.simple.items None key.now
+        (Some info)) body.now.aggregated.items) }
+    ensures results { IfOk result
+        (λ plan. plan.results.items
+        ≡ beside (insert_result Info.eq) body.now.aggregated.items plan.infos.items) }
     ensures interests { IfOk result (λ plan. plan.interests ≡ joined [] interests.now) }
-    ensures told { IfOk result (λ plan. plan.told ≡ (if has_none plan.interests then None else Some key.now)) }
-    ensures room { IfOk result (λ plan. IsSome plan.told → vec_len plan.results < vec_capacity plan.results) }
+    ensures told { IfOk result
+        (λ plan. plan.told ≡ (if has_none plan.interests then None else Some key.now)) }
+    ensures room { IfOk result
+        (λ plan. IsSome plan.told → vec_len plan.results < vec_capacity plan.results) }
 {
     let infos = infos_after(alloc, &body.aggregated, &body.simple, None, key, Some(info))?;
     let mut results = insert_changes(alloc, &body.aggregated, &infos)?;
@@ -108,11 +119,25 @@ pub(crate) fn insert_new<
 ) -> Result<(Id, Vec<LocalResourceInsertResult<Id, Res, Info>>), Memory>
     requires in_order { IsTrue (is_sorted Res.cmp body.old.aggregated.items) }
     requires within { place ≤ vec_len body.old.simple }
-    requires callable { ForNone (option_map (λ row. row.id) (find Res.cmp key body.old.aggregated.items)) (F.pre f_id) }
-    ensures id { IfOk result (λ r. MatchOption (option_map (λ row. row.id) (find Res.cmp key body.old.aggregated.items)) (F.post f_id r.0) (λ id. r.0 ≡ id)) }
-    ensures simple { IfOk result (λ r. body.new.simple.items ≡ insert body.old.simple.items place (key, simple_row r.0 info (joined [] interests.now))) }
-    ensures aggregated { OnOk result (body.new.aggregated.items ≡ with_infos body.old.aggregated.items (map (info_after Res.matching Info.aggregating body.old.simple.items None key (Some info)) body.old.aggregated.items)) }
-    ensures results { IfOk result (λ r. r.1.items ≡ with_told Res.cmp r.0 info (if has_none (joined [] interests.now) then None else Some key) (beside (insert_result Info.eq) body.old.aggregated.items (map (info_after Res.matching Info.aggregating body.old.simple.items None key (Some info)) body.old.aggregated.items))) }
+    requires callable { ForNone
+        (option_map (λ row. row.id) (find Res.cmp key body.old.aggregated.items)) (F.pre f_id) }
+    ensures id { IfOk result (λ r. MatchOption
+        (option_map (λ row. row.id) (find Res.cmp key body.old.aggregated.items)) (F.post f_id r.0)
+        (λ id. r.0 ≡ id)) }
+    ensures simple { IfOk result
+        (λ r. body.new.simple.items
+        ≡ insert body.old.simple.items place (key, simple_row r.0 info (joined [] interests.now))) }
+    ensures aggregated { OnOk result
+        (body.new.aggregated.items
+        ≡ with_infos body.old.aggregated.items
+        (map (info_after Res.matching Info.aggregating body.old.simple.items None key (Some info))
+        body.old.aggregated.items)) }
+    ensures results { IfOk result
+        (λ r. r.1.items ≡ with_told Res.cmp r.0 info
+        (if has_none (joined [] interests.now) then None else Some key)
+        (beside (insert_result Info.eq) body.old.aggregated.items
+        (map (info_after Res.matching Info.aggregating body.old.simple.items None key (Some info))
+        body.old.aggregated.items))) }
     ensures err_simple { OnErr result (body.new.simple.items ≡ body.old.simple.items) }
     ensures err_aggregated { OnErr result (body.new.aggregated.items ≡ body.old.aggregated.items) }
 {
@@ -137,7 +162,8 @@ pub(crate) fn insert_new<
     Ok((id, results))
 }
 
-/// The infos of the aggregated rows and what is told, where a simple row takes another info and more interests.
+/// The infos of the aggregated rows and what is told, where a simple row takes another info and
+/// more interests.
 fn plan_known<Id: Copy, Res: LocalResourceTrait, Info: LocalResourceInfoTrait<Res>>(
     alloc: Global,
     body: &Body<Id, Res, Info>,
@@ -153,8 +179,15 @@ fn plan_known<Id: Copy, Res: LocalResourceTrait, Info: LocalResourceInfoTrait<Re
     Memory,
 >
     requires { place < length body.now.simple.items }
-    ensures infos { IfOk result (λ r. r.0.items ≡ map (info_after Res.matching Info.aggregating body.now.simple.items (Some place) key (Some info)) body.now.aggregated.items) }
-    ensures results { IfOk result (λ r. (row : Res × SimpleRow Id Info) → row ≡ slice_index_or body.now.simple.items place row → r.1.items ≡ with_told Res.cmp row.1.id info (is_told Info.eq key (Some row.1) info (joined row.1.interests interests.now)) (beside (insert_result Info.eq) body.now.aggregated.items r.0.items)) }
+    ensures infos { IfOk result
+        (λ r. r.0.items ≡ map
+        (info_after Res.matching Info.aggregating body.now.simple.items (Some place) key
+        (Some info)) body.now.aggregated.items) }
+    ensures results { IfOk result
+        (λ r. (row : Res × SimpleRow Id Info) → row ≡ slice_index_or body.now.simple.items place row
+        → r.1.items ≡ with_told Res.cmp row.1.id info
+        (is_told Info.eq key (Some row.1) info (joined row.1.interests interests.now))
+        (beside (insert_result Info.eq) body.now.aggregated.items r.0.items)) }
 {
     let infos = infos_after(
         alloc,
@@ -178,7 +211,8 @@ fn told_again<Id: Copy, Res: LocalResourceTrait, Info: LocalResourceInfoTrait<Re
     info: Info,
     interests: &[InterestId],
 ) -> Option<Res>
-    ensures { result ≡ is_told Info.eq key (Some row.now) info (joined row.now.interests interests.now) }
+    ensures { result ≡ is_told Info.eq key (Some row.now) info
+        (joined row.now.interests interests.now) }
 {
     if !row.interests.has_some_with(interests) || row.info == info {
         return None;
@@ -186,7 +220,8 @@ fn told_again<Id: Copy, Res: LocalResourceTrait, Info: LocalResourceInfoTrait<Re
     Some(key)
 }
 
-/// Gives the simple row at a place another info and more interests. After want of memory it is what it was.
+/// Gives the simple row at a place another info and more interests. After want of memory it is what
+/// it was.
 fn update_row<Id: Copy, Res: LocalResourceTrait, Info: LocalResourceInfoTrait<Res>>(
     rows: &mut Vec<(Res, SimpleRow<Id, Info>)>,
     place: usize,
@@ -194,8 +229,12 @@ fn update_row<Id: Copy, Res: LocalResourceTrait, Info: LocalResourceInfoTrait<Re
     interests: &[InterestId],
 ) -> Result<Id, Memory>
     requires { place < vec_len rows.old }
-    ensures ok { IfOk result (λ id. (row : Res × SimpleRow Id Info) → row ≡ slice_index_or rows.old.items place row → rows.new.items ≡ slice_set rows.old.items place (row.0, simple_row id info (joined row.1.interests interests.now))) }
-    ensures id { IfOk result (λ id. (row : Res × SimpleRow Id Info) → row ≡ slice_index_or rows.old.items place row → id ≡ row.1.id) }
+    ensures ok { IfOk result (λ id. (row : Res × SimpleRow Id Info)
+        → row ≡ slice_index_or rows.old.items place row
+        → rows.new.items ≡ slice_set rows.old.items place
+        (row.0, simple_row id info (joined row.1.interests interests.now))) }
+    ensures id { IfOk result (λ id. (row : Res × SimpleRow Id Info)
+        → row ≡ slice_index_or rows.old.items place row → id ≡ row.1.id) }
     ensures err { OnErr result (rows.new.items ≡ rows.old.items) }
 {
     let row = &mut rows[place];
@@ -213,10 +252,25 @@ pub(crate) fn insert_known<Id: Copy, Res: LocalResourceTrait, Info: LocalResourc
     interests: &[InterestId],
 ) -> Result<(Id, Vec<LocalResourceInsertResult<Id, Res, Info>>), Memory>
     requires { place < vec_len body.old.simple }
-    ensures id { IfOk result (λ r. (row : Res × SimpleRow Id Info) → row ≡ slice_index_or body.old.simple.items place row → r.0 ≡ row.1.id) }
-    ensures simple { IfOk result (λ r. (row : Res × SimpleRow Id Info) → row ≡ slice_index_or body.old.simple.items place row → body.new.simple.items ≡ slice_set body.old.simple.items place (row.0, simple_row r.0 info (joined row.1.interests interests.now))) }
-    ensures aggregated { OnOk result (body.new.aggregated.items ≡ with_infos body.old.aggregated.items (map (info_after Res.matching Info.aggregating body.old.simple.items (Some place) key (Some info)) body.old.aggregated.items)) }
-    ensures results { IfOk result (λ r. (row : Res × SimpleRow Id Info) → row ≡ slice_index_or body.old.simple.items place row → r.1.items ≡ with_told Res.cmp row.1.id info (is_told Info.eq key (Some row.1) info (joined row.1.interests interests.now)) (beside (insert_result Info.eq) body.old.aggregated.items (map (info_after Res.matching Info.aggregating body.old.simple.items (Some place) key (Some info)) body.old.aggregated.items))) }
+    ensures id { IfOk result (λ r. (row : Res × SimpleRow Id Info)
+        → row ≡ slice_index_or body.old.simple.items place row → r.0 ≡ row.1.id) }
+    ensures simple { IfOk result
+        (λ r. (row : Res × SimpleRow Id Info) → row ≡ slice_index_or body.old.simple.items place row
+        → body.new.simple.items
+        ≡ slice_set body.old.simple.items place
+        (row.0, simple_row r.0 info (joined row.1.interests interests.now))) }
+    ensures aggregated { OnOk result
+        (body.new.aggregated.items
+        ≡ with_infos body.old.aggregated.items
+        (map (info_after Res.matching Info.aggregating body.old.simple.items (Some place) key
+        (Some info)) body.old.aggregated.items)) }
+    ensures results { IfOk result
+        (λ r. (row : Res × SimpleRow Id Info) → row ≡ slice_index_or body.old.simple.items place row
+        → r.1.items ≡ with_told Res.cmp row.1.id info
+        (is_told Info.eq key (Some row.1) info (joined row.1.interests interests.now))
+        (beside (insert_result Info.eq) body.old.aggregated.items
+        (map (info_after Res.matching Info.aggregating body.old.simple.items (Some place) key
+        (Some info)) body.old.aggregated.items))) }
     ensures err_simple { OnErr result (body.new.simple.items ≡ body.old.simple.items) }
     ensures err_aggregated { OnErr result (body.new.aggregated.items ≡ body.old.aggregated.items) }
 {
@@ -241,8 +295,14 @@ fn plan_removal<Id: Copy, Res: LocalResourceTrait, Info: LocalResourceInfoTrait<
     Memory,
 >
     requires { place < length body.now.simple.items }
-    ensures infos { IfOk result (λ r. r.0.items ≡ map (info_after Res.matching Info.aggregating body.now.simple.items (Some place) key.now None) body.now.aggregated.items) }
-    ensures results { IfOk result (λ r. (row : Res × SimpleRow Id Info) → row ≡ slice_index_or body.now.simple.items place row → r.1.items ≡ with_untold Res.cmp row.1.id (is_untold key.now row.1.interests) (beside (remove_result Info.eq) body.now.aggregated.items r.0.items)) }
+    ensures infos { IfOk result
+        (λ r. r.0.items ≡ map
+        (info_after Res.matching Info.aggregating body.now.simple.items (Some place) key.now None)
+        body.now.aggregated.items) }
+    ensures results { IfOk result
+        (λ r. (row : Res × SimpleRow Id Info) → row ≡ slice_index_or body.now.simple.items place row
+        → r.1.items ≡ with_untold Res.cmp row.1.id (is_untold key.now row.1.interests)
+        (beside (remove_result Info.eq) body.now.aggregated.items r.0.items)) }
 {
     let infos = infos_after(
         alloc,
@@ -282,8 +342,18 @@ pub(crate) fn remove_known<Id: Copy, Res: LocalResourceTrait, Info: LocalResourc
 ) -> Result<Vec<LocalResourceRemoveResult<Id, Res, Info>>, Memory>
     requires { place < vec_len body.old.simple }
     ensures simple { OnOk result (body.new.simple.items ≡ remove body.old.simple.items place) }
-    ensures aggregated { OnOk result (body.new.aggregated.items ≡ with_infos body.old.aggregated.items (map (info_after Res.matching Info.aggregating body.old.simple.items (Some place) key.now None) body.old.aggregated.items)) }
-    ensures results { IfOk result (λ results. (row : Res × SimpleRow Id Info) → row ≡ slice_index_or body.old.simple.items place row → results.items ≡ with_untold Res.cmp row.1.id (is_untold key.now row.1.interests) (beside (remove_result Info.eq) body.old.aggregated.items (map (info_after Res.matching Info.aggregating body.old.simple.items (Some place) key.now None) body.old.aggregated.items))) }
+    ensures aggregated { OnOk result
+        (body.new.aggregated.items
+        ≡ with_infos body.old.aggregated.items
+        (map (info_after Res.matching Info.aggregating body.old.simple.items
+        (Some place) key.now None) body.old.aggregated.items)) }
+    ensures results { IfOk result
+        (λ results. (row : Res × SimpleRow Id Info)
+        → row ≡ slice_index_or body.old.simple.items place row
+        → results.items ≡ with_untold Res.cmp row.1.id (is_untold key.now row.1.interests)
+        (beside (remove_result Info.eq) body.old.aggregated.items
+        (map (info_after Res.matching Info.aggregating body.old.simple.items
+        (Some place) key.now None) body.old.aggregated.items))) }
     ensures err_simple { OnErr result (body.new.simple.items ≡ body.old.simple.items) }
     ensures err_aggregated { OnErr result (body.new.aggregated.items ≡ body.old.aggregated.items) }
 {

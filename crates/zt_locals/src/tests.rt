@@ -1,5 +1,5 @@
-// What no clause says: that the calls succeed where there is memory, two worked examples over key expressions, and that a failed
-// call draws no id.
+// What no clause says: that the calls succeed where there is memory, two worked examples over key
+// expressions, and that a failed call draws no id.
 ghost use Rattle.std.specs.Prelude.{◌≡◌};
 ghost use Rattle.zt_locals.specs.Counts.{added, added_laws};
 

@@ -12,7 +12,8 @@ pub trait LocalResourceTrait: Ord + Eq + Hash + Drop + Sized {
     /// Whether two resources match.
     ghost matching: { Self → Self → Bool };
 
-    /// Whether the two resources match: a relation of the two alone, reflexive and symmetric. Takes no memory.
+    /// Whether the two resources match: a relation of the two alone, reflexive and symmetric. Takes
+    /// no memory.
     fn matches(&self, other: &Self) -> bool
         ensures { result ≡ matching self.now other.now };
 
@@ -43,7 +44,8 @@ pub trait LocalResourceInfoTrait<Res: LocalResourceTrait>: Eq + Copy {
     /// The info of a resource that had one, or none, and takes in that of another.
     ghost aggregating: { Option Self → Res → Self → Res → Self };
 
-    /// The info of `self_res`, which had `self_val`, with that of `other_res` taken in. Takes no memory.
+    /// The info of `self_res`, which had `self_val`, with that of `other_res` taken in. Takes no
+    /// memory.
     fn aggregate(self_val: Option<Self>, self_res: &Res, other_val: &Self, other_res: &Res) -> Self
         ensures { result ≡ aggregating self_val self_res.now other_val.now other_res.now };
 

@@ -1,2 +1,3 @@
-//! What a gateway is and says, as definitions alone: the meaning that the contracts of the other crates cite.
+//! What a gateway is and says, as definitions alone: the meaning that the contracts of the other
+//! crates cite.
 #![tactic(auto)]

@@ -13,9 +13,9 @@ ghost use Rattle.zt_laws.specs.Sound.{HasFirstIds};
 
 use zt_keys::Key;
 
-/// In each turn of the machine's transcript what is ended by an id
-/// stands under it, message by message: a pair that a face keeps where it is undeclared, an interest
-/// upstream where its final is printed. And a token that answers nobody is told under the next id.
+/// In each turn of the machine's transcript what is ended by an id stands under it, message by
+/// message: a pair that a face keeps where it is undeclared, an interest upstream where its final
+/// is printed. And a token that answers nobody is told under the next id.
 pub fn turns_end_what_stands<K: Key>()
     ensures { (lines : List (PlainLine K)) (s : Fabric K) → Each HasFirstIds lines
         → FabricIsInOrder K.cmp K.matching s

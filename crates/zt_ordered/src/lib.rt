@@ -1,7 +1,7 @@
 //! Lists of rows in the order of their keys, and where a key stands there.
 //!
-//! Definitions and laws stand in `specs/`: `Rows` (words), `Found` and `Placing` (what rows in order find, and what an edit at a
-//! place does).
+//! Definitions and laws stand in `specs/`: `Rows` (words), `Found` and `Placing` (what rows in
+//! order find, and what an edit at a place does).
 #![tactic(auto)]
 
 mod search;

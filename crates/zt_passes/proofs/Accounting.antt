@@ -1,18 +1,17 @@
 -- Passes that are counted, handed in and accounted for.
-use Rattle.std.proofs.Common.{◌≡◌, ℕ, zero, suc, ◌+◌, ◌<◌, ◌≤◌, ◌==◌, Bool, true, false, List, [], ◌∷◌, ◌++◌, map, length, get_or, set, Some, None, Option, slice_get, refl, sym, ap, ◌∙◌, subst, arith, length-append}
+use Rattle.std.proofs.Common.{◌≡◌, ℕ, suc, ◌<◌, ◌≤◌, List, [], ◌∷◌, ◌++◌, map, length, get_or, set, Some, Option, slice_get, refl, sym, ap, ◌∙◌, subst, arith}
 use Rattle.std.specs.Prelude.{option_to_list}
-use Rattle.std.specs.Option.{unwrap_or}
 use Rattle.std.specs.List.{sum_by, AllByRecursion, AllZip}
 use Rattle.std.proofs.lemmas.List.Sums.{sum_by-cons}
 use Rattle.zt_passes.specs.declared.part.Part.{Part}
-use Rattle.zt_passes.specs.Owned.{below, with_owned, owned_from, owned}
+use Rattle.zt_passes.specs.Owned.{below, owned}
 use Rattle.zt_passes.specs.Plays.{Sat}
 use Rattle.zt_passes.specs.Rule.{Fits}
 use Rattle.zt_passes.specs.Passes.{Standing, mine, part_of, pass_counted}
 use Rattle.zt_passes.specs.Account.{IsCounted, IsComplete, Accounts, AccountsForAll}
 use Rattle.zt_passes.specs.Handed.{Handed, AreAllHanded, IsLeft}
 use Rattle.zt_passes.proofs.ViewSums.{AllByRecursion-map}
-use Rattle.zt_passes.proofs.Zipped.{AllZip-set, AllZip-length, AllZip-left}
+use Rattle.zt_passes.proofs.Zipped.{AllZip-set, AllZip-length}
 use Rattle.zt_passes.proofs.AllHanded.{owned-lengths}
 use Rattle.zt_passes.proofs.OwnedLists.{owned-at}
 

@@ -1,5 +1,5 @@
 -- Lists of which one item changes.
-use Rattle.std.proofs.Common.{◌≡◌, ℕ, zero, suc, ◌+◌, ◌<◌, ◌≤◌, List, [], ◌∷◌, ◌++◌, map, length, take, get_or, set, refl, sym, ap, ◌∙◌, arith, add-one}
+use Rattle.std.proofs.Common.{◌≡◌, ℕ, zero, suc, ◌<◌, ◌≤◌, List, [], ◌∷◌, map, length, take, get_or, set, refl, ap, arith}
 use Rattle.std.specs.List.{AllByRecursion, AllZip}
 
 module _ {A : Type 0} (R : A → A → Type 0) where

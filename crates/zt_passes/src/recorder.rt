@@ -1,5 +1,6 @@
 // The trait of the values that are shared.
-ghost use Rattle.std.specs.Prelude.{◌≡◌, ℕ, List, [], ◌∷◌, ◌++◌, ◌<◌, ◌≤◌, ◌^◌, length, slice_get, Some, IfOk, IfErr, MatchOption};
+ghost use Rattle.std.specs.Prelude.{◌≡◌, ℕ, List, [], ◌∷◌, ◌++◌, ◌<◌, ◌≤◌, ◌^◌, length, slice_get};
+ghost use Rattle.std.specs.Prelude.{Some, IfOk, IfErr, MatchOption};
 
 use std::alloc::{AllocError, Global};
 
@@ -52,12 +53,12 @@ pub trait Recorder: Drop + Sized {
             × (author entry ≡ pass)
             × is_entry_of call entry
             × tells (length (journal self.old)) entry receipt
-            × is_replay (state self.new) (journal self.new)
             × (length (journal self.new) < 2 ^ 64)) }
-        ensures err { IfErr result (λ _. journal self.new ≡ journal self.old) };
+        ensures err { IfErr result (λ _. journal self.new ≡ journal self.old) }
+        ensures replay { is_replay (state self.new) (journal self.new) };
 
-    /// A copy of the entry at the place, or `None` where the journal is no longer. The only error is
-    /// want of memory.
+    /// A copy of the entry at the place, or `None` where the journal is no longer. The only error
+    /// is want of memory.
     fn entry(&self, alloc: Global, place: u64) -> Result<Option<Self::Entry>, AllocError>
         ensures found { IfOk result (λ found. MatchOption found
             (length (journal self.now) ≤ place)

@@ -1,6 +1,7 @@
 // The shared value.
 ghost use Rattle.std.specs.Prelude.{◌≡◌, ℕ, ◌<◌, ◌≤◌, [], length, IfOk, IfErr};
-ghost use Rattle.zt_passes.specs.Passes.{Standing, first_pass, made_pass, pass_drawn, pass_looked, pass_counted, Finds, Adds};
+ghost use Rattle.zt_passes.specs.Passes.{Standing, first_pass, made_pass, pass_drawn, pass_looked};
+ghost use Rattle.zt_passes.specs.Passes.{pass_counted, Finds, Adds};
 ghost use Rattle.zt_passes.specs.Copies.{Copies};
 
 use crate::part::View;
@@ -66,7 +67,7 @@ impl<J: Recorder> SharedRecorder<J> {
 
     /// Waits for the lock and makes the call. The receipt tells of the entry that was added, whose
     /// place is at least what the pass had seen. The only error is want of memory: then nothing was
-    /// added, and the call is dropped.
+    /// added, and the call is dropped. Either way the pass then has the journal.
     pub fn call<R: Wait>(
         &self,
         rt: &R,
@@ -82,6 +83,8 @@ impl<J: Recorder> SharedRecorder<J> {
             × J.is_replay (J.state pass.new.opening) (J.journal pass.new.found)) }
         ensures err { IfErr result (λ _. Finds J.journal J.author pass.old pass.new.found
             × (pass.new ≡ record pass.old { found = pass.new.found })) }
+        ensures replay { IfErr result (λ _.
+            J.is_replay (J.state pass.new.opening) (J.journal pass.new.found)) }
     {
         let shared = &self.table.shared;
         match steps::call(rt, shared, &mut pass.seat, pass.number, call) {

@@ -1,10 +1,13 @@
 // What is done with a seat at the table. `p` is the seat's part as the call begins.
-ghost use Rattle.std.specs.Prelude.{◌≡◌, ℕ, ◌+◌, ◌<◌, ◌≤◌, ◌^◌, [], ◌∷◌, ◌++◌, true, false, length, IfOk, IfErr};
-ghost use Rattle.zt_passes.specs.Plays.{alone, holding, part_locked, part_entered, part_released, part_looked, part_counted, Continues};
+ghost use Rattle.std.specs.Prelude.{◌≡◌, ℕ, ◌+◌, ◌<◌, ◌≤◌, ◌^◌, [], ◌∷◌, ◌++◌, true, false, length};
+ghost use Rattle.std.specs.Prelude.{IfOk, IfErr};
+ghost use Rattle.zt_passes.specs.Plays.{alone, holding, part_locked, part_entered, part_released};
+ghost use Rattle.zt_passes.specs.Plays.{part_looked, part_counted, Continues};
 ghost use Rattle.zt_passes.specs.Drawing.{Draws};
 ghost use Rattle.zt_passes.specs.Copies.{Copies};
 ghost use Rattle.zt_passes.specs.Turns.{Entered, WasIn, HasRead};
-ghost use Rattle.zt_passes.specs.Seats.{IsSeatOf, IsFree, HasValue, IsAhead, MayRelease, IsSameSeat};
+ghost use Rattle.zt_passes.specs.Seats.{IsSeatOf, IsFree, HasValue, IsAhead, MayRelease};
+ghost use Rattle.zt_passes.specs.Seats.{IsSameSeat};
 
 use crate::part::{Part, View};
 use crate::plays::{Count, Draw, Halves, Look, Publish, Release, Take};
@@ -57,7 +60,7 @@ fn enter<J: Recorder>(
         × J.is_replay (J.state y) (J.journal y) × (length (J.journal y) < 2 ^ 64))) }
     ensures err { IfErr result (λ _. (p : Part J) (x : J) → seat.old.me ≡ holding p x
         → (y : J) × (seat.new.me ≡ holding p y) × (J.state y ≡ J.state x)
-        × (J.journal y ≡ J.journal x)) }
+        × (J.journal y ≡ J.journal x) × J.is_replay (J.state y) (J.journal y)) }
 {
     let value = seat.slot_mut(top, 0);
     value.enter(number, call)
@@ -129,7 +132,8 @@ pub(crate) fn call<J: Recorder, R: Wait>(
         × (J.author entry ≡ number) × J.is_entry_of call entry × J.tells made.0 entry made.1
         × J.is_replay (J.state turn.left) (J.journal turn.left)) }
     ensures err { IfErr result (λ _. (p : Part J) → seat.old.me ≡ alone p
-        → WasIn J.journal J.author J.state p seat.new.me) }
+        → (turn : WasIn J.journal J.author J.state p seat.new.me)
+        × J.is_replay (J.state turn.taken) (J.journal turn.taken)) }
 {
     lock(rt, top, seat);
     match enter(top, seat, number, call) {

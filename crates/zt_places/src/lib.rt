@@ -1,5 +1,5 @@
-//! The places of faces and the links between them: the number of a face in scripts, and the open link
-//! that a face ends, are looked up.
+//! The places of faces and the links between them: the number of a face in scripts, and the open
+//! link that a face ends, are looked up.
 #![tactic(auto)]
 
 mod links;

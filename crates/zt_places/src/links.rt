@@ -1,5 +1,6 @@
 // Links between faces, and the open link that a face ends.
-ghost use Rattle.std.specs.Prelude.{◌≡◌, ◌+◌, ◌-◌, ◌<◌, ◌++◌, ◌&&◌, [], ◌∷◌, false, true, Some, length, nat_lt, take, OnErr, OnOk};
+ghost use Rattle.std.specs.Prelude.{◌≡◌, ◌+◌, ◌-◌, ◌<◌, ◌++◌, ◌&&◌, [], ◌∷◌, false, true, Some};
+ghost use Rattle.std.specs.Prelude.{length, nat_lt, take, OnErr, OnOk};
 ghost use Rattle.std.specs.Option.{option_copied};
 ghost use Rattle.zt_model.specs.Linking.{is_end_of};
 ghost use Rattle.zt_model.specs.Lists.{first_where};
@@ -91,8 +92,8 @@ fn shut_in(links: &mut Vec<LinkState>, at: usize)
     link.is_open = false;
 }
 
-/// Links, which are numbered from 1 in order of making. The faces of each are above those of the links
-/// before it, since they are made with it.
+/// Links, which are numbered from 1 in order of making. The faces of each are above those of the
+/// links before it, since they are made with it.
 #[derive(Drop)]
 pub struct Links {
     links: Vec<LinkState>,
@@ -127,7 +128,7 @@ impl Links {
         self.links.as_slice()
     }
 
-    /// The open link that a face ends. A look-up.
+    /// The open link that a face ends. A search by halves.
     pub fn find_open(&self, face: u32) -> Option<&LinkState>
         ensures { option_copied result
             ≡ first_where (λ link. link.is_open && is_end_of face link) self.now }
@@ -135,8 +136,8 @@ impl Links {
         find_in(&self.links, face)
     }
 
-    /// An open link between two faces, which are above those of all links before it, is put behind these. The
-    /// only error is want of memory, and then nothing is changed.
+    /// An open link between two faces, which are above those of all links before it, is put behind
+    /// these. The only error is want of memory, and then nothing is changed.
     pub fn push(&mut self, one: u32, two: u32) -> Result<(), Memory>
         requires below { AreBelow one self.old }
         requires rising { one < two }

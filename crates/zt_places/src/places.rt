@@ -43,7 +43,8 @@ impl PlaceState {
 #[derive(Drop)]
 pub struct Places {
     places: Vec<PlaceState>,
-    // The number of each face, by its gateway and its number there. Of equal places the first counts.
+    // The number of each face, by its gateway and its number there. Of equal places the first
+    // counts.
     numbers: BTreeMap<(u32, u32), u32>,
 }
 
@@ -76,7 +77,8 @@ fn put_number(
     face: u32,
     number: u32,
 ) -> Result<(), Memory>
-    ensures ok { OnOk result (HasNumber gateway face number numbers.old.entries numbers.new.entries) }
+    ensures ok { OnOk result (HasNumber gateway face number numbers.old.entries
+        numbers.new.entries) }
     ensures err { OnErr result (numbers.new.entries ≡ numbers.old.entries) }
 {
     if numbers.contains_key(&(gateway, face)) {
@@ -168,8 +170,8 @@ impl Places {
         }
     }
 
-    /// A place is put behind the others. The only error is want of memory, and then nothing is changed;
-    /// that the place has no number counts as such.
+    /// A place is put behind the others. The only error is want of memory, and then nothing is
+    /// changed; that the place has no number counts as such.
     pub fn push(&mut self, gateway: u32, face: u32) -> Result<(), Memory>
         ensures ok { OnOk result (self.new
             ≡ self.old ++ record { gateway = gateway; face = face } ∷ []) }

@@ -11,7 +11,8 @@ pub struct Sent<K> {
     pub message: Message<K>,
 }
 
-/// What one line of a script came to: its messages in order of face, or its refusal, which changes nothing.
+/// What one line of a script came to: its messages in order of face, or its refusal, which changes
+/// nothing.
 #[derive(PartialEq, Eq, Debug, Drop)]
 pub struct Entry<K> {
     /// The messages, or why the line is refused.

@@ -5,8 +5,8 @@ use bitflags::{Flag, Flags, bitflag_items};
 
 /// When an interest is answered: once and at once, from now on, or both.
 ///
-/// In Zenoh's session interface a `get` asks `Current`, a subscriber `Future`, and a subscriber with
-/// history `CurrentFuture`.
+/// In Zenoh's session interface a `get` asks `Current`, a subscriber `Future`, and a subscriber
+/// with history `CurrentFuture`.
 #[derive(Clone, Copy, PartialEq, Eq, PartialOrd, Ord, Hash, Debug)]
 pub enum InterestMode {
     Current,
@@ -32,9 +32,9 @@ impl InterestMode {
 
 /// What an interest asks about, a set of five named bits.
 ///
-/// `TOKENS` asks for liveliness tokens, `SUBSCRIBERS` and `QUERYABLES` for those entities, and `AGGREGATE`
-/// for one declaration in place of many. `KEYEXPRS` is carried and asks for nothing here. `ALL` is the
-/// first four.
+/// `TOKENS` asks for liveliness tokens, `SUBSCRIBERS` and `QUERYABLES` for those entities, and
+/// `AGGREGATE` for one declaration in place of many. `KEYEXPRS` is carried and asks for nothing
+/// here. `ALL` is the first four.
 #[derive(Clone, Copy, PartialEq, Eq, PartialOrd, Ord, Hash, Debug)]
 pub struct InterestOptions(u8);
 
@@ -54,7 +54,8 @@ impl Flags for InterestOptions {
 
     ghost exact = { ⊤ };
 
-    ghost table = { (codes "KEYEXPRS", 1) ∷ (codes "SUBSCRIBERS", 2) ∷ (codes "QUERYABLES", 4) ∷ (codes "TOKENS", 8) ∷ (codes "AGGREGATE", 16) ∷ (codes "ALL", 15) ∷ [] };
+    ghost table = { (codes "KEYEXPRS", 1) ∷ (codes "SUBSCRIBERS", 2) ∷ (codes "QUERYABLES", 4)
+        ∷ (codes "TOKENS", 8) ∷ (codes "AGGREGATE", 16) ∷ (codes "ALL", 15) ∷ [] };
 
     ghost set_of = { λ options. options.0 };
 

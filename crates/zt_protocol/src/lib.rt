@@ -1,7 +1,9 @@
-//! The messages, calls, script lines and answers of the gateway: plain types that every other crate speaks of.
+//! The messages, calls, script lines and answers of the gateway: plain types that every other crate
+//! speaks of.
 //!
-//! They are what `zenoh-protocol` is to Zenoh, for liveliness alone: tokens, interests and the finals that
-//! close them, and the declarations of subscribers and queryables that answer an interest.
+//! They are what `zenoh-protocol` is to Zenoh, for liveliness alone: tokens, interests and the
+//! finals that close them, and the declarations of subscribers and queryables that answer an
+//! interest.
 #![tactic(auto)]
 
 mod calls;

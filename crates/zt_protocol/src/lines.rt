@@ -1,13 +1,13 @@
 use crate::{Call, TreeTable};
 use zt_region::{Admission, Bound, Region, SouthConf, WhatAmI, Zid};
 
-/// One line of a script. Gateways, links and faces are numbered from 1 in order of making. A face's first id, under
-/// which it is told its first token, is at least 1.
+/// One line of a script. Gateways, links and faces are numbered from 1 in order of making. A face's
+/// first id, under which it is told its first token, is at least 1.
 #[derive(PartialEq, Eq, Debug, Drop)]
 pub enum Line<K> {
-    /// Makes a gateway. `regions` are its south regions beside the local one, `south` says which region a link's
-    /// face is of, `timeout` how long an interest that was sent on may wait, `refuse` which regions' tokens others
-    /// aren't told.
+    /// Makes a gateway. `regions` are its south regions beside the local one, `south` says which
+    /// region a link's face is of, `timeout` how long an interest that was sent on may wait,
+    /// `refuse` which regions' tokens others aren't told.
     Gateway {
         mode: WhatAmI,
         zid: Zid,

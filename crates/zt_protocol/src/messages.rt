@@ -22,8 +22,8 @@ pub struct QueryableInfo {
 
 /// What a gateway sends to a face, and what a face says to a gateway.
 ///
-/// A declaration with an interest id answers that interest. Router regions name the router that a token
-/// comes from by `node_id`, elsewhere it is 0.
+/// A declaration with an interest id answers that interest. Router regions name the router that a
+/// token comes from by `node_id`, elsewhere it is 0.
 #[derive(PartialEq, Eq, Debug, Drop)]
 pub enum Message<K> {
     /// A token is alive; with the id 0, which is kept by nobody, in answer to what is there now.

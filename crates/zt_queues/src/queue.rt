@@ -1,5 +1,6 @@
 // What waits at one place.
-ghost use Rattle.std.specs.Prelude.{◌≡◌, ◌++◌, [], ◌∷◌, None, Some, OnErr, OnOk, option_map, take, length, ◌-◌, IfOk};
+ghost use Rattle.std.specs.Prelude.{◌≡◌, ◌++◌, [], ◌∷◌, None, Some, OnErr, OnOk, option_map, take};
+ghost use Rattle.std.specs.Prelude.{length, ◌-◌, IfOk};
 ghost use Rattle.std.specs.Option.{option_copied};
 ghost use Rattle.std.specs.Option.{option_and_then};
 ghost use Rattle.zt_model.specs.Lists.{first_of, rest_of};
@@ -10,7 +11,8 @@ use std::marker::Model;
 use zt_keys::{Key, Memory};
 use zt_protocol::Message;
 
-// What waits from a face for the other end of its link, oldest first; none where the face ends no open link.
+// What waits from a face for the other end of its link, oldest first; none where the face ends no
+// open link.
 #[derive(Drop)]
 pub(crate) struct Queue<K: Key> {
     messages: Option<VecDeque<Message<K>>>,
@@ -77,7 +79,8 @@ impl<K: Key> Queue<K> {
         Queue { messages: None }
     }
 
-    // A message waits behind the others. The only error is want of memory, and then nothing is changed.
+    // A message waits behind the others. The only error is want of memory, and then nothing is
+    // changed.
     pub(crate) fn add(&mut self, alloc: Global, message: &Message<K>) -> Result<(), Memory>
         ensures ok { OnOk result (self.new ≡ option_map (λ ms. ms ++ message.now ∷ []) self.old) }
         ensures err { OnErr result (self.new ≡ self.old) }

@@ -1,11 +1,13 @@
 // What waits at the places of faces.
-ghost use Rattle.std.specs.Prelude.{◌≡◌, ◌++◌, ◌+◌, ◌<◌, ◌⊎◌, [], ◌∷◌, Some, None, OnErr, OnOk, IfSome, IfNone, length, take, ◌-◌, if◌then◌else◌};
+ghost use Rattle.std.specs.Prelude.{◌≡◌, ◌++◌, ◌+◌, ◌<◌, ◌⊎◌, [], ◌∷◌, Some, None, OnErr, OnOk};
+ghost use Rattle.std.specs.Prelude.{IfSome, IfNone, length, take, ◌-◌, if◌then◌else◌};
 ghost use Rattle.std.specs.Option.{option_copied};
 ghost use Rattle.zt_model.specs.Lists.{without_id};
 ghost use Rattle.std.specs.Prelude.{List, Option};
 ghost use Rattle.zt_protocol.specs.declared.entries.Sent.{Sent as SentValue};
 ghost use Rattle.zt_protocol.specs.declared.messages.Message.{Message as MessageValue};
-ghost use Rattle.zt_queues.specs.Waiting.{Queued, first_waiting, grown_from, waiting_from, with_printed, without_first, without_taken};
+ghost use Rattle.zt_queues.specs.Waiting.{Queued, first_waiting, grown_from, waiting_from};
+ghost use Rattle.zt_queues.specs.Waiting.{with_printed, without_first, without_taken};
 
 use crate::queue::Queue;
 use std::alloc::Global;
@@ -13,8 +15,8 @@ use std::marker::Model;
 use zt_keys::{Key, Memory};
 use zt_protocol::{Message, Sent};
 
-/// What waits at the places of faces, which are numbered from 1: a place that ends an open link has a queue
-/// of messages for the other end, oldest first.
+/// What waits at the places of faces, which are numbered from 1: a place that ends an open link has
+/// a queue of messages for the other end, oldest first.
 #[derive(Drop)]
 pub struct Queues<K: Key> {
     queues: Vec<Queue<K>>,
@@ -99,7 +101,8 @@ fn add_all<K: Key>(
 
 // The oldest message at a place goes.
 fn drop_first<K: Key>(queues: &mut Vec<Queue<K>>, face: u32)
-    ensures waits { waiting_from 1 queues.new.items ≡ without_first face (waiting_from 1 queues.old.items) }
+    ensures waits { waiting_from 1 queues.new.items
+        ≡ without_first face (waiting_from 1 queues.old.items) }
     ensures places { length queues.new.items ≡ length queues.old.items }
 {
     if let Some(at) = index_of(queues.len(), face) {
@@ -110,7 +113,8 @@ fn drop_first<K: Key>(queues: &mut Vec<Queue<K>>, face: u32)
 
 // A place ends no link any more.
 fn close<K: Key>(queues: &mut Vec<Queue<K>>, face: u32)
-    ensures waits { waiting_from 1 queues.new.items ≡ without_id face (waiting_from 1 queues.old.items) }
+    ensures waits { waiting_from 1 queues.new.items
+        ≡ without_id face (waiting_from 1 queues.old.items) }
     ensures places { length queues.new.items ≡ length queues.old.items }
 {
     if let Some(at) = index_of(queues.len(), face) {
@@ -138,10 +142,11 @@ impl<K: Key> Queues<K> {
         }
     }
 
-    /// One more place, which ends an open link or not. The only error is want of memory, and then nothing is
-    /// changed.
+    /// One more place, which ends an open link or not. The only error is want of memory, and then
+    /// nothing is changed.
     pub fn push(&mut self, alloc: Global, ends_link: bool) -> Result<(), Memory>
-        ensures ok { OnOk result (self.new ≡ self.old ++ (if ends_link then Some [] else None) ∷ []) }
+        ensures ok { OnOk result
+            (self.new ≡ self.old ++ (if ends_link then Some [] else None) ∷ []) }
         ensures err { OnErr result (self.new ≡ self.old) }
     {
         let queue = if ends_link {
@@ -167,10 +172,11 @@ impl<K: Key> Queues<K> {
         first(self.queues.as_slice(), face)
     }
 
-    /// Messages wait, each where its face ends an open link. The only error is want of memory, and then
-    /// nothing is changed.
+    /// Messages wait, each where its face ends an open link. The only error is want of memory, and
+    /// then nothing is changed.
     pub fn add(&mut self, alloc: Global, sent: &[Sent<K>]) -> Result<(), Memory>
-        ensures ok { OnOk result (waiting_from 1 self.new ≡ with_printed sent.now (waiting_from 1 self.old)) }
+        ensures ok { OnOk result
+            (waiting_from 1 self.new ≡ with_printed sent.now (waiting_from 1 self.old)) }
         ensures places { length self.new ≡ length self.old }
         ensures err { OnErr result (self.new ≡ self.old) }
     {
@@ -185,8 +191,9 @@ impl<K: Key> Queues<K> {
         drop_first(&mut self.queues, face);
     }
 
-    /// The oldest message that waits at a place goes, where one is named, and then messages wait, each where
-    /// its face ends an open link. The only error is want of memory, and then nothing is changed.
+    /// The oldest message that waits at a place goes, where one is named, and then messages wait,
+    /// each where its face ends an open link. The only error is want of memory, and then nothing is
+    /// changed.
     pub fn take_and_add(
         &mut self,
         alloc: Global,
@@ -206,7 +213,8 @@ impl<K: Key> Queues<K> {
 
     // The place, where a message waits there.
     fn if_waiting(&self, taken: Option<u32>) -> Option<u32>
-        ensures { (sent : List (SentValue K)) → without_taken result (with_printed sent (waiting_from 1 self.now))
+        ensures { (sent : List (SentValue K))
+            → without_taken result (with_printed sent (waiting_from 1 self.now))
             ≡ with_printed sent (without_taken taken (waiting_from 1 self.now)) }
     {
         match taken {

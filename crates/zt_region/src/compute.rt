@@ -1,14 +1,17 @@
 //! The region of a peer, by the tables of `specs/Tables.antt`.
 ghost use Rattle.std.specs.Prelude.{◌≡◌, ◌<◌, ◌^◌};
-ghost use Rattle.zt_region.specs.South.{plain_peer, plain_south, subregion_count, transient_region, transient_bound};
-ghost use Rattle.zt_region.specs.Tables.{auto_region, agreed_region, region_of, multicast_region, multicast_region_of};
+ghost use Rattle.zt_region.specs.South.{plain_peer, plain_south, subregion_count, transient_region};
+ghost use Rattle.zt_region.specs.South.{transient_bound};
+ghost use Rattle.zt_region.specs.Tables.{auto_region, agreed_region, region_of, multicast_region};
+ghost use Rattle.zt_region.specs.Tables.{multicast_region_of};
 
 use crate::matching::first_match_of;
 use crate::region::{Bound, Region, RegionError, SouthConf, TransportPeer, WhatAmI};
 
 /// The bound of the region that the own configuration gives the peer, which a node tells the peer
 /// before the two agree: `None` where regions are found automatically. `mode` is the own mode. The
-/// one error is RouterUnderNonRouter, where a router matches a subregion of a node that is no router.
+/// one error is RouterUnderNonRouter, where a router matches a subregion of a node that is no
+/// router.
 pub fn compute_transient_bound_of(
     peer: &TransportPeer,
     mode: WhatAmI,
@@ -23,10 +26,10 @@ pub fn compute_transient_bound_of(
     }
 }
 
-/// The region into which a node of this mode puts the peer, and the bound of the region in which the
-/// peer has the node. `transient_remote_bound` is the transient bound that the peer found for the
-/// node. The errors are those of the transient region, of the automatic answer, and of two sides
-/// that contradict each other.
+/// The region into which a node of this mode puts the peer, and the bound of the region in which
+/// the peer has the node. `transient_remote_bound` is the transient bound that the peer found for
+/// the node. The errors are those of the transient region, of the automatic answer, and of two
+/// sides that contradict each other.
 pub fn compute_region_of(
     peer: &TransportPeer,
     mode: WhatAmI,
@@ -53,7 +56,8 @@ pub fn compute_multicast_region(mode: WhatAmI) -> Result<Region, RegionError>
 }
 
 /// The region of a member of a multicast group, and the bound of the region in which the member has
-/// the node; `mode` is the node's mode. MulticastLimit but for two peers and for a peer and a router.
+/// the node; `mode` is the node's mode. MulticastLimit but for two peers and for a peer and a
+/// router.
 pub fn compute_multicast_region_of(
     remote: WhatAmI,
     mode: WhatAmI,
@@ -108,8 +112,8 @@ fn automatic_region_of(own: WhatAmI, remote: WhatAmI) -> Result<(Region, Bound),
     }
 }
 
-/// What the two sides come to: `own` is the own side's transient region, `remote_bound` the remote's
-/// transient bound.
+/// What the two sides come to: `own` is the own side's transient region, `remote_bound` the
+/// remote's transient bound.
 fn agreed_region_of(
     mode: WhatAmI,
     remote_mode: WhatAmI,

@@ -2,7 +2,10 @@
 ghost use Rattle.std.specs.Prelude.{◌≡◌, map, position, string_bytes};
 ghost use Rattle.std.specs.List.{list_any, list_all};
 ghost use Rattle.zt_region.specs.Region.{whatami_eq, zid_eq};
-ghost use Rattle.zt_region.specs.South.{plain_link, plain_peer, plain_filter, plain_subregion, is_text_listed, has_zid, has_interfaces, has_mode, has_region_name, parts_hold, filter_holds, subregion_matches, first_match};
+ghost use Rattle.zt_region.specs.South.{plain_link, plain_peer, plain_filter, plain_subregion};
+ghost use Rattle.zt_region.specs.South.{is_text_listed, has_zid, has_interfaces, has_mode};
+ghost use Rattle.zt_region.specs.South.{has_region_name, parts_hold, filter_holds};
+ghost use Rattle.zt_region.specs.South.{subregion_matches, first_match};
 
 use crate::region::{Filter, Interfaces, Subregion, TransportPeer, WhatAmI, Zid};
 
@@ -82,7 +85,8 @@ fn is_region_name_listed(listed: &[String], peer: &TransportPeer) -> bool
 }
 
 fn does_one_hold(filters: &[Filter], peer: &TransportPeer) -> bool
-    ensures { result ≡ subregion_matches (Some (map plain_filter filters.now)) (plain_peer peer.now) }
+    ensures { result ≡ subregion_matches (Some (map plain_filter filters.now))
+        (plain_peer peer.now) }
 {
     filters.iter().any(|filter| filter.holds(peer))
 }

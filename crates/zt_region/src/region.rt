@@ -104,8 +104,8 @@ pub enum SouthConf {
     Custom(Vec<Subregion>),
 }
 
-/// The pairs (source, destination) of regions that are refused: a token declared in the source isn't
-/// told to faces of the destination. Stands for Zenoh's filter between regions.
+/// The pairs (source, destination) of regions that are refused: a token declared in the source
+/// isn't told to faces of the destination. Stands for Zenoh's filter between regions.
 #[derive(PartialEq, Eq, Debug, Drop)]
 pub struct Admission {
     pub refused: Vec<(Region, Region)>,

@@ -7,8 +7,8 @@ ghost use Rattle.zt_routed.specs.Routed.{is_left_out};
 use zt_protocol::TreeTable;
 use zt_region::{Region, Zid};
 
-/// Where a token comes from: a router region, and the router that declares it there. The gateway's own
-/// tokens come from its own number.
+/// Where a token comes from: a router region, and the router that declares it there. The gateway's
+/// own tokens come from its own number.
 #[derive(Clone, Copy, PartialEq, Eq, PartialOrd, Ord, Debug)]
 pub struct Origin {
     pub region: Region,

@@ -8,7 +8,8 @@ ghost use Rattle.zt_model.specs.Lists.{in_key_order, with_key};
 ghost use Rattle.zt_model.specs.Trees.{is_routed_row, routed_order};
 ghost use Rattle.zt_protocol.specs.Plain.{trees_of};
 ghost use Rattle.zt_routed.specs.More.{IsMoreBy};
-ghost use Rattle.zt_routed.specs.Routed.{AreInOrder, is_left_out, is_row_of, keys_at, origin_cmp, row_of, rows_in};
+ghost use Rattle.zt_routed.specs.Routed.{AreInOrder, is_left_out, is_row_of, keys_at, origin_cmp};
+ghost use Rattle.zt_routed.specs.Routed.{row_of, rows_in};
 
 use crate::origin::{Origin, is_left_out};
 use std::alloc::Global;
@@ -28,7 +29,8 @@ pub(crate) fn insert_in<K: Key>(
     ensures rows { OnOk result (rows_in sources.new.entries
         ≡ with_key (routed_order K.cmp) (row_of origin expr) (rows_in sources.old.entries)) }
     ensures more { IfOk result (λ is_new.
-        IsMoreBy is_new (row_of origin expr) (rows_in sources.old.entries) (rows_in sources.new.entries)) }
+        IsMoreBy is_new (row_of origin expr) (rows_in sources.old.entries)
+        (rows_in sources.new.entries)) }
     ensures in_order { AreInOrder K.cmp sources.new.entries }
 {
     match sources.get_mut(&origin) {
@@ -50,8 +52,10 @@ pub(crate) fn remove_in<K: Key>(
 ) -> bool
     requires { AreInOrder K.cmp sources.old.entries }
     ensures rows { rows_in sources.new.entries
-        ≡ filter (λ row. not (is_routed_row K.cmp (row_of origin expr.now) row)) (rows_in sources.old.entries) }
-    ensures less { IsMoreBy result (row_of origin expr.now) (rows_in sources.new.entries) (rows_in sources.old.entries) }
+        ≡ filter (λ row. not (is_routed_row K.cmp (row_of origin expr.now) row))
+        (rows_in sources.old.entries) }
+    ensures less { IsMoreBy result (row_of origin expr.now) (rows_in sources.new.entries)
+        (rows_in sources.old.entries) }
     ensures in_order { AreInOrder K.cmp sources.new.entries }
 {
     match sources.get_mut(&origin) {
@@ -88,7 +92,8 @@ pub(crate) fn contains_in<K: Key>(
     expr: &K,
 ) -> bool
     requires { AreInOrder K.cmp sources.now.entries }
-    ensures { result ≡ list_any (is_routed_row K.cmp (row_of origin expr.now)) (rows_in sources.now.entries) }
+    ensures { result ≡ list_any (is_routed_row K.cmp (row_of origin expr.now))
+        (rows_in sources.now.entries) }
 {
     match sources.get(&origin) {
         Some(keys) => keys.contains(expr),
@@ -104,7 +109,8 @@ pub(crate) fn drop_left_out_in<K: Key>(
 )
     requires { AreInOrder K.cmp sources.old.entries }
     ensures entries { sources.new.entries
-        ≡ filter (λ entry. not (is_left_out region (trees_of table.now) entry.0)) sources.old.entries }
+        ≡ filter (λ entry. not (is_left_out region (trees_of table.now) entry.0))
+        sources.old.entries }
     ensures in_order { AreInOrder K.cmp sources.new.entries }
 {
     sources.retain(|origin, _keys| !is_left_out(region, table, *origin));
@@ -129,7 +135,8 @@ pub(crate) fn expressions_in<K: Key>(
 ) -> Result<Vec<K>, Memory>
     requires { AreInOrder K.cmp sources.now.entries }
     ensures { IfOk result (λ exprs. exprs.items
-        ≡ in_key_order K.cmp (map (λ row. row.expr) (filter (is_row_of origin) (rows_in sources.now.entries)))) }
+        ≡ in_key_order K.cmp (map (λ row. row.expr)
+        (filter (is_row_of origin) (rows_in sources.now.entries)))) }
 {
     match sources.get(&origin) {
         Some(keys) => list_keys(alloc, keys),
@@ -165,7 +172,8 @@ fn copy_source<K: Key>(
     keys: &BTreeSet<K>,
 ) -> Result<(), Memory>
     requires { IsStrictlySortedBy K.cmp keys.now.keys }
-    ensures { OnOk result (copy.new.entries ≡ insert_entry origin_cmp copy.old.entries origin keys.now) }
+    ensures { OnOk result (copy.new.entries
+        ≡ insert_entry origin_cmp copy.old.entries origin keys.now) }
 {
     copy.insert(origin, copy_set(alloc, keys)?)?;
     Ok(())

@@ -18,8 +18,8 @@ use zt_keys::{Key, Memory};
 use zt_protocol::TreeTable;
 use zt_region::{Region, Zid};
 
-/// The tokens of a gateway's router regions, each once. Contracts see their rows, in order of region,
-/// source and expression.
+/// The tokens of a gateway's router regions, each once. Contracts see their rows, in order of
+/// region, source and expression.
 #[derive(Drop)]
 pub struct RoutedTokens<K: Key> {
     sources: BTreeMap<Origin, BTreeSet<K>>,
@@ -47,8 +47,8 @@ impl<K: Key> RoutedTokens<K> {
         }
     }
 
-    /// Puts a token in its place, if it isn't there yet: whether it is new. The only error is want of
-    /// memory.
+    /// Puts a token in its place, if it isn't there yet: whether it is new. The only error is want
+    /// of memory.
     pub fn insert(
         &mut self,
         alloc: Global,
@@ -68,7 +68,8 @@ impl<K: Key> RoutedTokens<K> {
     /// Takes a token away: whether it was there.
     pub fn remove(&mut self, region: Region, source: Zid, expr: &K) -> bool
         ensures rows { self.new
-            ≡ filter (λ row. not (is_routed_row K.cmp (row_at K.cmp region source expr.now) row)) self.old }
+            ≡ filter (λ row. not (is_routed_row K.cmp (row_at K.cmp region source expr.now) row))
+            self.old }
         ensures less { IsMoreBy result (row_at K.cmp region source expr.now) self.new self.old }
     {
         let origin = Origin { region, source };
@@ -79,7 +80,8 @@ impl<K: Key> RoutedTokens<K> {
 
     /// Whether a token is there.
     pub fn contains(&self, region: Region, source: Zid, expr: &K) -> bool
-        ensures { result ≡ list_any (is_routed_row K.cmp (row_at K.cmp region source expr.now)) self.now }
+        ensures { result ≡ list_any
+            (is_routed_row K.cmp (row_at K.cmp region source expr.now)) self.now }
     {
         contains_in(&self.sources, Origin { region, source }, expr)
     }
@@ -92,16 +94,19 @@ impl<K: Key> RoutedTokens<K> {
         drop_left_out_in(&mut self.sources, region, table);
     }
 
-    /// The expressions of a source's tokens in a region, in order. The only error is want of memory.
+    /// The expressions of a source's tokens in a region, in order. The only error is want of
+    /// memory.
     pub fn expressions(&self, alloc: Global, region: Region, source: Zid) -> Result<Vec<K>, Memory>
         ensures { IfOk result (λ exprs. exprs.items
-            ≡ in_key_order K.cmp (map (λ row. row.expr) (filter (is_row_of (record { region = region; source = source })) self.now))) }
+            ≡ in_key_order K.cmp
+            (map (λ row. row.expr)
+            (filter (is_row_of (record { region = region; source = source })) self.now))) }
     {
         expressions_in(alloc, &self.sources, Origin { region, source })
     }
 
     /// The expressions of the tokens, in order, by where they come from.
-    pub fn sources(&self) -> &BTreeMap<Origin, BTreeSet<K>>
+    pub fn by_origin(&self) -> &BTreeMap<Origin, BTreeSet<K>>
         ensures rows { rows_in result.now.entries ≡ self.now }
         ensures in_order { AreInOrder K.cmp result.now.entries }
     {

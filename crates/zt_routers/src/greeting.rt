@@ -1,7 +1,8 @@
 // Faces that are new among a source's children.
 ghost use Rattle.std.specs.Prelude.{◌≡◌, ◌&&◌, ◌++◌, IfOk, OnOk, map, not};
 ghost use Rattle.zt_model.specs.Parts.{to_each};
-ghost use Rattle.zt_model.specs.Trees.{greet_to, is_child, routed_expressions, routers_in_order, table_of};
+ghost use Rattle.zt_model.specs.Trees.{greet_to, is_child, routed_expressions, routers_in_order};
+ghost use Rattle.zt_model.specs.Trees.{table_of};
 ghost use Rattle.zt_protocol.specs.Plain.{trees_of};
 ghost use Rattle.zt_routers.specs.Greeting.{declared, greeted};
 

@@ -32,8 +32,8 @@ fn add_keys<K: Key>(
     Ok(())
 }
 
-// Puts the keys of an origin in their places among those in order, if the table leaves the origin out.
-// The only error is want of memory.
+// Puts the keys of an origin in their places among those in order, if the table leaves the origin
+// out. The only error is want of memory.
 fn add_left_out<K: Key>(
     alloc: Global,
     region: Region,
@@ -43,7 +43,8 @@ fn add_left_out<K: Key>(
     exprs: &mut KeysInOrder<K>,
 ) -> Result<(), Memory>
     ensures { OnOk result (exprs.new
-        ≡ with_keys K.cmp (exprs_left_out K.cmp region (trees_of table.now) (rows_of (origin, keys.now))) exprs.old) }
+        ≡ with_keys K.cmp (exprs_left_out K.cmp region (trees_of table.now)
+        (rows_of (origin, keys.now))) exprs.old) }
 {
     if is_left_out(region, table, origin) {
         add_keys(alloc, keys, exprs)?;
@@ -51,8 +52,8 @@ fn add_left_out<K: Key>(
     Ok(())
 }
 
-/// The expressions of a region's rows whose source the region's table doesn't list, in key order. The
-/// only error is want of memory.
+/// The expressions of a region's rows whose source the region's table doesn't list, in key order.
+/// The only error is want of memory.
 pub fn left_out<K: Key>(
     alloc: Global,
     g: &GatewayState<K>,
@@ -63,7 +64,7 @@ pub fn left_out<K: Key>(
         ≡ left_out K.cmp region (trees_of table.now) g.now) }
 {
     let mut exprs = KeysInOrder::new(alloc);
-    for (origin, keys) in g.routed().sources().iter().rev() {
+    for (origin, keys) in g.routed().by_origin().iter().rev() {
         add_left_out(alloc, region, table, *origin, keys, &mut exprs)?;
     }
     exprs.into_vec(alloc)

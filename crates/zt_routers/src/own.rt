@@ -7,7 +7,8 @@ ghost use Rattle.zt_model.specs.Parts.{to_each};
 ghost use Rattle.zt_model.specs.Strategy.{is_router_hat, strategy_of};
 ghost use Rattle.zt_routed.specs.Routed.{rows_of};
 ghost use Rattle.zt_routers.specs.Hiding.{hidden_among};
-ghost use Rattle.zt_model.specs.Trees.{hide_to, is_hidden, is_newly_shown, is_own_row, router_regions, show_to};
+ghost use Rattle.zt_model.specs.Trees.{hide_to, is_hidden, is_newly_shown, is_own_row};
+ghost use Rattle.zt_model.specs.Trees.{router_regions, show_to};
 
 use crate::passing::{pass_to, unpass_to};
 use crate::tables::{children_in, node_in};
@@ -77,8 +78,8 @@ fn show_to<K: Key>(
     Ok(())
 }
 
-/// The gateway shows a token of the region `source` in its router regions that are newly shown it. Where
-/// it was handed no table there is nobody to tell. The only error is want of memory.
+/// The gateway shows a token of the region `source` in its router regions that are newly shown it.
+/// Where it was handed no table there is nobody to tell. The only error is want of memory.
 pub fn show<K: Key>(
     alloc: Global,
     g: &GatewayState<K>,
@@ -116,8 +117,8 @@ fn add_newly_shown<K: Key>(
     Ok(())
 }
 
-/// The router regions that are newly shown a token of the region `source`. The only error is want of
-/// memory.
+/// The router regions that are newly shown a token of the region `source`. The only error is want
+/// of memory.
 pub fn newly_shown<K: Key>(
     alloc: Global,
     g: &GatewayState<K>,
@@ -135,8 +136,8 @@ pub fn newly_shown<K: Key>(
     Ok(regions)
 }
 
-// Whether the origin is the gateway itself, in a region that can't see the expression any more, which is
-// among its keys there.
+// Whether the origin is the gateway itself, in a region that can't see the expression any more,
+// which is among its keys there.
 fn is_hidden_at<K: Key>(
     g: &GatewayState<K>,
     source: Region,
@@ -145,13 +146,14 @@ fn is_hidden_at<K: Key>(
     keys: &BTreeSet<K>,
 ) -> bool
     ensures { result ≡ (zid_eq origin.source g.now.zid
-        && (is_among K.cmp expr.now keys.now.keys && is_hidden K.cmp g.now source expr.now origin.region)) }
+        && (is_among K.cmp expr.now keys.now.keys
+        && is_hidden K.cmp g.now source expr.now origin.region)) }
 {
     origin.source == g.zid() && keys.contains(expr) && is_hidden(g, source, expr, origin.region)
 }
 
-// Adds the region of an origin, if the gateway has an own row of the expression there and the region can't
-// see it any more. The only error is want of memory.
+// Adds the region of an origin, if the gateway has an own row of the expression there and the
+// region can't see it any more. The only error is want of memory.
 fn add_hidden<K: Key>(
     g: &GatewayState<K>,
     source: Region,
@@ -182,7 +184,7 @@ pub fn hidden_regions<K: Key>(
         ≡ hidden_among K.cmp g.now source expr.now g.now.routed) }
 {
     let mut regions = Vec::new(alloc);
-    for (origin, keys) in g.routed().sources() {
+    for (origin, keys) in g.routed().by_origin() {
         add_hidden(g, source, expr, *origin, keys, &mut regions)?;
     }
     Ok(regions)
@@ -220,8 +222,8 @@ fn hide_to<K: Key>(
 }
 
 /// The gateway hides an expression that is gone from the region `source` in its router regions that
-/// can't see it now. Where it was handed no table there is nobody to tell. The only error is want of
-/// memory.
+/// can't see it now. Where it was handed no table there is nobody to tell. The only error is want
+/// of memory.
 pub fn hide<K: Key>(
     alloc: Global,
     g: &GatewayState<K>,

@@ -3,7 +3,8 @@ ghost use Rattle.std.specs.Prelude.{◌≡◌, ◌&&◌, ◌++◌, IfOk, OnOk, m
 ghost use Rattle.std.specs.List.{list_any};
 ghost use Rattle.std.specs.Option.{option_copied};
 ghost use Rattle.zt_model.specs.Lists.{first_where};
-ghost use Rattle.zt_model.specs.Trees.{is_face_of_router, node_of, pass_on, pass_to, table_of, unpass, unpass_to};
+ghost use Rattle.zt_model.specs.Trees.{is_face_of_router, node_of, pass_on, pass_to, table_of};
+ghost use Rattle.zt_model.specs.Trees.{unpass, unpass_to};
 ghost use Rattle.zt_region.specs.Region.{region_eq, zid_eq};
 ghost use Rattle.zt_routers.specs.Children.{is_child_by};
 

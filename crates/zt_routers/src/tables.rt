@@ -1,10 +1,12 @@
 // The tables of router regions.
-ghost use Rattle.std.specs.Prelude.{◌≡◌, ◌==◌, ◌&&◌, ◌||◌, ◌++◌, ◌∷◌, [], IfNone, IfOk, IfSome, None, OnOk, if◌then◌else◌, option_map};
+ghost use Rattle.std.specs.Prelude.{◌≡◌, ◌==◌, ◌&&◌, ◌||◌, ◌++◌, ◌∷◌, [], IfNone, IfOk, IfSome};
+ghost use Rattle.std.specs.Prelude.{None, OnOk, if◌then◌else◌, option_map};
 ghost use Rattle.std.specs.List.{list_any};
 ghost use Rattle.std.specs.Option.{option_copied};
 ghost use Rattle.std.specs.Ordering.{is_eq, nat_cmp};
 ghost use Rattle.zt_model.specs.Lists.{first_where};
-ghost use Rattle.zt_model.specs.Trees.{counted_beside, counted_table, is_same_link, is_same_router, node_of, source_of, table_of};
+ghost use Rattle.zt_model.specs.Trees.{counted_beside, counted_table, is_same_link, is_same_router};
+ghost use Rattle.zt_model.specs.Trees.{node_of, source_of, table_of};
 ghost use Rattle.zt_protocol.specs.Plain.{trees_of};
 ghost use Rattle.zt_region.specs.Region.{region_eq, zid_cmp, zid_eq};
 ghost use Rattle.zt_routers.specs.First.{IsFirst};
@@ -56,7 +58,8 @@ fn count_router(
     requires nodes { AreKeysOf nat_cmp (λ x. x.0) nodes.old.keys counted.old.items }
     requires zids { AreKeysOf zid_cmp (λ x. x.1) zids.old.keys counted.old.items }
     ensures counted { OnOk result (counted.new.items
-        ≡ (if list_any (is_same_router router.now) counted.old.items then counted.old.items else counted.old.items ++ router.now ∷ [])) }
+        ≡ (if list_any (is_same_router router.now) counted.old.items then counted.old.items
+        else counted.old.items ++ router.now ∷ [])) }
     ensures nodes { OnOk result (AreKeysOf nat_cmp (λ x. x.0) nodes.new.keys counted.new.items) }
     ensures zids { OnOk result (AreKeysOf zid_cmp (λ x. x.1) zids.new.keys counted.new.items) }
 {
@@ -103,8 +106,8 @@ fn is_link_taken(
     nodes.contains(&(link.0, link.1)) || zids.contains(&(link.0, link.2))
 }
 
-// Counts a link, unless it clashes with one that counts: for their faces those have these node ids and
-// routers.
+// Counts a link, unless it clashes with one that counts: for their faces those have these node ids
+// and routers.
 fn count_link(
     link: &(u32, NodeId, Zid),
     nodes: &mut BTreeSet<(u32, NodeId)>,
@@ -114,7 +117,8 @@ fn count_link(
     requires nodes { AreKeysOf node_key_cmp (λ x. (x.0, x.1)) nodes.old.keys counted.old.items }
     requires zids { AreKeysOf zid_key_cmp (λ x. (x.0, x.2)) zids.old.keys counted.old.items }
     ensures counted { OnOk result (counted.new.items
-        ≡ (if list_any (is_same_link link.now) counted.old.items then counted.old.items else counted.old.items ++ link.now ∷ [])) }
+        ≡ (if list_any (is_same_link link.now) counted.old.items then counted.old.items
+        else counted.old.items ++ link.now ∷ [])) }
     ensures nodes { OnOk result
         (AreKeysOf node_key_cmp (λ x. (x.0, x.1)) nodes.new.keys counted.new.items) }
     ensures zids { OnOk result
@@ -146,8 +150,8 @@ fn counted_links(
     Ok(counted)
 }
 
-/// The entries of a table that count: none of those before it clashes with one. The only error is want
-/// of memory.
+/// The entries of a table that count: none of those before it clashes with one. The only error is
+/// want of memory.
 #[tactic(auto, unfolding(zt_model::specs::Trees::counted_table))]
 pub fn counted_table(alloc: Global, table: &TreeTable) -> Result<TreeTable, Memory>
     ensures { IfOk result (λ counted. trees_of counted ≡ counted_table (trees_of table.now)) }
@@ -171,7 +175,8 @@ fn kept_table(trees: &[(Region, KeptTable)], region: Region) -> Option<&(Region,
     None
 }
 
-/// The table of a region, as it counts; at first nothing is listed. The only error is want of memory.
+/// The table of a region, as it counts; at first nothing is listed. The only error is want of
+/// memory.
 #[tactic(auto, unfolding(zt_model::specs::Trees::table_of))]
 pub fn table_of<K: Key>(
     alloc: Global,
@@ -216,8 +221,8 @@ fn find_router(routers: &[(NodeId, Zid)], zid: Zid) -> Option<(NodeId, Zid)>
     None
 }
 
-// The entry of a router that counts. The first one does, unless one before it has its node id; only then
-// is all of it counted.
+// The entry of a router that counts. The first one does, unless one before it has its node id; only
+// then is all of it counted.
 fn counted_router(
     alloc: Global,
     routers: &[(NodeId, Zid)],
@@ -271,8 +276,8 @@ fn find_link(links: &[(u32, NodeId, Zid)], face: u32, node_id: NodeId) -> Option
     None
 }
 
-// The link of a face for a node id that counts. The first one does, unless one before it is the face's
-// for the same router; only then are all of them counted.
+// The link of a face for a node id that counts. The first one does, unless one before it is the
+// face's for the same router; only then are all of them counted.
 fn counted_link(
     alloc: Global,
     links: &[(u32, NodeId, Zid)],
@@ -304,8 +309,8 @@ pub(crate) fn children_in<K: Key>(g: &GatewayState<K>, region: Region) -> &[(Zid
     }
 }
 
-/// The gateway's own number for a router of a region; 0 where it has none. The only error is want of
-/// memory.
+/// The gateway's own number for a router of a region; 0 where it has none. The only error is want
+/// of memory.
 #[tactic(auto, unfolding(zt_model::specs::Trees::table_of, zt_model::specs::Trees::counted_table))]
 pub(crate) fn node_in<K: Key>(
     alloc: Global,
@@ -345,8 +350,8 @@ fn linked<K: Key>(
     }
 }
 
-/// The router that a face means by a node id, where that isn't the gateway itself. The only error is
-/// want of memory.
+/// The router that a face means by a node id, where that isn't the gateway itself. The only error
+/// is want of memory.
 #[tactic(auto, unfolding(zt_model::specs::Trees::source_of))]
 pub fn source_of<K: Key>(
     alloc: Global,

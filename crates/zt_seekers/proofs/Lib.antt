@@ -1,4 +1,4 @@
-mod Copied
+mod Hashed
 pub mod Held
 pub mod Numbers
 pub mod Changed

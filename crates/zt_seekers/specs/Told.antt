@@ -1,12 +1,12 @@
 -- How many faces were told each expression, and not told that it is gone.
+--     counts_in_order cmp counts              the counts in order of expression, whatever order they are kept in
 --     counted cmp counts e                    how many faces are counted at the expression
 --     is_kept cmp e told                      whether the expression is among what a face was told
 --     IsOneMore, IsOneLess                    one face more, or one less, is counted at an expression, and all else stays
 --     IsRetold cmp before after old new       where what a face was told changes, the counts change with it
-use Rattle.std.specs.Prelude.{◌≡◌, ℕ, ◌+◌, ◌-◌, Bool, true, false, List, unwrap_or}
-use Rattle.std.specs.BTreeMap.{is_at}
+use Rattle.std.specs.Prelude.{◌≡◌, ℕ, ◌+◌, ◌-◌, Bool, true, false, List, [], ◌∷◌, unwrap_or}
+use Rattle.std.specs.FinMap.Entries.{find, put}
 use Rattle.std.specs.List.{list_any}
-use Rattle.std.specs.Map.{lookup}
 use Rattle.std.specs.declared.cmp.Ordering.{Ordering}
 use Rattle.zt_model.specs.Lists.{same}
 use Rattle.zt_model.specs.Rows.{ById}
@@ -16,8 +16,12 @@ one_if true = 1
 one_if false = 0
 
 module _ {K : Type 0} (cmp : K → K → Ordering) where
+  abbrev pub counts_in_order : List (K × ℕ) → List (K × ℕ)
+  counts_in_order [] = []
+  counts_in_order (row ∷ rows) = put cmp row.0 row.1 (counts_in_order rows)
+
   abbrev pub counted : List (K × ℕ) → K → ℕ
-  counted counts e = unwrap_or (lookup (is_at (cmp e)) counts) 0
+  counted counts e = unwrap_or (find cmp e counts) 0
 
   abbrev pub is_kept : K → ById K → Bool
   is_kept e told = list_any (λ row. same cmp e row.1) told

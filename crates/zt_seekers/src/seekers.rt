@@ -1,5 +1,6 @@
 // The faces that may be told of tokens.
-ghost use Rattle.std.specs.Prelude.{◌≡◌, ◌++◌, ◌∷◌, ◌==◌, ℕ, [], filter, map, not, IfOk, IfSome, List, OnErr, OnOk};
+ghost use Rattle.std.specs.Prelude.{◌≡◌, ◌++◌, ◌∷◌, ◌==◌, ℕ, [], filter, map, not, IfOk, IfSome};
+ghost use Rattle.std.specs.Prelude.{List, OnErr, OnOk};
 ghost use Rattle.std.specs.List.{flat_map};
 ghost use Rattle.std.specs.List.Sorted.{IsStrictlySortedBy};
 ghost use Rattle.std.specs.Ordering.{nat_cmp};
@@ -59,8 +60,8 @@ impl<K: Key> Seekers<K> {
         }
     }
 
-    /// A face more that holds nothing and was told nothing yet, whose number is above those of the others. The only error is
-    /// want of memory, and then they stay.
+    /// A face more that holds nothing and was told nothing yet, whose number is above those of the
+    /// others. The only error is want of memory, and then they stay.
     pub fn open(&mut self, f: &FaceState<K>) -> Result<(), Memory>
         ensures ok { OnOk result (self.new
             ≡ record self.old { north = self.old.north ++ north_numbers (f.now ∷ []) }) }
@@ -81,8 +82,8 @@ impl<K: Key> Seekers<K> {
         untell_all(&mut self.told, f);
     }
 
-    /// The face comes to hold an interest, if it asks for what comes later. The only error is want of
-    /// memory.
+    /// The face comes to hold an interest, if it asks for what comes later. The only error is want
+    /// of memory.
     pub fn hold(
         &mut self,
         alloc: Global,
@@ -134,9 +135,9 @@ impl<K: Key> Seekers<K> {
         &self.north
     }
 
-    /// The faces that may be told of the expression, by number, in order: those to the north, and those
-    /// that hold an interest in its tokens. `None` where the expression can't be looked up, as a key
-    /// expression with a wild end: any face may be one. The only error is want of memory.
+    /// The faces that may be told of the expression, by number, in order: those to the north, and
+    /// those that hold an interest in its tokens. `None` where the expression can't be looked up,
+    /// as a key expression with a wild end: any face may be one. The only error is want of memory.
     pub fn find(&self, alloc: Global, expr: &K) -> Result<Option<Vec<u32>>, Memory>
         ensures { IfOk result (λ found. IfSome found (λ numbers. (fs : List (Face K)) →
             IsStrictlySortedBy nat_cmp (map (λ f. f.number) fs) →
@@ -147,9 +148,9 @@ impl<K: Key> Seekers<K> {
         self.index.holders_and(alloc, expr, &self.north)
     }
 
-    /// The interests in tokens of the expression, or in all tokens where it is `None`, each under its
-    /// face and id, and maybe interests in other expressions among them. A look-up, which takes no
-    /// memory.
+    /// The interests in tokens of the expression, or in all tokens where it is `None`, each under
+    /// its face and id, and maybe interests in other expressions among them. A look-up, which takes
+    /// no memory.
     pub fn interests_in(&self, about: &Option<K>) -> &[((u32, u32), Option<K>)]
         ensures { (fs : List (Face K)) → AreSeekers K.cmp K.anchored self.now fs →
             HasAllIn about.now (flat_map token_rows fs) result.now }

@@ -1,5 +1,5 @@
-//! What goes upstream, whatever is called: theorems over the definitions of `zt_model`, each the contract of a function
-//! that does nothing.
+//! What goes upstream, whatever is called: theorems over the definitions of `zt_model`, each the
+//! contract of a function that does nothing.
 #![tactic(auto)]
 
 ghost use Rattle.std.specs.Prelude.{◌≡◌, ◌≤◌, ℕ, false, List};
@@ -21,9 +21,9 @@ ghost use Rattle.zt_laws.specs.Sound.{HasFirstIds, opens_face};
 
 use zt_keys::Key;
 
-/// The interests that a call says to a face are those due to it: a call's own interest to each of its targets, what
-/// south-bound faces hold to a new face to the north, and no other. `opening` says it of the faces that are there once a
-/// transport's face is opened, the new one included.
+/// The interests that a call says to a face are those due to it: a call's own interest to each of
+/// its targets, what south-bound faces hold to a new face to the north, and no other. `opening`
+/// says it of the faces that are there once a transport's face is opened, the new one included.
 pub fn calls_send_interests_due<K: Key>()
     ensures each { (gateway : ℕ) (c : PlainCall K) (g : Rows K) → opens_face c ≡ false
         → RowsAreInOrder K.cmp K.matching g
@@ -36,7 +36,12 @@ pub fn calls_send_interests_due<K: Key>()
         → Each (λ f. interests_in (messages_for f.number (said K.cmp K.matching
         (NewTransport zid whatami region bound first) g))
         ≡ interests_due K.cmp K.matching gateway f
-        (record { gateway = gateway; rows = g; call = NewTransport zid whatami region bound first })) (opened zid whatami region bound first g).faces }
+        (record {
+          gateway = gateway;
+          rows = g;
+          call = NewTransport zid whatami region bound first;
+        }))
+        (opened zid whatami region bound first g).faces }
 {}
 
 /// So each turn of the machine's transcript prints upstream what is due: for each open face the
@@ -47,8 +52,9 @@ pub fn turns_send_interests_due<K: Key>()
         → Each (SendsUpstream K.cmp K.matching) (turns_of K.cmp K.matching lines s) }
 {}
 
-/// And after each of its lines, from the empty fabric on, what stands sent upstream to a face that is sent all is what open
-/// south-bound faces hold, as pairs of expression and options: nothing is left standing that nobody holds any more.
+/// And after each of its lines, from the empty fabric on, what stands sent upstream to a face that
+/// is sent all is what open south-bound faces hold, as pairs of expression and options: nothing is
+/// left standing that nobody holds any more.
 pub fn turns_end_interests_upstream<K: Key>()
     ensures { (lines : List (PlainLine K)) → Each HasFirstIds lines
         → Each (EndsUpstream K.cmp K.matching) (turns_of K.cmp K.matching lines empty_fabric) }

@@ -10,8 +10,8 @@ use zt_gateway::{Prepared, copy_keys, copy_queryables};
 use zt_keys::{Key, Memory};
 use zt_protocol::{Call, Refusal, Sent, copy_expression};
 
-/// Copies of the messages of a prepared call, in order of face, as those of a gateway with the number 1. The
-/// only error is want of memory.
+/// Copies of the messages of a prepared call, in order of face, as those of a gateway with the
+/// number 1. The only error is want of memory.
 pub fn sent_by<K: Key>(alloc: Global, prepared: &Prepared<K>) -> Result<Vec<Sent<K>>, Memory>
     ensures { IfOk result (λ sent. sent.items ≡ map sent_alone (by_face prepared.now.said)) }
 {
@@ -57,7 +57,8 @@ fn copy_outcome<K: Key>(
     }
 }
 
-// A copy of a call that opens a face, ends something, or hands in a moment or trees. The only error is want of memory.
+// A copy of a call that opens a face, ends something, or hands in a moment or trees. The only error
+// is want of memory.
 fn copy_call<K: Key>(alloc: Global, call: &Call<K>) -> Result<Call<K>, Memory>
     ensures { IfOk result (λ copy. plain_call copy ≡ plain_call call.now) }
 {

@@ -2,7 +2,7 @@
 use zt_protocol::{Call, Refusal, Sent};
 
 /// A call that was made on a gateway, and what it came to.
-#[derive(Drop)]
+#[derive(PartialEq, Eq, Debug, Drop)]
 pub struct JournalEntry<K> {
     /// The number of the pass that made the call.
     pub pass: u32,
@@ -10,12 +10,13 @@ pub struct JournalEntry<K> {
     pub call: Call<K>,
     /// The number of the face that the call made, where it made one.
     pub made: Option<u32>,
-    /// The call's messages in order of face, where the gateway has the number 1; or why it was refused.
+    /// The call's messages in order of face, where the gateway has the number 1; or why it was
+    /// refused.
     pub outcome: Result<Vec<Sent<K>>, Refusal>,
 }
 
 /// The calls that were made on a gateway, the oldest first.
-#[derive(Drop)]
+#[derive(PartialEq, Eq, Debug, Drop)]
 pub struct Journal<K> {
     pub entries: Vec<JournalEntry<K>>,
 }

@@ -1,11 +1,14 @@
 // A gateway with its journal.
-ghost use Rattle.std.specs.Prelude.{◌≡◌, ◌+◌, ◌≤◌, ◌++◌, [], ◌∷◌, None, Ok, Some, length, map, option_map, slice_get, vec_capacity, vec_len, IfOk, OnErr, OnOk};
+ghost use Rattle.std.specs.Prelude.{◌≡◌, ◌+◌, ◌<◌, ◌≤◌, ◌^◌, ◌++◌, [], ◌∷◌, None, Ok, Some, length};
+ghost use Rattle.std.specs.Prelude.{map, option_map, slice_get, vec_capacity, vec_len, IfOk, OnErr};
+ghost use Rattle.std.specs.Prelude.{OnOk};
 ghost use Rattle.zt_gateway.specs.Running.{by_face, planned, sent_alone};
 ghost use Rattle.zt_laws.specs.Sound.{CallHasFirstIds};
 ghost use Rattle.zt_model.specs.Journal.{cause_of, outcome_of};
 ghost use Rattle.zt_model.specs.Says.{said};
 ghost use Rattle.zt_protocol.specs.Plain.{plain_call};
-ghost use Rattle.zt_shared.specs.Recorded.{IsRecord, answer_of, entered, entry_of, journalled, opened};
+ghost use Rattle.zt_shared.specs.Recorded.{IsRecord, answer_of, entered, entry_of, journalled};
+ghost use Rattle.zt_shared.specs.Recorded.{opened};
 
 use crate::copies::{copy_entry, sent_by};
 use crate::entries::{Journal, JournalEntry, Receipt};
@@ -15,8 +18,8 @@ use zt_gateway::{Gateway, Prepared};
 use zt_keys::{Key, Memory};
 use zt_protocol::{Call, CallError, Refusal};
 
-/// A gateway with the journal of the calls on it, from the gateway as it was handed in. No message waits
-/// at it: a call's messages go into its entry.
+/// A gateway with the journal of the calls on it, from the gateway as it was handed in. No message
+/// waits at it: a call's messages go into its entry.
 #[derive(Drop)]
 pub struct Journaled<K: Key> {
     alloc: Global,
@@ -31,9 +34,18 @@ impl<K: Key> Model for Journaled<K> {
 
     ghost Value = { Recorded K };
 
-    ghost view = { λ j. record { opening = j.opening; gateway = j.gateway; entries = map journalled j.entries.items } };
+    ghost view = { λ j. record {
+      opening = j.opening;
+      gateway = j.gateway;
+      entries = map journalled j.entries.items;
+    } };
 
-    ghost invariant = { λ j. IsRecord K.cmp K.matching (record { opening = j.opening; gateway = j.gateway; entries = map journalled j.entries.items }) };
+    ghost invariant = { λ j. IsRecord K.cmp K.matching
+        (record {
+          opening = j.opening;
+          gateway = j.gateway;
+          entries = map journalled j.entries.items;
+        }) };
 }
 
 // Adds an entry for which there is room.
@@ -47,8 +59,8 @@ fn push_within<K: Drop>(entries: &mut Vec<JournalEntry<K>>, entry: JournalEntry<
 }
 
 impl<K: Key> Journaled<K> {
-    /// A gateway at which no message waits, with an empty journal. It keeps a copy of the gateway as its
-    /// opening. The only error is want of memory, and it drops the gateway.
+    /// A gateway at which no message waits, with an empty journal. It keeps a copy of the gateway
+    /// as its opening. The only error is want of memory, and it drops the gateway.
     pub fn new(alloc: Global, gateway: Gateway<K>) -> Result<Journaled<K>, Memory>
         requires { gateway.waiting ≡ [] }
         ensures { IfOk result (λ made. made ≡ opened gateway) }
@@ -77,6 +89,8 @@ impl<K: Key> Journaled<K> {
         ensures answer { IfOk result (λ receipt. receipt.answer
             ≡ answer_of K.cmp K.matching (plain_call call) self.old.gateway.rows) }
         ensures err { OnErr result (self.new ≡ self.old) }
+        ensures kept { IsRecord K.cmp K.matching self.new }
+        ensures room { length self.new.entries < 2 ^ 64 }
     {
         let place = self.entries.len() as u64;
         self.entries.push(JournalEntry {
@@ -110,6 +124,8 @@ impl<K: Key> Journaled<K> {
         ensures answer { IfOk result (λ receipt. receipt.answer
             ≡ answer_of K.cmp K.matching (plain_call call) self.old.gateway.rows) }
         ensures err { OnErr result (self.new ≡ self.old) }
+        ensures kept { IsRecord K.cmp K.matching self.new }
+        ensures room { length self.new.entries < 2 ^ 64 }
     {
         let sent = sent_by(self.alloc, &prepared)?;
         self.entries.reserve(1)?;
@@ -129,9 +145,10 @@ impl<K: Key> Journaled<K> {
         })
     }
 
-    /// Makes a call for the pass of this number; a first id is at least 1. The call, the face made and
-    /// what it came to are added to the journal, and the receipt tells of that entry. The only error is
-    /// want of memory: then the gateway and the journal are as before, and the call is dropped.
+    /// Makes a call for the pass of this number; a first id is at least 1. The call, the face made
+    /// and what it came to are added to the journal, and the receipt tells of that entry. The only
+    /// error is want of memory: then the gateway and the journal are as before, and the call is
+    /// dropped.
     pub fn enter(&mut self, pass: u32, call: Call<K>) -> Result<Receipt, Memory>
         requires { CallHasFirstIds (plain_call call) }
         ensures done { OnOk result
@@ -140,6 +157,8 @@ impl<K: Key> Journaled<K> {
         ensures answer { IfOk result (λ receipt. receipt.answer
             ≡ answer_of K.cmp K.matching (plain_call call) self.old.gateway.rows) }
         ensures err { OnErr result (self.new ≡ self.old) }
+        ensures kept { IsRecord K.cmp K.matching self.new }
+        ensures room { length self.new.entries < 2 ^ 64 }
     {
         match self.gateway.prepare(&call) {
             Ok(prepared) => self.enter_prepared(pass, call, prepared),
@@ -148,8 +167,8 @@ impl<K: Key> Journaled<K> {
         }
     }
 
-    /// An equal copy of the entry at the place. None exactly where the journal is no longer than that. The
-    /// only error is want of memory.
+    /// An equal copy of the entry at the place. None exactly where the journal is no longer than
+    /// that. The only error is want of memory.
     pub fn entry(&self, alloc: Global, place: u64) -> Result<Option<JournalEntry<K>>, Memory>
         ensures found { IfOk result
             (λ found. option_map journalled found ≡ slice_get self.now.entries place) }

@@ -1,4 +1,5 @@
-//! A gateway with a journal: each call on it stands there with what it came to. Many threads can share one.
+//! A gateway with a journal: each call on it stands there with what it came to. Many threads can
+//! share one.
 #![tactic(auto)]
 
 mod copies;

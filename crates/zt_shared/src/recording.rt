@@ -43,10 +43,7 @@ impl<K: Key> Recorder for Journaled<K> {
 
     fn enter(&mut self, pass: u32, call: Call<K>) -> Result<Receipt, AllocError> {
         match Journaled::enter(self, pass, call) {
-            Ok(receipt) => {
-                let _long = self.len();
-                Ok(receipt)
-            }
+            Ok(receipt) => Ok(receipt),
             Err(_) => Err(AllocError),
         }
     }

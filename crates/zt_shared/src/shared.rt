@@ -1,13 +1,15 @@
 // A gateway that many threads call.
-ghost use Rattle.std.specs.Prelude.{◌≡◌, ◌<◌, ◌≤◌, [], length, map, option_map, slice_get, IfOk, IfErr};
+ghost use Rattle.std.specs.Prelude.{◌≡◌, ◌<◌, ◌≤◌, [], length, map, option_map, slice_get, IfOk};
+ghost use Rattle.std.specs.Prelude.{IfErr};
 ghost use Rattle.std.specs.List.{AllByRecursion, AllZip, Contains};
 ghost use Rattle.zt_gateway.specs.Running.{Running};
 ghost use Rattle.zt_laws.specs.Sound.{CallHasFirstIds};
 ghost use Rattle.zt_passes.specs.Account.{IsComplete, IsCounted};
-ghost use Rattle.zt_passes.specs.Passes.{first_pass, made_pass, pass_counted, pass_drawn, pass_looked};
+ghost use Rattle.zt_passes.specs.Passes.{first_pass, made_pass, pass_counted, pass_drawn};
+ghost use Rattle.zt_passes.specs.Passes.{pass_looked};
 ghost use Rattle.zt_protocol.specs.Plain.{plain_call};
 ghost use Rattle.zt_shared.specs.Recorded.{journalled, opened};
-ghost use Rattle.zt_shared.specs.Sharing.{Enters, FindsJournal, HasRead, IsWholeJournal};
+ghost use Rattle.zt_shared.specs.Sharing.{Enters, FindsJournal, HasRead, HasReplay, IsWholeJournal};
 
 use crate::entries::{Journal, JournalEntry, Receipt};
 use crate::journaled::Journaled;
@@ -22,8 +24,8 @@ use zt_protocol::Call;
 /// The right to call a shared gateway, for one thread at a time.
 pub type Pass<K> = zt_passes::Pass<Journaled<K>>;
 
-/// A gateway with its journal behind a lock, that passes call from any thread. Contracts see the table that
-/// it stands in.
+/// A gateway with its journal behind a lock, that passes call from any thread. Contracts see the
+/// table that it stands in.
 #[derive(Drop)]
 pub struct SharedGateway<K: Key> {
     shared: SharedRecorder<Journaled<K>>,
@@ -53,8 +55,8 @@ pub struct CloseError<K: Key> {
 }
 
 impl<K: Key> SharedGateway<K> {
-    /// Shares a gateway at which no message waits, and gives the pass with number 0. The only error is want
-    /// of memory, and it drops the gateway.
+    /// Shares a gateway at which no message waits, and gives the pass with number 0. The only error
+    /// is want of memory, and it drops the gateway.
     pub fn new(alloc: Global, gateway: Gateway<K>) -> Result<(SharedGateway<K>, Pass<K>), Memory>
         requires { gateway.waiting ≡ [] }
         ensures { IfOk result (λ made. made.1 ≡ first_pass made.0 (opened gateway)) }
@@ -66,8 +68,8 @@ impl<K: Key> SharedGateway<K> {
         }
     }
 
-    /// Makes another pass, which has seen what the given one has. It takes no memory. `Spent` comes where
-    /// 4294967295 numbers are found to be drawn, and the given pass keeps that.
+    /// Makes another pass, which has seen what the given one has. It takes no memory. `Spent` comes
+    /// where 4294967295 numbers are found to be drawn, and the given pass keeps that.
     pub fn pass(&self, pass: &mut Pass<K>) -> Result<Pass<K>, Spent>
         requires own { pass.old.table ≡ self.now }
         ensures made { IfOk result (λ made. made ≡ made_pass made.number pass.old) }
@@ -79,9 +81,10 @@ impl<K: Key> SharedGateway<K> {
         self.shared.pass(pass)
     }
 
-    /// Waits for the lock and makes the call; a first id is at least 1. The call and what it came to are
-    /// added to the journal, and the receipt tells of that entry, whose place is at least what the pass had
-    /// seen. The only error is want of memory: then nothing was added, and the call is dropped.
+    /// Waits for the lock and makes the call; a first id is at least 1. The call and what it came
+    /// to are added to the journal, and the receipt tells of that entry, whose place is at least
+    /// what the pass had seen. The only error is want of memory: then nothing was added, and the
+    /// call is dropped. Either way the pass then has the journal, which is a replay.
     pub fn call<R: Wait>(
         &self,
         rt: &R,
@@ -94,6 +97,7 @@ impl<K: Key> SharedGateway<K> {
             Enters K.cmp K.matching (plain_call call) receipt pass.old pass.new) }
         ensures err { IfErr result (λ _. FindsJournal pass.old pass.new.found
             × (pass.new ≡ record pass.old { found = pass.new.found })) }
+        ensures replay { IfErr result (λ _. HasReplay K.cmp K.matching pass.new) }
     {
         match self.shared.call(rt, pass, call) {
             Ok(receipt) => Ok(receipt),
@@ -110,8 +114,8 @@ impl<K: Key> SharedGateway<K> {
         self.shared.front(pass)
     }
 
-    /// Waits for the lock and copies the entry at the place, or answers `None` where the journal is no
-    /// longer. The pass has then seen the journal. The only error is want of memory.
+    /// Waits for the lock and copies the entry at the place, or answers `None` where the journal is
+    /// no longer. The pass has then seen the journal. The only error is want of memory.
     pub fn read_entry<R: Wait>(
         &self,
         rt: &R,
@@ -130,8 +134,8 @@ impl<K: Key> SharedGateway<K> {
         }
     }
 
-    /// Ends the sharing: gives the journal where all passes that were ever made are handed in. It takes no
-    /// memory.
+    /// Ends the sharing: gives the journal where all passes that were ever made are handed in. It
+    /// takes no memory.
     pub fn close(self, passes: Vec<Pass<K>>) -> Result<Journal<K>, CloseError<K>>
         requires some { 0 < length passes.items }
         requires own { AllByRecursion (λ pass. pass.table ≡ self) passes.items }

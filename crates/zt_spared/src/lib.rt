@@ -1,11 +1,12 @@
-//! Which tokens faces are told of, and told that they are gone, line for line: theorems over the machine of `zt_model`,
-//! each the contract of a function that does nothing.
+//! Which tokens faces are told of, and told that they are gone, line for line: theorems over the
+//! machine of `zt_model`, each the contract of a function that does nothing.
 #![tactic(auto)]
 
 ghost use Rattle.std.specs.Prelude.{List};
 ghost use Rattle.zt_protocol.specs.Plain.{PlainLine};
 ghost use Rattle.zt_model.specs.Fabric.{Fabric};
-ghost use Rattle.zt_model.specs.Promises.{IsMoreSparing, IsSparing, UndeclaresWhatIsGone, UndeclaresWhatWasKept};
+ghost use Rattle.zt_model.specs.Promises.{IsMoreSparing, IsSparing, UndeclaresWhatIsGone};
+ghost use Rattle.zt_model.specs.Promises.{UndeclaresWhatWasKept};
 ghost use Rattle.zt_model.specs.Transcript.{Each};
 ghost use Rattle.zt_laws.specs.Order.{FabricIsInOrder};
 ghost use Rattle.zt_laws.specs.Shown.{turns_of};
@@ -21,9 +22,9 @@ pub fn turns_undeclare_what_is_gone<K: Key>()
         → Each (UndeclaresWhatIsGone K.cmp K.matching) (turns_of K.cmp K.matching lines s) }
 {}
 
-/// Each turn of the machine's transcript is sparing. Outside router regions a token that
-/// answers nobody is printed for a face only with a real id, and only if the face seeks it then; an answer only for a token
-/// ask of its id that it matches.
+/// Each turn of the machine's transcript is sparing. Outside router regions a token that answers
+/// nobody is printed for a face only with a real id, and only if the face seeks it then; an answer
+/// only for a token ask of its id that it matches.
 pub fn turns_are_sparing<K: Key>()
     ensures { (lines : List (PlainLine K)) (s : Fabric K) → Each HasFirstIds lines
         → FabricIsInOrder K.cmp K.matching s

@@ -1,5 +1,6 @@
 // The open faces, found and changed by their numbers.
-ghost use Rattle.std.specs.Prelude.{◌≡◌, ◌==◌, ◌<◌, ◌++◌, ◌∷◌, [], filter, if◌then◌else◌, get_or, length, map, not, set, IfNone, IfOk, IfSome, OnErr, OnOk};
+ghost use Rattle.std.specs.Prelude.{◌≡◌, ◌==◌, ◌<◌, ◌++◌, ◌∷◌, [], filter, if◌then◌else◌, get_or};
+ghost use Rattle.std.specs.Prelude.{length, map, not, set, IfNone, IfOk, IfSome, OnErr, OnOk};
 ghost use Rattle.std.specs.Option.{option_copied};
 ghost use Rattle.zt_model.specs.Lists.{first_where};
 ghost use Rattle.zt_model.specs.Rows.{Face};
@@ -196,8 +197,8 @@ impl<K: Key> Faces<K> {
         )
     }
 
-    /// A face more, whose number is the next above `made`. The only error is want of memory, and then the
-    /// faces stay.
+    /// A face more, whose number is the next above `made`. The only error is want of memory, and
+    /// then the faces stay.
     pub fn push(&mut self, face: FaceState<K>, made: u32) -> Result<(), Memory>
         requires up_to { AreUpTo (λ f. f.number) made self.old }
         requires above { made < face.number }

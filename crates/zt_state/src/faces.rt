@@ -31,7 +31,8 @@ impl<K: Key> FaceChange<K> for EndPending {
 impl<K: Key> QuietChange<K> for EndPending {
     ghost use Rattle.std.specs.Prelude.{refl};
 
-    ghost keeps_live = { λ _ _. record { number = refl; region = refl; live = refl; held = refl; told = refl } };
+    ghost keeps_live = { λ _ _.
+        record { number = refl; region = refl; live = refl; held = refl; told = refl } };
 }
 
 #[derive(Drop)]
@@ -55,7 +56,8 @@ impl<K: Key> FaceChange<K> for FinaliseInitial {
 impl<K: Key> QuietChange<K> for FinaliseInitial {
     ghost use Rattle.std.specs.Prelude.{refl};
 
-    ghost keeps_live = { λ _ _. record { number = refl; region = refl; live = refl; held = refl; told = refl } };
+    ghost keeps_live = { λ _ _.
+        record { number = refl; region = refl; live = refl; held = refl; told = refl } };
 }
 
 #[derive(Drop)]
@@ -79,7 +81,8 @@ impl<K: Key> FaceChange<K> for DropAsks {
 impl<K: Key> QuietChange<K> for DropAsks {
     ghost use Rattle.std.specs.Prelude.{refl};
 
-    ghost keeps_live = { λ _ _. record { number = refl; region = refl; live = refl; held = refl; told = refl } };
+    ghost keeps_live = { λ _ _.
+        record { number = refl; region = refl; live = refl; held = refl; told = refl } };
 }
 
 #[tactic(auto, unfolding(zt_model::specs::Parts::with_face))]

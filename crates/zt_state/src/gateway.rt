@@ -63,9 +63,9 @@ impl KeptTable {
     }
 }
 
-/// A gateway: its settings, its open faces in order of number, the tokens of its router regions, the
-/// tables of these, and the numbers of expressions. A change that lacked memory may be half made: such
-/// changes are for a copy that is dropped then.
+/// A gateway: its settings, its open faces in order of number, the tokens of its router regions,
+/// the tables of these, and the numbers of expressions. A change that lacked memory may be half
+/// made: such changes are for a copy that is dropped then.
 #[derive(Drop)]
 pub struct GatewayState<K: Key> {
     pub(crate) mode: WhatAmI,
@@ -103,7 +103,8 @@ impl<K: Key> Model for GatewayState<K> {
       faces = g.faces;
     } };
 
-    ghost invariant = { λ g. IsIndexed K.cmp K.anchored g.zid g.made g.routed g.faces g.live g.seekers };
+    ghost invariant = { λ g. IsIndexed K.cmp K.anchored g.zid g.made g.routed g.faces g.live
+        g.seekers };
 }
 
 impl<K: Key> GatewayState<K> {
@@ -177,9 +178,10 @@ impl<K: Key> GatewayState<K> {
         self.moment
     }
 
-    /// How many faces were made.
+    /// How many faces were made. No open face's number is above it.
     pub fn made(&self) -> u32
-        ensures { result ≡ self.now.made }
+        ensures made { result ≡ self.now.made }
+        ensures up_to { AreUpTo (λ f. f.number) result self.now.faces }
     {
         self.made
     }
@@ -222,14 +224,15 @@ impl<K: Key> GatewayState<K> {
     /// The numbers of the faces to the north, in order.
     pub fn north(&self) -> &[u32]
         ensures rising { IsRising (λ f. f.number) self.now.faces }
-        ensures north { result.now ≡ map (λ f. f.number) (filter (λ f. is_north f.region) self.now.faces) }
+        ensures north { result.now
+            ≡ map (λ f. f.number) (filter (λ f. is_north f.region) self.now.faces) }
     {
         self.seekers.north()
     }
 
-    /// The numbers of the faces that may be told of the expression, in order: those to the north, and
-    /// those that hold an interest in its tokens. A look-up. `None` where the expression can't be looked
-    /// up, as a key expression with wild ends. The only error is want of memory.
+    /// The numbers of the faces that may be told of the expression, in order: those to the north,
+    /// and those that hold an interest in its tokens. A look-up. `None` where the expression can't
+    /// be looked up, as a key expression with wild ends. The only error is want of memory.
     pub fn find_seekers(&self, alloc: Global, expr: &K) -> Result<Option<Vec<u32>>, Memory>
         ensures rising { IsRising (λ f. f.number) self.now.faces }
         ensures found { IfOk result (λ found. IfSome found (λ numbers. numbers.items
@@ -245,9 +248,9 @@ impl<K: Key> GatewayState<K> {
         self.seekers.told_count(expr)
     }
 
-    /// The interests in tokens of the expression, or in all tokens where it is `None`, each under its
-    /// face and id, and maybe interests in other expressions among them. A look-up, which takes no
-    /// memory.
+    /// The interests in tokens of the expression, or in all tokens where it is `None`, each under
+    /// its face and id, and maybe interests in other expressions among them. A look-up, which takes
+    /// no memory.
     pub fn interests_in(&self, about: &Option<K>) -> &[((u32, u32), Option<K>)]
         ensures rising { IsRising (λ f. f.number) self.now.faces }
         ensures all { HasAllIn about.now (flat_map token_rows self.now.faces) result.now }

@@ -17,5 +17,6 @@ mod walk;
 
 pub use gateway::{GatewayState, KeptTable};
 pub use zt_face::{
-    AskState, FaceState, LocalTokens, PendingInterest, RemoteInterest, RowsById, is_among,
+    AskState, FaceState, LocalInterests, LocalTokens, PendingInterest, RemoteInterest, RowsById,
+    is_among,
 };

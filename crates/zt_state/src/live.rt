@@ -1,5 +1,6 @@
 // What faces declare, and how many live tokens of each expression that makes in each region.
-ghost use Rattle.std.specs.Prelude.{◌≡◌, ◌==◌, [], true, filter, flat_map, if◌then◌else◌, map, not, OnOk};
+ghost use Rattle.std.specs.Prelude.{◌≡◌, ◌==◌, [], true, filter, flat_map, if◌then◌else◌, map, not};
+ghost use Rattle.std.specs.Prelude.{OnOk};
 ghost use Rattle.std.specs.FinMap.Entries.{is_sorted};
 ghost use Rattle.std.specs.List.{AllByRecursion};
 ghost use Rattle.std.specs.Option.{option_copied};
@@ -73,8 +74,8 @@ fn uncount<K: Key>(live: &mut LiveCounts<K>, f: &FaceState<K>, id: TokenId)
     }
 }
 
-// A token of the id is counted in place of the one that was there, if any. The only error is want of
-// memory.
+// A token of the id is counted in place of the one that was there, if any. The only error is want
+// of memory.
 fn recount<K: Key>(
     alloc: Global,
     live: &mut LiveCounts<K>,
@@ -83,7 +84,8 @@ fn recount<K: Key>(
     expr: &K,
 ) -> Result<(), Memory>
     requires { HasLiveInOrder f.now }
-    ensures { OnOk result (Recounts K.cmp (rows_of_face f.now) (rows_of_face (registered id expr.now f.now))
+    ensures { OnOk result (Recounts K.cmp (rows_of_face f.now)
+        (rows_of_face (registered id expr.now f.now))
         live.old live.new) }
 {
     uncount(live, f, id);

@@ -1,6 +1,7 @@
 // The numbers of expressions, and the entities of faces, whose expressions have one.
 ghost use Rattle.std.specs.Prelude.{◌≡◌, ◌++◌, ◌∷◌, [], if◌then◌else◌, map, OnOk};
-ghost use Rattle.zt_model.specs.Entities.{entity_expressions, numbered_with, with_entities, with_numbers};
+ghost use Rattle.zt_model.specs.Entities.{entity_expressions, numbered_with, with_entities};
+ghost use Rattle.zt_model.specs.Entities.{with_numbers};
 ghost use Rattle.zt_model.specs.Lists.{is_among};
 ghost use Rattle.zt_model.specs.Parts.{with_face};
 
@@ -90,7 +91,8 @@ impl<'a, K: Key> FaceAddition<K> for SetsEntities<'a, K> {
 impl<'a, K: Key> QuietAddition<K> for SetsEntities<'a, K> {
     ghost use Rattle.std.specs.Prelude.{refl};
 
-    ghost keeps_live = { λ _ _. record { number = refl; region = refl; live = refl; held = refl; told = refl } };
+    ghost keeps_live = { λ _ _.
+        record { number = refl; region = refl; live = refl; held = refl; told = refl } };
 }
 
 impl<K: Key> GatewayState<K> {

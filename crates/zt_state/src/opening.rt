@@ -14,7 +14,8 @@ use zt_keys::{Key, Memory};
 use zt_region::{Bound, Region, WhatAmI, Zid};
 use zt_seekers::Seekers;
 
-// A face opens that holds nothing and was told nothing yet, under a number above `made`. The only error is want of memory.
+// A face opens that holds nothing and was told nothing yet, under a number above `made`. The only
+// error is want of memory.
 fn open_in<K: Key>(
     faces: &mut Faces<K>,
     seekers: &mut Seekers<K>,

@@ -3,7 +3,9 @@ ghost use Rattle.std.specs.Prelude.{◌≡◌, ◌∷◌, [], not, filter, map, 
 ghost use Rattle.std.specs.FinMap.Entries.{put};
 ghost use Rattle.zt_protocol.specs.Plain.{trees_of};
 ghost use Rattle.zt_model.specs.Lists.{with_key};
-ghost use Rattle.zt_model.specs.Trees.{is_routed_row, region_order, routed_order, row_at, with_own_rows, with_routed, with_table, without_left_out, without_routed};
+ghost use Rattle.zt_model.specs.Trees.{is_routed_row, region_order, routed_order, row_at};
+ghost use Rattle.zt_model.specs.Trees.{with_own_rows, with_routed, with_table, without_left_out};
+ghost use Rattle.zt_model.specs.Trees.{without_routed};
 ghost use Rattle.zt_indexes.specs.Recounts.{Recounts};
 ghost use Rattle.zt_routed.specs.Routed.{rows_of};
 ghost use Rattle.zt_state.specs.Indexed.{routed_live};
@@ -29,7 +31,8 @@ fn count_token<K: Key>(
     source: Zid,
     expr: &K,
 ) -> Result<(), Memory>
-    ensures { OnOk result (Recounts K.cmp [] (routed_live zid (row_at K.cmp region source expr.now ∷ []))
+    ensures { OnOk result (Recounts K.cmp []
+        (routed_live zid (row_at K.cmp region source expr.now ∷ []))
         live.old live.new) }
 {
     if source != zid {
@@ -79,7 +82,8 @@ fn drop_row<K: Key>(
     expr: &K,
 )
     ensures rows { routed.new
-        ≡ filter (λ row. not (is_routed_row K.cmp (row_at K.cmp region source expr.now) row)) routed.old }
+        ≡ filter (λ row. not (is_routed_row K.cmp (row_at K.cmp region source expr.now) row))
+        routed.old }
     ensures counts { Recounts K.cmp (routed_live zid routed.old)
         (routed_live zid routed.new) live.old live.new }
 {
@@ -116,7 +120,8 @@ fn uncount_if_left_out<K: Key>(
     keys: &BTreeSet<K>,
 )
     ensures { Recounts K.cmp (routed_live zid (rows_of (origin, keys.now)))
-        (routed_live zid (listed_rows K.cmp region (trees_of table.now) (rows_of (origin, keys.now))))
+        (routed_live zid (listed_rows K.cmp region (trees_of table.now)
+        (rows_of (origin, keys.now))))
         live.old live.new }
 {
     if is_left_out(region, table, origin) {
@@ -133,9 +138,10 @@ fn uncount_left_out<K: Key>(
     table: &TreeTable,
 )
     ensures { Recounts K.cmp (routed_live zid routed.now)
-        (routed_live zid (listed_rows K.cmp region (trees_of table.now) routed.now)) live.old live.new }
+        (routed_live zid (listed_rows K.cmp region (trees_of table.now) routed.now)) live.old
+        live.new }
 {
-    for (origin, keys) in routed.sources() {
+    for (origin, keys) in routed.by_origin() {
         uncount_if_left_out(live, zid, region, table, *origin, keys);
     }
 }

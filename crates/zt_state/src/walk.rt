@@ -93,8 +93,8 @@ impl<K: Key> GatewayState<K> {
         self.faces.change(number, change);
     }
 
-    // Changes the face of a number in what it neither declares nor holds, nor was told. The only error is
-    // want of memory.
+    // Changes the face of a number in what it neither declares nor holds, nor was told. The only
+    // error is want of memory.
     pub(crate) fn add_to_face<C: QuietAddition<K>>(
         &mut self,
         alloc: Global,

@@ -1,7 +1,10 @@
 //! Sources and sinks over memory, for tests and for runs whose text is thrown away.
-ghost use Rattle.std.specs.Prelude.{◌≡◌, ◌+◌, ◌-◌, ◌^◌, ◌<◌, ◌≤◌, ◌||◌, nat_le, min, take, length, Some, None, IfOk, OnOk, OnErr, is_err, MatchResult};
+ghost use Rattle.std.specs.Prelude.{◌≡◌, ◌+◌, ◌-◌, ◌^◌, ◌<◌, ◌≤◌, ◌||◌, nat_le, min, take, length};
+ghost use Rattle.std.specs.Prelude.{Some, None, IfOk, OnOk, OnErr, is_err, MatchResult};
 ghost use Rattle.std.specs.Io.KnownBytes.{Appends, Consumes, IsAtEnd, Keeps};
-ghost use Rattle.zt_streams.specs.Streams.{HasRisen, is_listed, new_supply, amount_given, after_giving, after_giving_none, new_store, amount_taken, after_taking, after_taking_none};
+ghost use Rattle.zt_streams.specs.Streams.{HasRisen, is_listed, new_supply, amount_given};
+ghost use Rattle.zt_streams.specs.Streams.{after_giving, after_giving_none, new_store};
+ghost use Rattle.zt_streams.specs.Streams.{amount_taken, after_taking, after_taking_none};
 
 use crate::outside::{Failed, Sink, Source};
 use std::alloc::{AllocError, Global};
@@ -65,11 +68,13 @@ impl Source for MemorySource {
         requires { 0 < length buf.old }
         ensures fails { is_err result ≡ is_listed self.old.failing self.old.calls }
         ensures amount { IfOk result (λ n. n ≡ amount_given self.old (length buf.old)) }
-        ensures after { MatchResult result (λ n. self.new ≡ after_giving self.old n) (λ _. self.new ≡ after_giving_none self.old) }
+        ensures after { MatchResult result (λ n. self.new ≡ after_giving self.old n)
+            (λ _. self.new ≡ after_giving_none self.old) }
 
         // What the trait ensures.
         ensures fits { IfOk result (λ n. n ≤ length buf.new) }
-        ensures given { IfOk result (λ n. Consumes (Some self.old.left) (Some self.new.left) (take n buf.new)) }
+        ensures given { IfOk result
+            (λ n. Consumes (Some self.old.left) (Some self.new.left) (take n buf.new)) }
         ensures end { IfOk result (λ n. n ≡ 0 → IsAtEnd (Some self.new.left)) }
         ensures kept { OnErr result (Keeps (Some self.old.left) (Some self.new.left)) }
         ensures fault { OnErr result (HasRisen self.old.faults self.new.faults) }
@@ -156,14 +161,19 @@ impl Sink for MemorySink {
 
     fn write(&mut self, bytes: &[u8]) -> Result<usize, Failed>
         requires { 0 < length bytes.now }
-        ensures fails { is_err result ≡ (is_listed self.old.failing self.old.calls || nat_le self.old.room (length self.old.bytes)) }
+        ensures fails { is_err result
+            ≡ (is_listed self.old.failing self.old.calls
+            || nat_le self.old.room (length self.old.bytes)) }
         ensures amount { IfOk result (λ n. n ≡ amount_taken self.old (length bytes.now)) }
-        ensures after { MatchResult result (λ n. self.new ≡ after_taking self.old (take n bytes.now)) (λ _. self.new ≡ after_taking_none self.old) }
+        ensures after { MatchResult result
+            (λ n. self.new ≡ after_taking self.old (take n bytes.now))
+            (λ _. self.new ≡ after_taking_none self.old) }
 
         // What the trait ensures.
         ensures some { IfOk result (λ n. 0 < n) }
         ensures fits { IfOk result (λ n. n ≤ length bytes.now) }
-        ensures added { IfOk result (λ n. Appends (Some self.old.bytes) (Some self.new.bytes) (take n bytes.now)) }
+        ensures added { IfOk result
+            (λ n. Appends (Some self.old.bytes) (Some self.new.bytes) (take n bytes.now)) }
         ensures kept { OnErr result (Keeps (Some self.old.bytes) (Some self.new.bytes)) }
         ensures fault { OnErr result (HasRisen self.old.faults self.new.faults) }
         ensures calm { OnOk result (self.new.faults ≡ self.old.faults) }

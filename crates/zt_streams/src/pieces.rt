@@ -1,9 +1,11 @@
 //! A text in pieces, cut into its lines.
-ghost use Rattle.std.specs.Prelude.{◌≡◌, ◌≤◌, [], ◌++◌, IfOk, OnOk, OnErr, map, length, drop, vec_len, slice_get};
+ghost use Rattle.std.specs.Prelude.{◌≡◌, ◌≤◌, [], ◌++◌, IfOk, OnOk, OnErr, map, length, drop};
+ghost use Rattle.std.specs.Prelude.{vec_len, slice_get};
 ghost use Rattle.std.specs.Borrow.{sem};
 ghost use Rattle.std.specs.List.{flat_map};
 ghost use Rattle.std.specs.Option.{option_copied};
-ghost use Rattle.zt_streams.specs.Lines.{lines_of, whole_lines, rest_of, last_line, TakesLine, TakesRest};
+ghost use Rattle.zt_streams.specs.Lines.{lines_of, whole_lines, rest_of, last_line, TakesLine};
+ghost use Rattle.zt_streams.specs.Lines.{TakesRest};
 ghost use Rattle.zt_streams.specs.Feeding.{FindsFeed};
 
 use memchr::memchr;
@@ -51,8 +53,8 @@ impl Feeder {
         ensures ok { OnOk result (self.new ≡ self.old ++ piece.now) }
         ensures err { OnErr result (self.new ≡ self.old) }
     {
-        // What was given makes room. Where lines were taken what is left is at most a piece, so that
-        // little is moved.
+        // What was given makes room. Where lines were taken what is left is at most a piece, so
+        // that little is moved.
         if self.start > 0 {
             drop_front(&mut self.bytes, self.start);
             self.seen -= self.start;
@@ -68,10 +70,12 @@ impl Feeder {
         self.bytes.len() - self.start
     }
 
-    /// The oldest whole line not yet given, without its line feed. None exactly where there is none.
+    /// The oldest whole line not yet given, without its line feed. None exactly where there is
+    /// none.
     pub fn next_line(&mut self) -> Option<&[u8]>
         ensures first { option_copied result ≡ slice_get (whole_lines self.old) 0 }
-        ensures* after { sem 𝓛 (Rests the_row self.entry (λ new. TakesLine self.old (option_copied result) new)) }
+        ensures* after { sem 𝓛
+            (Rests the_row self.entry (λ new. TakesLine self.old (option_copied result) new)) }
     {
         let start = self.start;
         match find_feed(&self.bytes, self.seen) {
@@ -92,7 +96,8 @@ impl Feeder {
     pub fn finish(&mut self) -> Option<&[u8]>
         requires { whole_lines self.old ≡ [] }
         ensures rest { option_copied result ≡ slice_get (last_line (rest_of self.old)) 0 }
-        ensures* after { sem 𝓛 (Rests the_row self.entry (λ new. TakesRest self.old (option_copied result) new)) }
+        ensures* after { sem 𝓛
+            (Rests the_row self.entry (λ new. TakesRest self.old (option_copied result) new)) }
     {
         let start = self.start;
         let end = self.bytes.len();
@@ -107,7 +112,8 @@ impl Feeder {
 
 /// The lines of a text that comes in these pieces: the same however it was cut.
 pub fn lines_in_pieces(alloc: Global, pieces: &[Vec<u8>]) -> Result<Vec<Vec<u8>>, AllocError>
-    ensures { IfOk result (λ lines. map (λ line. line.items) lines.items ≡ lines_of (flat_map (λ piece. piece.items) pieces.now)) }
+    ensures { IfOk result (λ lines. map (λ line. line.items) lines.items
+        ≡ lines_of (flat_map (λ piece. piece.items) pieces.now)) }
 {
     let mut feeder = Feeder::new(alloc);
     let mut lines = Vec::new(alloc);

@@ -1,5 +1,6 @@
 //! A whole script, up to the most that is read of one.
-ghost use Rattle.std.specs.Prelude.{◌≡◌, ◌<◌, ◌≤◌, ◌↔◌, ◌++◌, ◌+◌, false, IsTrue, OnOk, take, length, vec_len, IfOk, IfSome, Err};
+ghost use Rattle.std.specs.Prelude.{◌≡◌, ◌<◌, ◌≤◌, ◌↔◌, ◌++◌, ◌+◌, false, IsTrue, OnOk, take};
+ghost use Rattle.std.specs.Prelude.{length, vec_len, IfOk, IfSome, Err};
 ghost use Rattle.zt_streams.specs.Streams.{HasRisen, Spends, TakesFront};
 ghost use Rattle.std.specs.Io.KnownBytes.{IsAtEnd};
 
@@ -43,11 +44,15 @@ pub fn read_script<S: Source>(alloc: Global, source: &mut S) -> Result<Script, S
 
     // At every source.
     ensures taken { IfOk result (λ script.
-        TakesFront SCRIPT_BYTES (S.left source.old) (S.left source.new) script.bytes.items script.longer) }
+        TakesFront SCRIPT_BYTES (S.left source.old)
+        (S.left source.new) script.bytes.items script.longer) }
     ensures bound { IfOk result (λ script. vec_len script.bytes ≤ SCRIPT_BYTES) }
-    ensures full { IfOk result (λ script. IsTrue script.longer → vec_len script.bytes ≡ SCRIPT_BYTES) }
-    ensures fault { result ≡ Err ScriptError.Fault → HasRisen (S.faults source.old) (S.faults source.new) }
-    ensures calm { (result ≡ Err ScriptError.Fault → ⊥) → S.faults source.new ≡ S.faults source.old }
+    ensures full { IfOk result
+        (λ script. IsTrue script.longer → vec_len script.bytes ≡ SCRIPT_BYTES) }
+    ensures fault { result ≡ Err ScriptError.Fault
+        → HasRisen (S.faults source.old) (S.faults source.new) }
+    ensures calm { (result ≡ Err ScriptError.Fault → ⊥)
+        → S.faults source.new ≡ S.faults source.old }
     ensures count { S.faults source.old ≤ S.faults source.new }
     ensures reads { S.reads source.new ≤ S.reads source.old + (SCRIPT_BYTES + 1) }
 {
@@ -78,12 +83,16 @@ pub fn read_script<S: Source>(alloc: Global, source: &mut S) -> Result<Script, S
 // Adds what of the piece there is room for, and answers whether that isn't all.
 fn take_piece(bytes: &mut Vec<u8>, piece: &[u8]) -> Result<bool, AllocError>
     requires { vec_len bytes.old ≤ SCRIPT_BYTES }
-    ensures added { OnOk result (bytes.new.items ≡ take SCRIPT_BYTES (bytes.old.items ++ piece.now)) }
-    ensures whole { IfOk result (λ longer. longer ≡ false → bytes.new.items ≡ bytes.old.items ++ piece.now) }
-    ensures longer { IfOk result (λ longer. IsTrue longer ↔ (SCRIPT_BYTES < length (bytes.old.items ++ piece.now))) }
+    ensures added { OnOk result
+        (bytes.new.items ≡ take SCRIPT_BYTES (bytes.old.items ++ piece.now)) }
+    ensures whole { IfOk result
+        (λ longer. longer ≡ false → bytes.new.items ≡ bytes.old.items ++ piece.now) }
+    ensures longer { IfOk result
+        (λ longer. IsTrue longer ↔ (SCRIPT_BYTES < length (bytes.old.items ++ piece.now))) }
     ensures bound { OnOk result (vec_len bytes.new ≤ SCRIPT_BYTES) }
     ensures full { IfOk result (λ longer. IsTrue longer → vec_len bytes.new ≡ SCRIPT_BYTES) }
-    ensures grown { IfOk result (λ longer. longer ≡ false → vec_len bytes.new ≡ vec_len bytes.old + length piece.now) }
+    ensures grown { IfOk result
+        (λ longer. longer ≡ false → vec_len bytes.new ≡ vec_len bytes.old + length piece.now) }
 {
     let room = SCRIPT_BYTES - bytes.len();
     bytes.extend_from_slice(&piece[..room.min(piece.len())])?;

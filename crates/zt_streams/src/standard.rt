@@ -1,5 +1,6 @@
 //! Standard input and output as a source and a sink. What they give and take no clause says.
-ghost use Rattle.std.specs.Prelude.{◌≡◌, ◌<◌, ◌≤◌, None, IfOk, OnOk, OnErr, MatchResult, length, take};
+ghost use Rattle.std.specs.Prelude.{◌≡◌, ◌<◌, ◌≤◌, None, IfOk, OnOk, OnErr, MatchResult, length};
+ghost use Rattle.std.specs.Prelude.{take};
 ghost use Rattle.std.specs.Io.KnownBytes.{Appends, Keeps};
 ghost use Rattle.zt_streams.specs.Streams.{HasRisen, next_count};
 
@@ -43,7 +44,8 @@ impl<R: Input> Source for StdSource<R> {
 
     fn read(&mut self, buf: &mut [u8]) -> Result<usize, Failed>
         requires { 0 < length buf.old }
-        ensures after { MatchResult result (λ _. self.new ≡ self.old) (λ _. self.new ≡ next_count self.old) }
+        ensures after { MatchResult result (λ _. self.new ≡ self.old)
+            (λ _. self.new ≡ next_count self.old) }
 
         // What the trait ensures.
         ensures fits { IfOk result (λ n. n ≤ length buf.new) }
@@ -92,7 +94,8 @@ impl<P: Print> Sink for StdSink<'_, P> {
 
     fn write(&mut self, bytes: &[u8]) -> Result<usize, Failed>
         requires { 0 < length bytes.now }
-        ensures after { MatchResult result (λ _. self.new ≡ self.old) (λ _. self.new ≡ next_count self.old) }
+        ensures after { MatchResult result (λ _. self.new ≡ self.old)
+            (λ _. self.new ≡ next_count self.old) }
 
         // What the trait ensures.
         ensures some { IfOk result (λ n. 0 < n) }

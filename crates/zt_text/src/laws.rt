@@ -8,18 +8,22 @@ ghost use Rattle.zt_text.specs.Text.{entries_text, sent_text, transcript_text};
 
 use zt_keys::Key;
 
-/// A message's printed form is read as the message, and where a key has one spelling nothing else is: what
-/// `read_sent` gives is then the message of which the line is the printed form.
+/// A message's printed form is read as the message, and where a key has one spelling nothing else
+/// is: what `read_sent` gives is then the message of which the line is the printed form.
 ///
-/// So no two messages have one printed form, of those whose options have no bits but the five named ones.
+/// So no two messages have one printed form, of those whose options have no bits but the five named
+/// ones.
 pub fn printing_is_read<K: Key>()
-    ensures printed { (bytes : List ℕ) (sent : Sent K) → IsSent sent → bytes ++ 10 ∷ [] ≡ sent_text K.printed sent → sent_read K.reading bytes ≡ Ok sent }
-    ensures read { OneSpelling K.reading K.printed → (bytes : List ℕ) (sent : Sent K) → sent_read K.reading bytes ≡ Ok sent → IsSent sent × (bytes ++ 10 ∷ [] ≡ sent_text K.printed sent) }
+    ensures printed { (bytes : List ℕ) (sent : Sent K) → IsSent sent
+        → bytes ++ 10 ∷ [] ≡ sent_text K.printed sent → sent_read K.reading bytes ≡ Ok sent }
+    ensures read { OneSpelling K.reading K.printed → (bytes : List ℕ) (sent : Sent K)
+        → sent_read K.reading bytes ≡ Ok sent → IsSent sent
+        × (bytes ++ 10 ∷ [] ≡ sent_text K.printed sent) }
 {}
 
-/// A transcript's text names one transcript: other entries have another text, with the totals behind them or, where
-/// a run ended early, without. The numbers of messages are within their types, and their options have no bits but
-/// the five named ones.
+/// A transcript's text names one transcript: other entries have another text, with the totals
+/// behind them or, where a run ended early, without. The numbers of messages are within their
+/// types, and their options have no bits but the five named ones.
 pub fn texts_tell_transcripts_apart<K: Key>()
     ensures whole { (es fs : List (PlainEntry K)) (one two : Report) → ArePrinted es → ArePrinted fs
         → transcript_text K.printed es one ≡ transcript_text K.printed fs two → es ≡ fs }

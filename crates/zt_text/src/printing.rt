@@ -1,11 +1,15 @@
-// The printed text. The private functions add to a text, and leave a part of what they add where memory runs out.
-ghost use Rattle.std.specs.Prelude.{◌≡◌, ◌++◌, ◌∷◌, [], map, take, decimal, IsUtf8, codes, OnOk, OnErr, IfOk, is_ok, if◌then◌else◌, string_bytes};
+// The printed text. The private functions add to a text, and leave a part of what they add where
+// memory runs out.
+ghost use Rattle.std.specs.Prelude.{◌≡◌, ◌++◌, ◌∷◌, [], map, take, decimal, IsUtf8, codes, OnOk};
+ghost use Rattle.std.specs.Prelude.{OnErr, IfOk, is_ok, if◌then◌else◌, string_bytes};
 ghost use Rattle.std.specs.List.{flat_map};
 ghost use Rattle.zt_protocol.specs.Interest.{has_bits};
 ghost use Rattle.zt_protocol.specs.Plain.{plain_entry};
 ghost use Rattle.zt_protocol.specs.Refusal.{name_of};
-ghost use Rattle.zt_text.specs.Text.{Begins, spaced, line_of, key_fields, message_fields, sent_text, entry_text, report_text};
-ghost use Rattle.zt_fields.specs.Spellings.{letter_if, letters_of, options_text, interest_mode_text, flag_text};
+ghost use Rattle.zt_text.specs.Text.{Begins, spaced, line_of, key_fields, message_fields};
+ghost use Rattle.zt_text.specs.Text.{sent_text, entry_text, report_text};
+ghost use Rattle.zt_fields.specs.Spellings.{letter_if, letters_of, options_text};
+ghost use Rattle.zt_fields.specs.Spellings.{interest_mode_text, flag_text};
 
 use bitflags::Flags;
 use itoa::Buffer;
@@ -15,7 +19,8 @@ use zt_protocol::{Entry, InterestMode, InterestOptions, Message, Report, Sent};
 
 /// Adds a field.
 fn put_field(out: &mut String, field: &str) -> Result<(), Memory>
-    ensures ok { OnOk result (string_bytes out.new ≡ string_bytes out.old ++ spaced (field.now ∷ [])) }
+    ensures ok { OnOk result (string_bytes out.new
+        ≡ string_bytes out.old ++ spaced (field.now ∷ [])) }
     ensures err { OnErr result (Begins (string_bytes out.old) (string_bytes out.new)) }
 {
     out.push(' ')?;
@@ -24,7 +29,8 @@ fn put_field(out: &mut String, field: &str) -> Result<(), Memory>
 }
 
 fn put_number(out: &mut String, number: u64) -> Result<(), Memory>
-    ensures ok { OnOk result (string_bytes out.new ≡ string_bytes out.old ++ spaced (decimal number ∷ [])) }
+    ensures ok { OnOk result (string_bytes out.new
+        ≡ string_bytes out.old ++ spaced (decimal number ∷ [])) }
     ensures err { OnErr result (Begins (string_bytes out.old) (string_bytes out.new)) }
 {
     let mut buffer = Buffer::new();
@@ -33,7 +39,8 @@ fn put_number(out: &mut String, number: u64) -> Result<(), Memory>
 
 /// Adds a word and numbers.
 fn put_head(out: &mut String, word: &str, numbers: &[u32]) -> Result<(), Memory>
-    ensures ok { OnOk result (string_bytes out.new ≡ string_bytes out.old ++ spaced (word.now ∷ map decimal numbers.now)) }
+    ensures ok { OnOk result (string_bytes out.new
+        ≡ string_bytes out.old ++ spaced (word.now ∷ map decimal numbers.now)) }
     ensures err { OnErr result (Begins (string_bytes out.old) (string_bytes out.new)) }
 {
     put_field(out, word)?;
@@ -44,7 +51,8 @@ fn put_head(out: &mut String, word: &str, numbers: &[u32]) -> Result<(), Memory>
 }
 
 fn put_key<K: Key>(out: &mut String, key: &K) -> Result<(), Memory>
-    ensures ok { OnOk result (string_bytes out.new ≡ string_bytes out.old ++ spaced (K.printed key.now ∷ [])) }
+    ensures ok { OnOk result (string_bytes out.new
+        ≡ string_bytes out.old ++ spaced (K.printed key.now ∷ [])) }
     ensures err { OnErr result (Begins (string_bytes out.old) (string_bytes out.new)) }
 {
     out.push(' ')?;
@@ -52,7 +60,8 @@ fn put_key<K: Key>(out: &mut String, key: &K) -> Result<(), Memory>
 }
 
 fn put_optional_key<K: Key>(out: &mut String, key: &Option<K>) -> Result<(), Memory>
-    ensures ok { OnOk result (string_bytes out.new ≡ string_bytes out.old ++ spaced (key_fields K.printed key.now)) }
+    ensures ok { OnOk result (string_bytes out.new
+        ≡ string_bytes out.old ++ spaced (key_fields K.printed key.now)) }
     ensures err { OnErr result (Begins (string_bytes out.old) (string_bytes out.new)) }
 {
     match key {
@@ -67,7 +76,8 @@ fn put_letter(
     bit: InterestOptions,
     letter: &str,
 ) -> Result<(), Memory>
-    ensures ok { OnOk result (string_bytes out.new ≡ string_bytes out.old ++ (if has_bits bit.0 options then letter.now else [])) }
+    ensures ok { OnOk result (string_bytes out.new
+        ≡ string_bytes out.old ++ (if has_bits bit.0 options then letter.now else [])) }
     ensures err { OnErr result (Begins (string_bytes out.old) (string_bytes out.new)) }
 {
     if options.contains(bit) {
@@ -89,7 +99,8 @@ fn put_letters(out: &mut String, options: InterestOptions) -> Result<(), Memory>
 }
 
 fn put_options(out: &mut String, options: InterestOptions) -> Result<(), Memory>
-    ensures ok { OnOk result (string_bytes out.new ≡ string_bytes out.old ++ spaced (options_text options ∷ [])) }
+    ensures ok { OnOk result (string_bytes out.new
+        ≡ string_bytes out.old ++ spaced (options_text options ∷ [])) }
     ensures err { OnErr result (Begins (string_bytes out.old) (string_bytes out.new)) }
 {
     out.push(' ')?;
@@ -117,7 +128,10 @@ fn put_interest<K: Key>(
     options: InterestOptions,
     expr: &Option<K>,
 ) -> Result<(), Memory>
-    ensures ok { OnOk result (string_bytes out.new ≡ string_bytes out.old ++ spaced (codes "interest" ∷ decimal id ∷ interest_mode_text mode ∷ options_text options ∷ key_fields K.printed expr.now)) }
+    ensures ok { OnOk result (string_bytes out.new
+        ≡ string_bytes out.old
+        ++ spaced (codes "interest" ∷ decimal id ∷ interest_mode_text mode ∷ options_text options
+        ∷ key_fields K.printed expr.now)) }
     ensures err { OnErr result (Begins (string_bytes out.old) (string_bytes out.new)) }
 {
     put_head(out, "interest", &[id])?;
@@ -127,7 +141,8 @@ fn put_interest<K: Key>(
 }
 
 fn put_message<K: Key>(out: &mut String, message: &Message<K>) -> Result<(), Memory>
-    ensures ok { OnOk result (string_bytes out.new ≡ string_bytes out.old ++ spaced (message_fields K.printed message.now)) }
+    ensures ok { OnOk result (string_bytes out.new
+        ≡ string_bytes out.old ++ spaced (message_fields K.printed message.now)) }
     ensures err { OnErr result (Begins (string_bytes out.old) (string_bytes out.new)) }
 {
     match message {
@@ -184,7 +199,8 @@ fn put_message<K: Key>(out: &mut String, message: &Message<K>) -> Result<(), Mem
 }
 
 fn put_sent<K: Key>(out: &mut String, sent: &Sent<K>) -> Result<(), Memory>
-    ensures ok { OnOk result (string_bytes out.new ≡ string_bytes out.old ++ sent_text K.printed sent.now) }
+    ensures ok { OnOk result (string_bytes out.new
+        ≡ string_bytes out.old ++ sent_text K.printed sent.now) }
     ensures err { OnErr result (Begins (string_bytes out.old) (string_bytes out.new)) }
 {
     out.push('>')?;
@@ -196,7 +212,8 @@ fn put_sent<K: Key>(out: &mut String, sent: &Sent<K>) -> Result<(), Memory>
 }
 
 fn put_all<K: Key>(out: &mut String, sents: &[Sent<K>]) -> Result<(), Memory>
-    ensures ok { OnOk result (string_bytes out.new ≡ string_bytes out.old ++ flat_map (sent_text K.printed) sents.now) }
+    ensures ok { OnOk result (string_bytes out.new
+        ≡ string_bytes out.old ++ flat_map (sent_text K.printed) sents.now) }
     ensures err { OnErr result (Begins (string_bytes out.old) (string_bytes out.new)) }
 {
     for sent in sents {
@@ -206,7 +223,8 @@ fn put_all<K: Key>(out: &mut String, sents: &[Sent<K>]) -> Result<(), Memory>
 }
 
 fn put_entry<K: Key>(out: &mut String, line: u64, entry: &Entry<K>) -> Result<(), Memory>
-    ensures ok { OnOk result (string_bytes out.new ≡ string_bytes out.old ++ entry_text K.printed line (plain_entry entry.now)) }
+    ensures ok { OnOk result (string_bytes out.new
+        ≡ string_bytes out.old ++ entry_text K.printed line (plain_entry entry.now)) }
     ensures err { OnErr result (Begins (string_bytes out.old) (string_bytes out.new)) }
 {
     let mut buffer = Buffer::new();
@@ -226,7 +244,8 @@ fn put_entry<K: Key>(out: &mut String, line: u64, entry: &Entry<K>) -> Result<()
 }
 
 fn put_report(out: &mut String, report: &Report) -> Result<(), Memory>
-    ensures ok { OnOk result (string_bytes out.new ≡ string_bytes out.old ++ report_text report.now) }
+    ensures ok { OnOk result (string_bytes out.new
+        ≡ string_bytes out.old ++ report_text report.now) }
     ensures err { OnErr result (Begins (string_bytes out.old) (string_bytes out.new)) }
 {
     let mut buffer = Buffer::new();
@@ -251,7 +270,8 @@ fn undo(out: &mut String, before: usize)
 /// The only error is want of memory, and it leaves `out` as it was.
 pub fn write_entry<K: Key>(out: &mut String, line: u64, entry: &Entry<K>) -> Result<(), Memory>
     ensures { string_bytes out.new
-        ≡ (if is_ok result then string_bytes out.old ++ entry_text K.printed line (plain_entry entry.now) else string_bytes out.old) }
+        ≡ (if is_ok result then string_bytes out.old
+        ++ entry_text K.printed line (plain_entry entry.now) else string_bytes out.old) }
 {
     let before = out.len();
     let result = put_entry(out, line, entry);
@@ -266,7 +286,8 @@ pub fn write_entry<K: Key>(out: &mut String, line: u64, entry: &Entry<K>) -> Res
 /// The only error is want of memory, and it leaves `out` as it was.
 pub fn write_report(out: &mut String, report: &Report) -> Result<(), Memory>
     ensures { string_bytes out.new
-        ≡ (if is_ok result then string_bytes out.old ++ report_text report.now else string_bytes out.old) }
+        ≡ (if is_ok result then string_bytes out.old ++ report_text report.now
+        else string_bytes out.old) }
 {
     let before = out.len();
     let result = put_report(out, report);
@@ -278,7 +299,8 @@ pub fn write_report(out: &mut String, report: &Report) -> Result<(), Memory>
 
 /// The text of an entry, with the number of its line. The only error is want of memory.
 pub fn print_entry<K: Key>(alloc: Global, line: u64, entry: &Entry<K>) -> Result<String, Memory>
-    ensures { IfOk result (λ text. string_bytes text ≡ entry_text K.printed line (plain_entry entry.now)) }
+    ensures { IfOk result (λ text. string_bytes text
+        ≡ entry_text K.printed line (plain_entry entry.now)) }
 {
     let mut text = String::new(alloc);
     write_entry(&mut text, line, entry)?;

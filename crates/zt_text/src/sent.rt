@@ -2,7 +2,10 @@
 ghost use Rattle.std.specs.Prelude.{◌≡◌, Some};
 ghost use Rattle.std.specs.Option.{option_copied};
 ghost use Rattle.zt_fields.specs.Fields.{Gives, Finds, fields_left};
-ghost use Rattle.zt_text.specs.Sent.{last_key_at, last_optional_key_at, token_at, answer_at, untoken_at, final_at, asked_at, asked_final_at, subscriber_message_at, queryable_message_at, message_by, sent_behind, sent_at, sent_read};
+ghost use Rattle.zt_text.specs.Sent.{last_key_at, last_optional_key_at, token_at, answer_at};
+ghost use Rattle.zt_text.specs.Sent.{untoken_at, final_at, asked_at, asked_final_at};
+ghost use Rattle.zt_text.specs.Sent.{subscriber_message_at, queryable_message_at, message_by};
+ghost use Rattle.zt_text.specs.Sent.{sent_behind, sent_at, sent_read};
 
 use std::alloc::Global;
 use zt_fields::{end_at, field_at, flag_at, key_at, value_at};
@@ -11,7 +14,8 @@ use zt_protocol::{LineError, Message, QueryableInfo, Sent};
 
 #[tactic(auto, unfolding(crate::specs::Sent::last_key_at))]
 fn last_key_at<K: Key>(alloc: Global, rest: Option<&str>) -> Result<K, LineError>
-    ensures { Finds (λ key. key) result (last_key_at K.reading (fields_left (option_copied rest.entry))) }
+    ensures { Finds (λ key. key) result
+        (last_key_at K.reading (fields_left (option_copied rest.entry))) }
 {
     let (key, rest) = key_at(alloc, rest)?;
     end_at(rest)?;
@@ -20,7 +24,8 @@ fn last_key_at<K: Key>(alloc: Global, rest: Option<&str>) -> Result<K, LineError
 
 #[tactic(auto, unfolding(crate::specs::Sent::last_optional_key_at))]
 fn last_optional_key_at<K: Key>(alloc: Global, rest: Option<&str>) -> Result<Option<K>, LineError>
-    ensures { Finds (λ key. key) result (last_optional_key_at K.reading (fields_left (option_copied rest.entry))) }
+    ensures { Finds (λ key. key) result
+        (last_optional_key_at K.reading (fields_left (option_copied rest.entry))) }
 {
     match end_at(rest) {
         Ok(()) => Ok(None),
@@ -61,7 +66,8 @@ fn answer<K: Key>(alloc: Global, rest: Option<&str>) -> Result<Message<K>, LineE
 
 #[tactic(auto, unfolding(crate::specs::Sent::untoken_at))]
 fn untoken<K: Key>(alloc: Global, rest: Option<&str>) -> Result<Message<K>, LineError>
-    ensures { Finds (λ m. m) result (untoken_at K.reading (fields_left (option_copied rest.entry))) }
+    ensures { Finds (λ m. m) result
+        (untoken_at K.reading (fields_left (option_copied rest.entry))) }
 {
     let (id, rest) = value_at(rest)?;
     let (node_id, rest) = value_at(rest)?;
@@ -105,7 +111,8 @@ fn interest_final<K>(rest: Option<&str>) -> Result<Message<K>, LineError>
 
 #[tactic(auto, unfolding(crate::specs::Sent::subscriber_message_at))]
 fn subscriber<K: Key>(alloc: Global, rest: Option<&str>) -> Result<Message<K>, LineError>
-    ensures { Finds (λ m. m) result (subscriber_message_at K.reading (fields_left (option_copied rest.entry))) }
+    ensures { Finds (λ m. m) result
+        (subscriber_message_at K.reading (fields_left (option_copied rest.entry))) }
 {
     let (interest_id, rest) = value_at(rest)?;
     let (id, rest) = value_at(rest)?;
@@ -119,7 +126,8 @@ fn subscriber<K: Key>(alloc: Global, rest: Option<&str>) -> Result<Message<K>, L
 
 #[tactic(auto, unfolding(crate::specs::Sent::queryable_message_at))]
 fn queryable<K: Key>(alloc: Global, rest: Option<&str>) -> Result<Message<K>, LineError>
-    ensures { Finds (λ m. m) result (queryable_message_at K.reading (fields_left (option_copied rest.entry))) }
+    ensures { Finds (λ m. m) result
+        (queryable_message_at K.reading (fields_left (option_copied rest.entry))) }
 {
     let (interest_id, rest) = value_at(rest)?;
     let (id, rest) = value_at(rest)?;
@@ -136,7 +144,8 @@ fn queryable<K: Key>(alloc: Global, rest: Option<&str>) -> Result<Message<K>, Li
 
 #[tactic(auto, unfolding(crate::specs::Sent::message_by))]
 fn message<K: Key>(alloc: Global, word: &str, rest: Option<&str>) -> Result<Message<K>, LineError>
-    ensures { Finds (λ m. m) result (message_by K.reading word.now (fields_left (option_copied rest.entry))) }
+    ensures { Finds (λ m. m) result
+        (message_by K.reading word.now (fields_left (option_copied rest.entry))) }
 {
     match word {
         "token" => token(alloc, rest),
@@ -153,7 +162,8 @@ fn message<K: Key>(alloc: Global, word: &str, rest: Option<&str>) -> Result<Mess
 
 #[tactic(auto, unfolding(crate::specs::Sent::sent_behind))]
 fn sent_behind<K: Key>(alloc: Global, rest: Option<&str>) -> Result<Sent<K>, LineError>
-    ensures { Finds (λ s. s) result (sent_behind K.reading (fields_left (option_copied rest.entry))) }
+    ensures { Finds (λ s. s) result
+        (sent_behind K.reading (fields_left (option_copied rest.entry))) }
 {
     let (gateway, rest) = value_at(rest)?;
     let (face, rest) = value_at(rest)?;
@@ -179,9 +189,10 @@ fn sent<K: Key>(alloc: Global, text: &str) -> Result<Sent<K>, LineError>
 
 /// The message that a line of a transcript prints, without the line feed.
 ///
-/// `NotUtf8` comes exactly where the bytes aren't UTF-8, `NotInGrammar` exactly where they are and the
-/// line's fields spell no message. The only other error is want of memory. For keys of one spelling, as key
-/// expressions are, the answer is `Ok` exactly on message lines, unless memory runs out.
+/// `NotUtf8` comes exactly where the bytes aren't UTF-8, `NotInGrammar` exactly where they are and
+/// the line's fields spell no message. The only other error is want of memory. For keys of one
+/// spelling, as key expressions are, the answer is `Ok` exactly on message lines, unless memory
+/// runs out.
 #[tactic(auto, unfolding(crate::specs::Sent::sent_read))]
 pub fn read_sent<K: Key>(alloc: Global, bytes: &[u8]) -> Result<Sent<K>, LineError>
     ensures { Gives (λ s. s) result (sent_read K.reading bytes.now) }

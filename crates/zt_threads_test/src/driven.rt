@@ -22,8 +22,8 @@ const TWO_DECLARE: &str = "gateway client 1\nsession 1\nsession 1\ndeclare 1 1 a
 
 const SECOND_FIRST: &str = "1 ok\n2 ok\n3 ok\n5 ok\n4 ok\ntotal 5 0 0\n";
 
-// Holds the worker of line 4 up until line 5 has been carried out. It gives up after so many turns, and
-// lines are carried out in the order of the script then.
+// Holds the worker of line 4 up until line 5 has been carried out. It gives up after so many turns,
+// and lines are carried out in the order of the script then.
 #[derive(Drop)]
 struct FifthFirst {
     fifth_is_done: AtomicBool,

@@ -1,5 +1,5 @@
-//! Tests of scripts that many workers carry out on one gateway: that runs succeed, and that workers work
-//! at the same time. No clause says either.
+//! Tests of scripts that many workers carry out on one gateway: that runs succeed, and that workers
+//! work at the same time. No clause says either.
 #![tactic(auto)]
 
 #[cfg(test)]

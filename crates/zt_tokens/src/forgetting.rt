@@ -38,8 +38,8 @@ fn forget_untold_to<K: Key>(
     Ok(())
 }
 
-// Whether a face was neither told the expression nor wants it, so that it hears nothing of it in any case:
-// cheaper to ask than what is visible.
+// Whether a face was neither told the expression nor wants it, so that it hears nothing of it in
+// any case: cheaper to ask than what is visible.
 fn is_unheard<K: Key>(f: &FaceState<K>, expr: &K) -> bool
     ensures untold { result ≡ true → told_id K.cmp expr.now f.now.told ≡ None }
     ensures unwanted { result ≡ true → wants K.matching f.now expr.now ≡ false }
@@ -127,8 +127,8 @@ fn are_all_kept<K: Key>(g: &GatewayState<K>, expr: &K, numbers: &[u32]) -> bool
 }
 
 /// The faces that can't see an expression any more hear that it is gone from a region: Zenoh's
-/// `unpropagate_token`. Those alone are asked that seek it, unless another one was told it. The only error
-/// is want of memory.
+/// `unpropagate_token`. Those alone are asked that seek it, unless another one was told it. The
+/// only error is want of memory.
 pub fn forget<K: Key>(
     alloc: Global,
     g: &GatewayState<K>,

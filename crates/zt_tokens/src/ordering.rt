@@ -25,8 +25,8 @@ fn place_for<K: Key>(keys: &[K], key: &K) -> Option<usize>
     Some(keys.len())
 }
 
-/// Puts a copy of a key in its place among keys in order, unless it is there. The only error is want
-/// of memory.
+/// Puts a copy of a key in its place among keys in order, unless it is there. The only error is
+/// want of memory.
 pub fn insert_in_order<K: Key>(alloc: Global, keys: &mut Vec<K>, key: &K) -> Result<(), Memory>
     ensures { OnOk result (keys.new.items ≡ with_key K.cmp key.now keys.old.items) }
 {

@@ -43,8 +43,8 @@ impl<'a, K: Key> FaceRule<K> for Tells<'a, K> {
     }
 }
 
-/// The faces hear of a token that was declared in a region: Zenoh's `propagate_token`. The only error
-/// is want of memory.
+/// The faces hear of a token that was declared in a region: Zenoh's `propagate_token`. The only
+/// error is want of memory.
 pub fn tell<K: Key>(
     alloc: Global,
     g: &GatewayState<K>,

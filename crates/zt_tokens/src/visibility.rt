@@ -20,8 +20,8 @@ pub fn visible_expressions<K: Key>(
     g.live().shown_keys(alloc, &ShownTo(own))
 }
 
-/// The expressions that match the key and are visible to faces of a region, in key order, each once.
-/// The only error is want of memory.
+/// The expressions that match the key and are visible to faces of a region, in key order, each
+/// once. The only error is want of memory.
 pub fn visible_matches<K: Key>(
     alloc: Global,
     g: &GatewayState<K>,

@@ -1,5 +1,6 @@
-//! What asks of trees aren't answered: theorems over the definitions of `zt_model`, each the contract of a function that does
-//! nothing. `specs/Tokens.antt` has the words for tokens of a kind. What asks get `zt_tree_answers` proves.
+//! What asks of trees aren't answered: theorems over the definitions of `zt_model`, each the
+//! contract of a function that does nothing. `specs/Tokens.antt` has the words for tokens of a
+//! kind. What asks get `zt_tree_answers` proves.
 #![tactic(auto)]
 
 ghost use Rattle.std.specs.Prelude.{◌≡◌, Bool, true, List};
@@ -18,9 +19,9 @@ ghost use Rattle.zt_tree_asks.specs.Tokens.{CallIn, IsIn, SaysIn};
 
 use zt_keys::Key;
 
-/// Tokens come from tokens: where each live row of a gateway and each row of another router is of a kind, and the token of a
-/// call too, each token that the call declares to a face is of that kind, and so are all rows that it leaves. A table that is
-/// set is to be of a region without faces.
+/// Tokens come from tokens: where each live row of a gateway and each row of another router is of a
+/// kind, and the token of a call too, each token that the call declares to a face is of that kind,
+/// and so are all rows that it leaves. A table that is set is to be of a region without faces.
 pub fn calls_declare_what_was_declared<K: Key>()
     ensures said { (test : K → Bool) (c : PlainCall K) (g : Rows K)
         → CallIn (λ (e : K). test e ≡ true) g c → IsIn (λ (e : K). test e ≡ true) g
@@ -30,10 +31,11 @@ pub fn calls_declare_what_was_declared<K: Key>()
         → IsIn (λ (e : K). test e ≡ true) (rows_after_call K.cmp K.matching c g) }
 {}
 
-/// What an ask of a tree doesn't get, of every list of lines: in a transcript of trees that refuses no line for want of ids, a
-/// token ask of a plain face, made where all links are empty and not disturbed up to its final, is answered only
-/// expressions that were live at some plain face since the asking. So it is from the empty fabric on, and from each that is
-/// sound and of trees that agree.
+/// What an ask of a tree doesn't get, of every list of lines: in a transcript of trees that refuses
+/// no line for want of ids, a token ask of a plain face, made where all links are empty and not
+/// disturbed up to its final, is answered only expressions that were live at some plain face since
+/// the asking. So it is from the empty fabric on, and from each that is sound and of trees that
+/// agree.
 pub fn asks_get_only_what_was<K: Key>()
     ensures start { (lines : List (PlainLine K)) → Each HasFirstIds lines
         → (let turns = turns_of K.cmp K.matching lines empty_fabric in

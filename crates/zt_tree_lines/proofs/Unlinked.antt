@@ -262,12 +262,12 @@ module _ {K : Type 0} (cmp : K → K → Ordering) (matching : K → K → Bool)
         ∙ but_for_alike cmp matching fs (said_closing cmp matching fs s) (closed_ends cmp matching fs s) (all_apart cmp matching fs (closed_ends cmp matching fs s) (ends_apart cmp matching total fs s fine))
         ∙ both_closed
 
-    abbrev W0 : ById (List (Message K))
-    W0 = without_id l.one (without_id l.two s.waiting)
+    abbrev left-waiting : ById (List (Message K))
+    left-waiting = without_id l.one (without_id l.two s.waiting)
 
-    queues_are : map (λ row. (row.0, row.1 ++ printed_for row.0 ms)) W0 ≡ s2.waiting
+    queues_are : map (λ row. (row.0, row.1 ++ printed_for row.0 ms)) left-waiting ≡ s2.waiting
     queues_are =
-        queues_same ms (sorted_by_face m1) (sorted_by_face m2) W0
+        queues_same ms (sorted_by_face m1) (sorted_by_face m2) left-waiting
         (each_both (λ row. not (l.one == row.0) ≡ true) (λ row. not (l.two == row.0) ≡ true) (λ row. printed_for row.0 ms ≡ printed_for row.0 (sorted_by_face m1) ++ printed_for row.0 (sorted_by_face m2))
         (λ row one two.
         printed_sorted row.0 (filter (λ m. not (is_of cmp matching fs m)) (said_closing cmp matching fs s))
@@ -277,7 +277,7 @@ module _ {K : Type 0} (cmp : K → K → Ordering) (matching : K → K → Bool)
         ∙ ap (λ xs. printed_for row.0 m1 ++ printed_for row.0 xs) (append-nil m2)
         ∙ ap (λ xs. xs ++ printed_for row.0 m2) (sym (printed_sorted row.0 m1))
         ∙ ap (λ xs. printed_for row.0 (sorted_by_face m1) ++ xs) (sym (printed_sorted row.0 m2)))
-        W0 (each_passes (λ row. not (l.one == row.0)) (without_id l.two s.waiting)) (each_filter (λ row. not (l.two == row.0) ≡ true) (λ row. not (l.one == row.0)) (without_id l.two s.waiting) (each_passes (λ row. not (l.two == row.0)) s.waiting)))
+        left-waiting (each_passes (λ row. not (l.one == row.0)) (without_id l.two s.waiting)) (each_filter (λ row. not (l.two == row.0) ≡ true) (λ row. not (l.one == row.0)) (without_id l.two s.waiting) (each_passes (λ row. not (l.two == row.0)) s.waiting)))
       where
         neither : (a b : Bool) → not a ≡ true → not b ≡ true → (a || (b || false)) ≡ false
         neither true b one two = cc
@@ -299,8 +299,8 @@ module _ {K : Type 0} (cmp : K → K → Ordering) (matching : K → K → Bool)
         ap (λ ks. with_waiting (said_of ks) (after_hearing cmp (said_of ks) (without_link n (closed_ends cmp matching ks s)))) fs_is
         ∙ ap (λ Y. with_waiting ms (after_hearing cmp ms (without_link n Y))) closed_is
         ∙ ap (λ (o : Option Link). with_waiting ms (after_hearing cmp ms (let t : Fabric K = elim o [ None ↦ Y2 | Some link ↦ record Y2 { links = at_nth n closed s.links; waiting = without_id link.one (without_id link.two s.waiting) } ] in t))) at_l
-        ∙ ap (with_waiting ms) (heard_elsewhere (at_nth n closed s.links) W0)
-        ∙ ap (λ (X : Fabric K). with_waiting ms (record X { links = at_nth n closed s.links; waiting = W0 })) heard_is
+        ∙ ap (with_waiting ms) (heard_elsewhere (at_nth n closed s.links) left-waiting)
+        ∙ ap (λ (X : Fabric K). with_waiting ms (record X { links = at_nth n closed s.links; waiting = left-waiting })) heard_is
         ∙ ap (λ (w : ById (List (Message K))). record X2 { links = at_nth n closed s.links; waiting = w }) queues_are
 
     unlinked : TreesAgree cmp matching Then

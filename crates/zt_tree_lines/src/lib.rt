@@ -1,6 +1,6 @@
-//! Trees of client gateways over every list of lines: theorems over the definitions of `zt_model`, each the contract of a
-//! function that does nothing. They stand on `zt_trees`, which says what is true of trees after every line, and on
-//! `zt_tree_calls`, what calls leave of single gateways.
+//! Trees of client gateways over every list of lines: theorems over the definitions of `zt_model`,
+//! each the contract of a function that does nothing. They stand on `zt_trees`, which says what is
+//! true of trees after every line, and on `zt_tree_calls`, what calls leave of single gateways.
 #![tactic(auto)]
 
 ghost use Rattle.std.specs.Prelude.{◌≡◌, ◌≢◌, List, Err};
@@ -18,9 +18,10 @@ ghost use Rattle.zt_trees.specs.Facts.{TreesAgree};
 
 use zt_keys::Key;
 
-/// Every line keeps what is true of trees, be it accepted or refused, links opening and closing in any order, where the
-/// fabric after it is still one of trees and it wasn't refused for want of ids. Opening a link is opening two faces and
-/// joining them; closing it is taking it out and closing two faces.
+/// Every line keeps what is true of trees, be it accepted or refused, links opening and closing in
+/// any order, where the fabric after it is still one of trees and it wasn't refused for want of
+/// ids. Opening a link is opening two faces and joining them; closing it is taking it out and
+/// closing two faces.
 pub fn lines_keep_trees<K: Key>()
     ensures { (line : PlainLine K) (s : Fabric K) → HasFirstIds line
         → FabricIsInOrder K.cmp K.matching s → TreesAgree K.cmp K.matching s
@@ -29,10 +30,10 @@ pub fn lines_keep_trees<K: Key>()
         IsTreeFabric after → TreesAgree K.cmp K.matching after) }
 {}
 
-/// Knowledge, of every list of lines: in a transcript of trees that refuses no line for want of ids, after each turn that leaves
-/// all links empty, each open plain face that asked for tokens now and later keeps, of what it covers, exactly what is live
-/// at plain faces of its gateway's tree. So it is from the empty fabric on, and from each that is sound and of trees that
-/// agree.
+/// Knowledge, of every list of lines: in a transcript of trees that refuses no line for want of
+/// ids, after each turn that leaves all links empty, each open plain face that asked for tokens now
+/// and later keeps, of what it covers, exactly what is live at plain faces of its gateway's tree.
+/// So it is from the empty fabric on, and from each that is sound and of trees that agree.
 pub fn turns_know_their_trees<K: Key>()
     ensures start { (lines : List (PlainLine K)) → Each HasFirstIds lines
         → (let turns = turns_of K.cmp K.matching lines empty_fabric in

@@ -1,10 +1,11 @@
-//! Trees of client gateways come to rest: theorems over the definitions of `zt_model`, each the contract of a function
-//! that does nothing. `specs/Steps.antt` says how many steps can follow one another at the most, and `specs/Rest.antt`
-//! what is true of trees where no step follows any more;
+//! Trees of client gateways come to rest: theorems over the definitions of `zt_model`, each the
+//! contract of a function that does nothing. `specs/Steps.antt` says how many steps can follow one
+//! another at the most, and `specs/Rest.antt` what is true of trees where no step follows any more;
 //! `specs/Ways.antt` has the words for which way messages go on.
 #![tactic(auto)]
 
-ghost use Rattle.std.specs.Prelude.{◌≡◌, ◌≢◌, ◌⊎◌, ◌+◌, ◌≤◌, ℕ, Bool, true, false, List, length, Some, Err};
+ghost use Rattle.std.specs.Prelude.{◌≡◌, ◌≢◌, ◌⊎◌, ◌+◌, ◌≤◌, ℕ, Bool, true, false, List, length};
+ghost use Rattle.std.specs.Prelude.{Some, Err};
 ghost use Rattle.zt_region.specs.Region.{is_north};
 ghost use Rattle.zt_protocol.specs.Plain.{PlainCall, PlainLine, Step};
 ghost use Rattle.zt_protocol.specs.declared.errors.Refusal.TheVariants.{IdsSpent};
@@ -18,14 +19,17 @@ ghost use Rattle.zt_model.specs.TreePromises.{IsTreeFabric, IsTreeTurn, are_link
 ghost use Rattle.zt_laws.specs.Sound.{HasFirstIds};
 ghost use Rattle.zt_kept.specs.Sound.{IsSound};
 ghost use Rattle.zt_trees.specs.Facts.{IsTreeGateway};
-ghost use Rattle.zt_tree_rest.specs.Rest.{IsAtRest, NoneFollows, StepsFollow, TreesStand, fabric_after_all};
-ghost use Rattle.zt_tree_rest.specs.Steps.{QueuesStand, messages_waiting, most_steps, plain_most, takes_message};
+ghost use Rattle.zt_tree_rest.specs.Rest.{IsAtRest, NoneFollows, StepsFollow, TreesStand};
+ghost use Rattle.zt_tree_rest.specs.Rest.{fabric_after_all};
+ghost use Rattle.zt_tree_rest.specs.Steps.{QueuesStand, messages_waiting, most_steps, plain_most};
+ghost use Rattle.zt_tree_rest.specs.Steps.{takes_message};
 ghost use Rattle.zt_tree_rest.specs.Ways.{ComesFromAbove, ComesFromBelow, going_up, is_for_above};
 
 use zt_keys::Key;
 
-/// Messages go on away from where they came, at a sound gateway of a tree. What a gateway above sends makes nothing go up
-/// again. What a gateway below sends makes at most one message go up, beside ends of interests.
+/// Messages go on away from where they came, at a sound gateway of a tree. What a gateway above
+/// sends makes nothing go up again. What a gateway below sends makes at most one message go up,
+/// beside ends of interests.
 pub fn messages_go_on_away<K: Key>()
     ensures above { (g : Rows K) (n : ℕ) (f : Face K) (c : PlainCall K)
         → IsSound K.cmp K.matching g → IsTreeGateway K.cmp K.matching g
@@ -37,8 +41,8 @@ pub fn messages_go_on_away<K: Key>()
         → going_up g (said K.cmp K.matching c g) ≤ 1 }
 {}
 
-/// What fabrics of trees have at first, every line leaves, be it accepted or refused, where the fabric after it is still
-/// one of trees and the line wasn't refused for want of ids.
+/// What fabrics of trees have at first, every line leaves, be it accepted or refused, where the
+/// fabric after it is still one of trees and the line wasn't refused for want of ids.
 pub fn trees_stand_after_every_line<K: Key>()
     ensures start { TreesStand K.cmp K.matching empty_fabric }
     ensures step { (line : PlainLine K) (s : Fabric K)
@@ -48,10 +52,11 @@ pub fn trees_stand_after_every_line<K: Key>()
         entry ≢ Err IdsSpent → IsTreeFabric after → TreesStand K.cmp K.matching after) }
 {}
 
-/// Steps come to an end. Where nothing but steps comes, each of which takes a message and isn't refused for want of ids,
-/// at most `most_steps` follow one another, and as many fewer as messages still wait: `bounded`. It is the same whether a
-/// message's call is accepted or refused. `plainly` has a bound in plain numbers. Where a message waits, a step takes
-/// one: `goes_on`. A step that takes none changes nothing: `still`.
+/// Steps come to an end. Where nothing but steps comes, each of which takes a message and isn't
+/// refused for want of ids, at most `most_steps` follow one another, and as many fewer as messages
+/// still wait: `bounded`. It is the same whether a message's call is accepted or refused. `plainly`
+/// has a bound in plain numbers. Where a message waits, a step takes one: `goes_on`. A step that
+/// takes none changes nothing: `still`.
 pub fn steps_come_to_an_end<K: Key>()
     ensures bounded { (lines : List (PlainLine K)) (s : Fabric K)
         → TreesStand K.cmp K.matching s → StepsFollow K.cmp K.matching lines s
@@ -68,9 +73,9 @@ pub fn steps_come_to_an_end<K: Key>()
         takes_message entry ≡ false → fabric_after K.cmp K.matching (Step link back) entry s ≡ s) }
 {}
 
-/// Everybody knows in the end. From a fabric of trees, once steps alone have followed until none follows any more, or so
-/// many as `most_steps` says, nothing waits, and each open plain face keeps, of what it covers, exactly what is live at
-/// plain faces of its gateway's tree.
+/// Everybody knows in the end. From a fabric of trees, once steps alone have followed until none
+/// follows any more, or so many as `most_steps` says, nothing waits, and each open plain face
+/// keeps, of what it covers, exactly what is live at plain faces of its gateway's tree.
 pub fn trees_come_to_rest<K: Key>()
     ensures { (lines : List (PlainLine K)) (s : Fabric K)
         → TreesStand K.cmp K.matching s → IsTreeFabric s
@@ -80,8 +85,8 @@ pub fn trees_come_to_rest<K: Key>()
         → IsAtRest K.cmp K.matching after) }
 {}
 
-/// The same of scripts, from the empty fabric on. Where a transcript of trees refuses no line for want of ids, at most so
-/// many steps follow its last line, and after them all is at rest.
+/// The same of scripts, from the empty fabric on. Where a transcript of trees refuses no line for
+/// want of ids, at most so many steps follow its last line, and after them all is at rest.
 pub fn scripts_come_to_rest<K: Key>()
     ensures bounded { (lines steps : List (PlainLine K))
         → Each HasFirstIds lines

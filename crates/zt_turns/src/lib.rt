@@ -1,11 +1,13 @@
-//! What the turns of a transcript keep of its promises, whatever the lines are: theorems over the machine of
-//! `zt_model`, each the contract of a function that does nothing. They stand on `zt_kept`, what stays true of a gateway.
+//! What the turns of a transcript keep of its promises, whatever the lines are: theorems over the
+//! machine of `zt_model`, each the contract of a function that does nothing. They stand on
+//! `zt_kept`, what stays true of a gateway.
 #![tactic(auto)]
 
 ghost use Rattle.std.specs.Prelude.{◌≡◌, ℕ, Bool, true, false, List, Option, Some, None};
 ghost use Rattle.zt_protocol.specs.Plain.{DeclareToken, PlainLine};
 ghost use Rattle.zt_model.specs.Fabric.{Fabric, empty_fabric};
-ghost use Rattle.zt_model.specs.Promises.{KeepsExactly, TellsOfRouters, TellsTheFuture, TellsWhoWants};
+ghost use Rattle.zt_model.specs.Promises.{KeepsExactly, TellsOfRouters, TellsTheFuture};
+ghost use Rattle.zt_model.specs.Promises.{TellsWhoWants};
 ghost use Rattle.zt_model.specs.Refusals.{call_causes, first_cause};
 ghost use Rattle.zt_model.specs.Rows.{Face, Rows};
 ghost use Rattle.zt_model.specs.Says.{find_face, is_routed, registers};
@@ -18,9 +20,9 @@ ghost use Rattle.zt_kept.specs.Sound.{IsSound};
 
 use zt_keys::Key;
 
-/// After each turn of the machine's transcript faces keep what they should; and where an
-/// admission table refuses no pair, of what they cover exactly what is visible. It is so from each fabric of sound gateways
-/// on, as the transcript shows it, so from the empty one too.
+/// After each turn of the machine's transcript faces keep what they should; and where an admission
+/// table refuses no pair, of what they cover exactly what is visible. It is so from each fabric of
+/// sound gateways on, as the transcript shows it, so from the empty one too.
 pub fn turns_keep_what_is_visible<K: Key>()
     ensures keeps { (lines : List (PlainLine K)) (s : Fabric K) → Each HasFirstIds lines
         → EachGatewayIs K.cmp K.matching (IsSound K.cmp K.matching) s
@@ -33,8 +35,9 @@ pub fn turns_keep_what_is_visible<K: Key>()
         → Each (KeepsExactly K.cmp K.matching) (turns_of K.cmp K.matching lines empty_fabric) }
 {}
 
-/// After a declaration that registers, and after an accepted one of a router region, each face outside router regions
-/// keeps the expression that wants it, if the pair of regions is admitted and the region shown.
+/// After a declaration that registers, and after an accepted one of a router region, each face
+/// outside router regions keeps the expression that wants it, if the pair of regions is admitted
+/// and the region shown.
 pub fn declarations_reach_who_wants<K: Key>()
     ensures plain { (n id node : ℕ) (e : K) (interest : Option ℕ) (f : Face K) (g : Rows K)
         → RowsAreInOrder K.cmp K.matching g → find_face n g ≡ Some f → is_routed g f ≡ false
@@ -51,8 +54,8 @@ pub fn declarations_reach_who_wants<K: Key>()
         (DeclareToken n id e node interest) g) }
 {}
 
-/// So each turn of the machine's transcript tells the future: after an accepted declaration that registers, or that is of a
-/// router region, whoever wants its token keeps it.
+/// So each turn of the machine's transcript tells the future: after an accepted declaration that
+/// registers, or that is of a router region, whoever wants its token keeps it.
 pub fn turns_tell_the_future<K: Key>()
     ensures future { (lines : List (PlainLine K)) (s : Fabric K) → Each HasFirstIds lines
         → FabricIsInOrder K.cmp K.matching s

@@ -12,11 +12,12 @@ use zt_keys::{Key, Memory};
 use zt_protocol::{Call, Message};
 use zt_state::GatewayState;
 
-/// What a gateway keeps, and mostly a second, equal state to carry the next call out on. Where the call
-/// lacks memory the second state is dropped, and the gateway is as it was; where it is done the two change
-/// places, and the former state is brought up to date: it changes what the call itself changes, and its
-/// faces hear what the call said. So no call copies what the gateway keeps, but the first one, and the next
-/// one where there is no second state, and what a call says is found out once.
+/// What a gateway keeps, and mostly a second, equal state to carry the next call out on. Where the
+/// call lacks memory the second state is dropped, and the gateway is as it was; where it is done
+/// the two change places, and the former state is brought up to date: it changes what the call
+/// itself changes, and its faces hear what the call said. So no call copies what the gateway keeps,
+/// but the first one, and the next one where there is no second state, and what a call says is
+/// found out once.
 #[derive(Drop)]
 pub struct TwinState<K: Key> {
     state: GatewayState<K>,
@@ -34,7 +35,8 @@ impl<K: Key> Model for TwinState<K> {
     ghost invariant = { λ t. IfSome t.spare (λ spare. spare ≡ t.state) };
 }
 
-/// A gateway's state after a call, and what the call says. The gateway itself is as before the call.
+/// A gateway's state after a call, and what the call says. The gateway itself is as before the
+/// call.
 #[derive(Drop)]
 pub struct Ahead<K: Key> {
     pub state: GatewayState<K>,
@@ -48,8 +50,8 @@ fn opens_face<K: Key>(call: &Call<K>) -> bool
     matches!(call, Call::NewSession { .. } | Call::NewTransport { .. })
 }
 
-// Carries a call out in place, and answers what it says. Want of memory, and of a number for the face that it
-// opens, leave the state in between.
+// Carries a call out in place, and answers what it says. Want of memory, and of a number for the
+// face that it opens, leave the state in between.
 fn carry_on<K: Key>(
     alloc: Global,
     state: &mut GatewayState<K>,
@@ -66,8 +68,8 @@ fn carry_on<K: Key>(
     carry_out(alloc, state, call)
 }
 
-// Changes what a call itself changes, and lets the faces hear what it says. Want of memory, and of a number
-// for the face that it opens, leave the state in between.
+// Changes what a call itself changes, and lets the faces hear what it says. Want of memory, and of
+// a number for the face that it opens, leave the state in between.
 fn follow<K: Key>(
     alloc: Global,
     state: &mut GatewayState<K>,
@@ -128,8 +130,8 @@ impl<K: Key> TwinState<K> {
         }
     }
 
-    /// Carries a call out beside what the gateway keeps, which is unchanged. The only error is want of
-    /// memory; that there is no number for a face that the call opens counts as such.
+    /// Carries a call out beside what the gateway keeps, which is unchanged. The only error is want
+    /// of memory; that there is no number for a face that the call opens counts as such.
     pub fn prepare(&mut self, alloc: Global, call: &Call<K>) -> Result<Ahead<K>, Memory>
         ensures state { IfOk result (λ ahead. ahead.state
             ≡ rows_after_call K.cmp K.matching (plain_call call.now) self.old) }
@@ -142,8 +144,8 @@ impl<K: Key> TwinState<K> {
         Ok(Ahead { state, said })
     }
 
-    /// Replaces what the gateway keeps, and answers the former state. There is no second one then, until
-    /// `catch_up` makes one.
+    /// Replaces what the gateway keeps, and answers the former state. There is no second one then,
+    /// until `catch_up` makes one.
     pub fn put(&mut self, state: GatewayState<K>) -> GatewayState<K>
         ensures put { self.new ≡ state }
         ensures former { result ≡ self.old }
@@ -152,8 +154,8 @@ impl<K: Key> TwinState<K> {
         mem::replace(&mut self.state, state)
     }
 
-    /// Brings a former state up to date by the call that came after it, and by what that said, so that it
-    /// is the second one. Where memory lacks for that there is none.
+    /// Brings a former state up to date by the call that came after it, and by what that said, so
+    /// that it is the second one. Where memory lacks for that there is none.
     pub fn catch_up(
         &mut self,
         alloc: Global,

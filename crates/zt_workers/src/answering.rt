@@ -1,5 +1,6 @@
 // What lines came to, with their numbers.
-ghost use Rattle.std.specs.Prelude.{◌≡◌, ◌+◌, ◌<◌, ◌^◌, ◌++◌, [], ◌∷◌, Ok, Err, length, map, IfOk, OnOk};
+ghost use Rattle.std.specs.Prelude.{◌≡◌, ◌+◌, ◌<◌, ◌^◌, ◌++◌, [], ◌∷◌, Ok, Err, length, map, IfOk};
+ghost use Rattle.std.specs.Prelude.{OnOk};
 ghost use Rattle.zt_protocol.specs.Plain.{plain_entry};
 ghost use Rattle.zt_replay.specs.Dealt.{numbered_from};
 ghost use Rattle.zt_shared.specs.Recorded.{plain_outcome};

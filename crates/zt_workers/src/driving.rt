@@ -1,7 +1,9 @@
 // A whole run with many workers, from the bytes of a script to those of its transcript.
-ghost use Rattle.std.specs.Prelude.{◌≡◌, ◌+◌, ◌<◌, ◌≤◌, ◌^◌, length, map, vec_len, string_bytes, IfErr, IfOk, IsOkUnless};
+ghost use Rattle.std.specs.Prelude.{◌≡◌, ◌+◌, ◌<◌, ◌≤◌, ◌^◌, length, map, vec_len, string_bytes};
+ghost use Rattle.std.specs.Prelude.{IfErr, IfOk, IsOkUnless};
 ghost use Rattle.zt_fabric.specs.Transcripts.{CountsFaults, streams};
-ghost use Rattle.zt_workers.specs.Answers.{Answers, GivesDriven, Transcribes, answered, totals_of, transcript_text};
+ghost use Rattle.zt_workers.specs.Answers.{Answers, GivesDriven, Transcribes, answered, totals_of};
+ghost use Rattle.zt_workers.specs.Answers.{transcript_text};
 ghost use Rattle.zt_workers.specs.Reading.{ReadingStops};
 
 use crate::answering::Answer;

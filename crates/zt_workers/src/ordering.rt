@@ -1,5 +1,6 @@
 // The lines of a journal's entries.
-ghost use Rattle.std.specs.Prelude.{◌≡◌, ◌+◌, ◌<◌, ◌++◌, [], ◌∷◌, length, map, take, get_or, set, IfOk, IfSome};
+ghost use Rattle.std.specs.Prelude.{◌≡◌, ◌+◌, ◌<◌, ◌++◌, [], ◌∷◌, length, map, take, get_or, set};
+ghost use Rattle.std.specs.Prelude.{IfOk, IfSome};
 ghost use Rattle.zt_shared.specs.Recorded.{journalled};
 ghost use Rattle.zt_workers.specs.Dealing.{HaveLines, NextLine};
 

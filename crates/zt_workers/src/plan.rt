@@ -1,8 +1,10 @@
 // What is read of a script, before any of it is carried out.
-ghost use Rattle.std.specs.Prelude.{◌≡◌, ◌+◌, ◌++◌, [], ◌∷◌, true, false, length, IfOk, IfSome, IfNone};
+ghost use Rattle.std.specs.Prelude.{◌≡◌, ◌+◌, ◌++◌, [], ◌∷◌, true, false, length, IfOk, IfSome};
+ghost use Rattle.std.specs.Prelude.{IfNone};
 ghost use Rattle.zt_model.specs.Journal.{is_driven};
 ghost use Rattle.zt_protocol.specs.Plain.{plain_line};
-ghost use Rattle.zt_workers.specs.Plans.{AddsLine, AreInForm, HasNoPlace, IsPlan, plan_lines, script_lines};
+ghost use Rattle.zt_workers.specs.Plans.{AddsLine, AreInForm, HasNoPlace, IsPlan, plan_lines};
+ghost use Rattle.zt_workers.specs.Plans.{script_lines};
 
 use std::alloc::Global;
 use zt_gateway::GatewayBuilder;

@@ -1,5 +1,6 @@
 // What the program does with its words.
-ghost use Rattle.std.specs.Prelude.{◌≡◌, ◌⊎◌, ℕ, ◌+◌, ◌<◌, ◌≤◌, map, string_bytes, Result, Some, None, IfSome};
+ghost use Rattle.std.specs.Prelude.{◌≡◌, ◌⊎◌, ℕ, ◌+◌, ◌<◌, ◌≤◌, map, string_bytes, Result, Some};
+ghost use Rattle.std.specs.Prelude.{None, IfSome};
 ghost use Rattle.zt_fabric.specs.Transcripts.{CountsFaults, status_of, streams};
 ghost use Rattle.zt_protocol.specs.declared.entries.Report.{Report};
 ghost use Rattle.zt_protocol.specs.declared.errors.RunError.{RunError};

@@ -1,8 +1,10 @@
 // The reading of a whole script.
-ghost use Rattle.std.specs.Prelude.{◌≡◌, ℕ, List, ◌+◌, ◌<◌, ◌≤◌, ◌++◌, [], ◌∷◌, length, vec_len, IfOk, IfErr, OnOk};
+ghost use Rattle.std.specs.Prelude.{◌≡◌, ℕ, List, ◌+◌, ◌<◌, ◌≤◌, ◌++◌, [], ◌∷◌, length, vec_len};
+ghost use Rattle.std.specs.Prelude.{IfOk, IfErr, OnOk};
 ghost use Rattle.zt_streams.specs.Lines.{last_line, rest_of, whole_lines};
 ghost use Rattle.zt_workers.specs.Plans.{LineStops, TextsStop, script_lines};
-ghost use Rattle.zt_workers.specs.Reading.{HasRead, IsReading, ReadingStops, ReadsScript, TakesText};
+ghost use Rattle.zt_workers.specs.Reading.{HasRead, IsReading, ReadingStops, ReadsScript};
+ghost use Rattle.zt_workers.specs.Reading.{TakesText};
 
 use crate::plan::{Plan, add_line};
 use std::alloc::Global;

@@ -1,4 +1,4 @@
-use Rattle.std.proofs.Common.{◌∷◌, [], sym}
+use Rattle.std.proofs.Common.{◌∷◌, [], rules}
 use Rattle.std.proofs.lemmas.Result.{on_ok_weaker}
 use Rattle.zt_calls.proofs.Doing.{does-alter, does-both, does-then}
 use Rattle.zt_model.specs.Parts.{Alter, Say, Sends, to_face, with_face}
@@ -19,6 +19,6 @@ returns g c =
     let final = to_face n (final_of id) in
     let s = c.args.speech.now in
     let one = does-alter cmp matching change c.args.g.now c.ask.new.self s c.in_ok-ask.ensures in
-    let two = does-both cmp matching (Alter change ∷ []) (Say answers ∷ []) c.args.g.now c.ask.new.self c.tell_visible.new.g s s c.tell_visible.new.speech one c.in_ok-tell_visible.ensures in
-    does-then cmp matching c.finish_at_once.result (Alter change ∷ Say answers ∷ []) (Say final ∷ []) c.args.g.now c.tell_visible.new.g c.finish_at_once.new.g s c.tell_visible.new.speech c.finish_at_once.new.speech two
-    c.finish_at_once.ensures
+    let two = does-both cmp matching (Alter change ∷ []) (Say answers ∷ []) c.args.g.now c.ask.new.self c.say.new.g s s c.say.new.speech one (c.in_ok-say.ensures answers (c.in_ok-answers.ensures (answers c.ask.new.self) (λ given gives. search rules))) in
+    does-then cmp matching c.say-2.result (Alter change ∷ Say answers ∷ []) (Say final ∷ []) c.args.g.now c.say.new.g c.say-2.new.g s c.say.new.speech c.say-2.new.speech two
+    (on_ok_weaker c.say-2.result (λ said. said final (c.in_ok-finals.ensures (final c.say.new.g) (λ given gives. search rules))) c.say-2.ensures)

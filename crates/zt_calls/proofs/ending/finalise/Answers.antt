@@ -1,4 +1,4 @@
-use Rattle.std.proofs.Common.{◌∷◌, [], sym}
+use Rattle.std.proofs.Common.{◌∷◌, [], rules}
 use Rattle.std.proofs.lemmas.Result.{on_ok_weaker}
 use Rattle.zt_calls.proofs.Doing.{does-alter, does-both, does-then}
 use Rattle.zt_model.specs.Parts.{Alter, Say, to_face, with_face}
@@ -17,7 +17,9 @@ returns g c =
     let ends = end_upstream cmp matching interest in
     let s = c.args.speech.now in
     let one = does-alter cmp matching change c.args.g.now c.unhold.new.self s c.unhold.ensures in
-    let two = does-both cmp matching (Alter change ∷ []) (Say gone ∷ []) c.args.g.now c.unhold.new.self c.untell_unwanted.new.g s s c.untell_unwanted.new.speech one c.in_ok-untell_unwanted.ensures in
-    let three = does-both cmp matching (Alter change ∷ Say gone ∷ []) (Say final ∷ []) c.args.g.now c.untell_unwanted.new.g c.end_ask.new.g s c.untell_unwanted.new.speech c.end_ask.new.speech two c.in_ok-end_ask.ensures in
-    does-then cmp matching c.end_above.result (Alter change ∷ Say gone ∷ Say final ∷ []) (Say ends ∷ []) c.args.g.now c.end_ask.new.g c.end_above.new.g s c.end_ask.new.speech c.end_above.new.speech three
-    c.end_above.ensures
+    let untold = c.in_ok-say.ensures gone (c.in_ok-gone.ensures (gone c.unhold.new.self) (λ given gives. search rules)) in
+    let ended = c.in_ok-say-2.ensures final (c.in_ok-finals.ensures (final c.say.new.g) (λ given gives. search rules)) in
+    let two = does-both cmp matching (Alter change ∷ []) (Say gone ∷ []) c.args.g.now c.unhold.new.self c.say.new.g s s c.say.new.speech one untold in
+    let three = does-both cmp matching (Alter change ∷ Say gone ∷ []) (Say final ∷ []) c.args.g.now c.say.new.g c.say-2.new.g s c.say.new.speech c.say-2.new.speech two ended in
+    does-then cmp matching c.say-3.result (Alter change ∷ Say gone ∷ Say final ∷ []) (Say ends ∷ []) c.args.g.now c.say-2.new.g c.say-3.new.g s c.say-2.new.speech c.say-3.new.speech three
+    (on_ok_weaker c.say-3.result (λ said. said ends (c.in_ok-ends.ensures (ends c.say-2.new.g) (λ given gives. search rules))) c.say-3.ensures)

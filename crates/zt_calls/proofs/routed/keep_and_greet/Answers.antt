@@ -1,4 +1,4 @@
-use Rattle.std.proofs.Common.{◌≡◌, ◌∷◌, [], ap, sym, ◌∙◌}
+use Rattle.std.proofs.Common.{◌∷◌, [], ap, ◌∙◌, rules}
 use Rattle.std.proofs.lemmas.Result.{on_ok_weaker}
 use Rattle.zt_calls.proofs.Doing.{does-alter, does-then}
 use Rattle.zt_model.specs.Parts.{Alter, Say, Sends, to_each}
@@ -17,6 +17,6 @@ returns g c =
     let greeted : Rows g.row.K.Denot → Sends g.row.K.Denot = λ h. to_each (greet_to cmp h region (trees_of c.args.before.now)) h.faces in
     let s = c.args.speech.now in
     let kept = c.in_ok-keep_table.ensures ∙ ap (λ (t : Trees). with_table cmp region t c.args.g.now) c.in_ok-kept.ensures in
-    does-then cmp matching c.greet_children.result (Alter change ∷ []) (Say greeted ∷ []) c.args.g.now c.keep_table.new.self c.greet_children.new.g s s c.greet_children.new.speech
+    does-then cmp matching c.say.result (Alter change ∷ []) (Say greeted ∷ []) c.args.g.now c.keep_table.new.self c.say.new.g s s c.say.new.speech
     (does-alter cmp matching change c.args.g.now c.keep_table.new.self s kept)
-    c.greet_children.ensures
+    (on_ok_weaker c.say.result (λ said. said greeted (c.in_ok-greetings.ensures (greeted c.keep_table.new.self) (λ given gives. search rules))) c.say.ensures)

@@ -1,23 +1,22 @@
-use Rattle.std.proofs.Common.{◌≡◌, ◌∷◌, ◌++◌, [], Bool, List, None, Option, OnOk, Some, ap, if◌then◌else◌, refl, subst, sym, ◌∙◌}
-use Rattle.std.specs.Option.{option_copied}
-use Rattle.zt_calls.specs.Does.{Does}
-use Rattle.zt_model.specs.Parts.{Alter, Part, Say, with_face}
-use Rattle.std.proofs.Common.{ℕ}
+use Rattle.std.proofs.Common.{OnOk, Option, rules, subst, sym, ℕ}
 use Rattle.std.proofs.lemmas.Result.{on_ok_weaker}
 use Rattle.zt_calls.proofs.Doing.{does-nothing}
+use Rattle.zt_calls.specs.Does.{Does}
 use Rattle.zt_calls.specs.Speaking.{answering_asked}
 use Rattle.zt_model.specs.Telling.{answer}
 use Rattle.zt_calls.proofs.speaking.answer_asked.Goals as goal
 
-pub returns-in-None : goal.returns-in-None
-returns-in-None g c =
+pub returns-in_default : goal.returns-in_default
+returns-in_default g c =
     let cmp = g.K.Ord.cmp in
     let matching = g.K.Key.matching in
-    subst (λ (asked : Option ℕ). Does cmp matching (answering_asked cmp matching c.args.face asked c.args.expr.now) c.args.g.now c.args.g.now c.args.speech.now c.args.speech.now) (sym c.in-None.is)
+    subst (λ (asked : Option ℕ). Does cmp matching (answering_asked cmp matching c.args.face asked c.args.expr.now) c.args.g.now c.args.g.now c.args.speech.now c.args.speech.now) (sym c.in_default.is)
     (does-nothing cmp matching c.args.g.now c.args.speech.now)
 
-pub returns-in-Some : goal.returns-in-Some
-returns-in-Some g c =
+pub returns : goal.returns
+returns g c =
     let cmp = g.K.Ord.cmp in
     let matching = g.K.Key.matching in
-    subst (λ (asked : Option ℕ). OnOk c.answer_asks.result (Does cmp matching (answering_asked cmp matching c.args.face asked c.args.expr.now) c.args.g.now c.answer_asks.new.g c.args.speech.now c.answer_asks.new.speech)) (sym c.in-Some.is) c.answer_asks.ensures
+    let answers = answer cmp matching c.args.face c.in-Some.id c.args.expr.now in
+    subst (λ (asked : Option ℕ). OnOk c.say.result (Does cmp matching (answering_asked cmp matching c.args.face asked c.args.expr.now) c.args.g.now c.say.new.g c.args.speech.now c.say.new.speech)) (sym c.in-Some.is)
+    (on_ok_weaker c.say.result (λ said. said answers (c.in_ok-answers.ensures (answers c.args.g.now) (λ given gives. search rules))) c.say.ensures)

@@ -1,4 +1,4 @@
-use Rattle.std.proofs.Common.{◌∷◌, []}
+use Rattle.std.proofs.Common.{◌∷◌, [], rules}
 use Rattle.zt_calls.proofs.Doing.{does-then}
 use Rattle.zt_model.specs.Parts.{Say}
 use Rattle.zt_model.specs.Telling.{forget}
@@ -10,6 +10,7 @@ returns g c =
     let cmp = g.K.Ord.cmp in
     let matching = g.K.Key.matching in
     let e = c.args.expr.now in
-    does-then cmp matching c.hide_token.result (Say (forget cmp matching c.args.source e) ∷ []) (hiding cmp c.args.source e) c.args.g.now c.forget_at_faces.new.g c.hide_token.new.g c.args.speech.now c.forget_at_faces.new.speech c.hide_token.new.speech
-    c.in_ok-forget_at_faces.ensures
+    let gone = forget cmp matching c.args.source e in
+    does-then cmp matching c.hide_token.result (Say gone ∷ []) (hiding cmp c.args.source e) c.args.g.now c.say.new.g c.hide_token.new.g c.args.speech.now c.say.new.speech c.hide_token.new.speech
+    (c.in_ok-say.ensures gone (c.in_ok-gone.ensures (gone c.args.g.now) (λ given gives. search rules)))
     c.hide_token.ensures

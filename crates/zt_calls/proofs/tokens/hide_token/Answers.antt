@@ -1,4 +1,4 @@
-use Rattle.std.proofs.Common.{◌≡◌, ◌∷◌, [], ap, sym, ◌∙◌}
+use Rattle.std.proofs.Common.{◌∷◌, [], ap, ◌∙◌, rules}
 use Rattle.zt_calls.proofs.Doing.{does-alter, does-both}
 use Rattle.zt_calls.proofs.OwnRowsGo.{own_rows_go}
 use Rattle.zt_model.specs.Parts.{Alter, Say, Sends, to_each}
@@ -16,8 +16,8 @@ returns g c =
     let hidden : Rows g.row.K.Denot → Sends g.row.K.Denot = λ h. to_each (hide_to cmp h source e) h.faces in
     let change = without_own_rows cmp source e in
     let s = c.args.speech.now in
-    let one = c.in_ok-untell_routers.ensures in
+    let one = c.in_ok-say.ensures hidden (c.in_ok-hidden.ensures (hidden c.args.g.now) (λ given gives. search rules)) in
     let named = c.deref.ensures.value ∙ c.in_ok-regions.ensures in
-    let gone = c.drop_own_rows.ensures ∙ ap (λ regions. without_own_in cmp regions e c.untell_routers.new.g) named ∙ own_rows_go cmp source e c.untell_routers.new.g in
-    does-both cmp matching (Say hidden ∷ []) (Alter change ∷ []) c.args.g.now c.untell_routers.new.g c.drop_own_rows.new.self s c.untell_routers.new.speech c.untell_routers.new.speech one
-    (does-alter cmp matching change c.untell_routers.new.g c.drop_own_rows.new.self c.untell_routers.new.speech gone)
+    let gone = c.drop_own_rows.ensures ∙ ap (λ regions. without_own_in cmp regions e c.say.new.g) named ∙ own_rows_go cmp source e c.say.new.g in
+    does-both cmp matching (Say hidden ∷ []) (Alter change ∷ []) c.args.g.now c.say.new.g c.drop_own_rows.new.self s c.say.new.speech c.say.new.speech one
+    (does-alter cmp matching change c.say.new.g c.drop_own_rows.new.self c.say.new.speech gone)

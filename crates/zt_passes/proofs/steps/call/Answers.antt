@@ -1,4 +1,4 @@
-use Rattle.std.proofs.Common.{arith, ◌≡◌, ◌+◌, ◌<◌, ◌^◌, [], ◌∷◌, length, refl, sym, ap, ◌∙◌, subst, length-append}
+use Rattle.std.proofs.Common.{arith, ◌+◌, ◌<◌, ◌^◌, [], ◌∷◌, length, refl, sym, ap, ◌∙◌, subst, length-append}
 use Rattle.zt_passes.specs.Plays.{part_locked, part_entered}
 use Rattle.zt_passes.proofs.steps.call.Goals as goal
 
@@ -72,8 +72,12 @@ returns-in-Ok-clause-ok g c = λ p same. let taken = c.lock.ensures.taken p same
 
 pub returns-in-Err-clause-err : goal.returns-in-Err-clause-err
 returns-in-Err-clause-err g c = λ p same. let taken = c.lock.ensures.taken p same in
-    let failed = c.in-Err.ensures.err (part_locked taken.0 p) taken.0 taken.1 in record {
-      taken = taken.0;
-      continues = taken.2;
-      is = c.release-in-Err.ensures.told (part_locked taken.0 p) failed.0 failed.1;
-    }
+    let failed = c.in-Err.ensures.err (part_locked taken.0 p) taken.0 taken.1 in
+    let J = g.J.Recorder in (
+      record {
+        taken = taken.0;
+        continues = taken.2;
+        is = c.release-in-Err.ensures.told (part_locked taken.0 p) failed.0 failed.1;
+      },
+      subst (λ state. J.is_replay state (J.journal taken.0)) failed.2 (subst (λ log. J.is_replay (J.state failed.0) log) failed.3 failed.4),
+    )

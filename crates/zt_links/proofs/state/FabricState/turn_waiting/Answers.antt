@@ -1,4 +1,5 @@
-use Rattle.std.proofs.Common.{◌∙◌}
+use Rattle.std.proofs.Common.{refl, ◌∙◌}
+use Rattle.std.proofs.lemmas.Result.{on_err_weaker}
 use Rattle.zt_links.proofs.Carried.{on_ok}
 use Rattle.zt_links.proofs.Placed.{turned_waits}
 use Rattle.zt_links.proofs.state.FabricState.turn_waiting.Goals as goal
@@ -13,3 +14,8 @@ returns-clause-ok g c =
     (on_ok c.take_and_add.result _ _
     (λ waits. turned_waits c.args.taken c.args.sent.now i.gateways.items i.places i.links i.queues c.take_and_add.new.self waits)
     c.take_and_add.ensures.ok)
+
+pub returns-clause-err : goal.returns-clause-err
+returns-clause-err g c =
+    rw (← c.self.view_is)
+    (on_err_weaker c.take_and_add.result (λ same. rw same refl) c.take_and_add.ensures.err)

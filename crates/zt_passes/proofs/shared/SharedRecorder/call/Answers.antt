@@ -15,7 +15,7 @@ invariant_of-pass-inside g c = let one = c.pass.inside.one in
 
 pub invariant_of-pass-inside-in-Err-1 : goal.invariant_of-pass-inside-in-Err-1
 invariant_of-pass-inside-in-Err-1 g c = let one = c.pass.inside.one in
-    let was = c.in-Err.ensures.err one.0 one.1.0 in
+    let was = (c.in-Err.ensures.err one.0 one.1.0).0 in
     ((part_left one.0.seen was.taken one.0, (was.is, (one.1.1.0, (one.1.1.1.0, (one.1.1.1.1.0, refl))))), tt)
 
 pub returns-in-Ok-clause-ok : goal.returns-in-Ok-clause-ok
@@ -45,7 +45,7 @@ returns-in-Ok-clause-ok g c = let one = c.pass.inside.one in
 
 pub returns-in-Err-clause-err : goal.returns-in-Err-clause-err
 returns-in-Err-clause-err g c = let one = c.pass.inside.one in
-    let was = c.in-Err.ensures.err one.0 one.1.0 in
+    let was = (c.in-Err.ensures.err one.0 one.1.0).0 in
     let J = g.J.Recorder in
     let pass = c.args.pass.now in
     let left = part_left one.0.seen was.taken one.0 in
@@ -55,3 +55,13 @@ returns-in-Err-clause-err g c = let one = c.pass.inside.one in
       standing_left c.pass.inside.seat.table_id c.call.new.seat.table_id one.0 pass c.pass.view_is c.call.ensures.seat.0 was.taken,
     ) in
     search (rules, seen_so c.call.new.seat.me c.call.new.seat.table_id left F was.is done)
+
+pub returns-in-Err-clause-replay : goal.returns-in-Err-clause-replay
+returns-in-Err-clause-replay g c = let one = c.pass.inside.one in
+    let told = c.in-Err.ensures.err one.0 one.1.0 in
+    let was = told.0 in
+    let J = g.J.Recorder in
+    let left = part_left one.0.seen was.taken one.0 in
+    let F : Standing g.row.J.Denot → Type 0 = λ s. J.is_replay (J.state s.opening) (J.journal s.found) in
+    let replay : F (standing c.call.new.seat.table_id left) = subst (λ state. J.is_replay state (J.journal was.taken)) was.continues.opened told.1 in
+    search (rules, seen_so c.call.new.seat.me c.call.new.seat.table_id left F was.is replay)

@@ -1,5 +1,4 @@
-use Rattle.std.proofs.Common.{◌≡◌, ◌<◌, ◌≤◌, List, [], length, map, sym, ap, ◌∙◌, subst, arith}
-use Rattle.std.specs.List.{AllByRecursion}
+use Rattle.std.proofs.Common.{◌≡◌, List, map, sym, ap, ◌∙◌, subst, arith}
 use Rattle.zt_passes.specs.Account.{IsCounted}
 use Rattle.zt_passes.specs.declared.part.Part.{Part}
 use Rattle.zt_passes.specs.Handed.{IsLeft}

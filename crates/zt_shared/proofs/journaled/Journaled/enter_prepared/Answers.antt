@@ -1,5 +1,5 @@
-use Rattle.std.proofs.Common.{◌≡◌, ℕ, List, [], ◌∷◌, ◌++◌, Option, Ok, ap, map, subst, sym, ◌∙◌}
-use Rattle.std.proofs.lemmas.List.{map-append}
+use Rattle.std.proofs.Common.{◌≡◌, ℕ, List, [], ◌∷◌, ◌++◌, Option, Ok, ap, arith, map, subst, sym, ◌∙◌}
+use Rattle.std.proofs.lemmas.List.{length-map, map-append}
 use Rattle.std.proofs.lemmas.Result.{err_from_is_err_and}
 use Rattle.zt_gateway.specs.Running.{Running, by_face, planned, sent_alone}
 use Rattle.zt_model.specs.Journal.{Journalled, outcome_of}
@@ -59,3 +59,24 @@ invariant_of-self-2 g c =
     subst (IsRecord g.K.Ord.cmp g.K.Key.matching) (sym (after g c))
     (record_more g.K.Ord.cmp g.K.Key.matching c.args.pass (plain_call c.args.call) c.args.self.now
     (subst (IsRecord g.K.Ord.cmp g.K.Key.matching) c.self.view_is c.self.invariant))
+
+pub returns-clause-kept : goal.returns-clause-kept
+returns-clause-kept g c = invariant_of-self-2 g c
+
+pub returns-in_err-reserve-clause-room : goal.returns-in_err-reserve-clause-room
+returns-in_err-reserve-clause-room g c =
+    let entries = c.reserve.new.self in
+    let same = length-map entries.items (journalled {K = g.row.K.Denot}) in
+    let long = entries.ok.0 in
+    let fits = entries.ok.1 in
+    let small = entries.small in
+    omega (arith, same, long, fits, small)
+
+pub returns-clause-room : goal.returns-clause-room
+returns-clause-room g c =
+    let entries = c.push_within.new.entries in
+    let same = length-map entries.items (journalled {K = g.row.K.Denot}) in
+    let long = entries.ok.0 in
+    let fits = entries.ok.1 in
+    let small = entries.small in
+    omega (arith, same, long, fits, small)

@@ -35,3 +35,6 @@ invariant_of-self-2 g c =
     ∙ entered_refused g.K.Ord.cmp g.K.Key.matching c.args.pass (plain_call c.args.call) c.args.refusal inside c.self.invariant.quiet refused
     in
     subst (IsRecord g.K.Ord.cmp g.K.Key.matching) (sym same) (record_more g.K.Ord.cmp g.K.Key.matching c.args.pass (plain_call c.args.call) inside c.self.invariant)
+
+pub returns-clause-kept : goal.returns-clause-kept
+returns-clause-kept g c = invariant_of-self-2 g c

@@ -1,4 +1,4 @@
-use Rattle.std.proofs.Common.{rules, ◌≡◌, ◌<◌, ◌^◌, length, refl, ap}
+use Rattle.std.proofs.Common.{◌≡◌, length, refl, ap}
 use Rattle.zt_protocol.specs.Plain.{plain_call}
 use Rattle.zt_shared.specs.Recorded.{Recorded, entered, entry_of}
 use Rattle.zt_shared.proofs.Sharing.{tells_of}
@@ -10,13 +10,11 @@ returns-in-Ok-clause-ok g c =
     let matching = g.K.Key.matching in
     let j = c.args.self.now in
     let call = plain_call c.args.call in
-    let done : c.enter.new.self ≡ entered cmp matching c.args.pass call j = c.in-Ok.ensures.done in
-    let long : length c.enter.new.self.entries < 2 ^ 64 = search rules in (
+    let done : c.enter.new.self ≡ entered cmp matching c.args.pass call j = c.in-Ok.ensures.done in (
       entry_of cmp matching c.args.pass call j.gateway.rows,
       ap (λ (r : Recorded g.row.K.Denot). r.entries) done,
       refl,
       refl,
       tells_of cmp matching (length j.entries) c.args.pass call j.gateway.rows c.in-Ok.receipt c.in-Ok.ensures.place c.in-Ok.ensures.answer,
-      c.len-long.ensures.kept.replay,
-      long,
+      c.enter.ensures.room,
     )
