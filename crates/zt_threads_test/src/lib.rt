@@ -4,3 +4,5 @@
 
 #[cfg(test)]
 mod driven;
+#[cfg(test)]
+mod sharing;
