@@ -13,7 +13,7 @@ use zt_causes::cause_of;
 use zt_keys::{Key, Memory};
 use zt_protocol::{Call, CallError, Message};
 use zt_state::GatewayState;
-use zt_twins::TwinState;
+use zt_twins::{BoxedState, TwinState};
 
 // The number of the face that a call makes, where it makes one.
 fn face_of<K: Key>(state: &GatewayState<K>, call: &Call<K>) -> Option<u32>
@@ -32,7 +32,7 @@ pub(crate) fn carried<K: Key>(
     alloc: Global,
     twin: &mut TwinState<K>,
     call: &Call<K>,
-) -> Result<(GatewayState<K>, Vec<(u32, Message<K>)>, Option<u32>), CallError>
+) -> Result<(BoxedState<K>, Vec<(u32, Message<K>)>, Option<u32>), CallError>
     requires first { CallHasFirstIds (plain_call call.now) }
     requires sound { IsSound K.cmp K.matching twin.old }
     ensures same { twin.new ≡ twin.old }

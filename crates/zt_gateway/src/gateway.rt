@@ -21,8 +21,7 @@ use std::mem;
 use std::snapshot::Snapshot;
 use zt_keys::{Key, Memory};
 use zt_protocol::{Call, CallError, Message};
-use zt_state::GatewayState;
-use zt_twins::TwinState;
+use zt_twins::{BoxedState, TwinState};
 
 /// A gateway: what it keeps, and the messages that it has for its faces until they are taken. Its
 /// faces are numbered from 1 in order of making.
@@ -113,7 +112,7 @@ impl<K: Key> Gateway<K> {
     }
 
     // Carries out a call that this gateway prepared, and answers besides what it kept before.
-    fn exchange(&mut self, prepared: Prepared<K>) -> (Option<u32>, GatewayState<K>)
+    fn exchange(&mut self, prepared: Prepared<K>) -> (Option<u32>, BoxedState<K>)
         requires { prepared.before ≡ self.old }
         ensures done { self.new ≡ prepared.after }
         ensures made { result.0 ≡ prepared.made }
@@ -137,7 +136,7 @@ impl<K: Key> Gateway<K> {
 
     // What it kept before a call that was carried out last is brought up to date by the same call,
     // whose messages are the last ones that wait.
-    fn catch_up(&mut self, former: GatewayState<K>, call: &Call<K>, messages: usize)
+    fn catch_up(&mut self, former: BoxedState<K>, call: &Call<K>, messages: usize)
         requires after { self.old.rows
             ≡ rows_after_call K.cmp K.matching (plain_call call.now) former }
         requires within { messages ≤ length self.old.waiting }

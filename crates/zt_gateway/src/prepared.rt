@@ -8,7 +8,7 @@ use std::marker::Model;
 use std::snapshot::Snapshot;
 use zt_keys::Key;
 use zt_protocol::Message;
-use zt_state::GatewayState;
+use zt_twins::BoxedState;
 
 /// A call that a gateway has accepted and not carried out: all that it takes memory for is there.
 /// It is for the gateway that prepared it, as that stood then.
@@ -17,7 +17,7 @@ pub struct Prepared<K: Key> {
     // The gateway as it was.
     pub(crate) before: Snapshot<Gateway<K>>,
     // What the gateway keeps after the call.
-    pub(crate) state: GatewayState<K>,
+    pub(crate) state: BoxedState<K>,
     pub(crate) closed: Option<u32>,
     pub(crate) made: Option<u32>,
     pub(crate) said: Vec<(u32, Message<K>)>,

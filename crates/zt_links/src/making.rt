@@ -20,12 +20,13 @@ use std::alloc::Global;
 use zt_keys::{Key, Memory};
 use zt_protocol::{Call, Message, Sent};
 use zt_state::GatewayState;
+use zt_twins::BoxedState;
 
 /// A gateway after a call, and what the call says, as the gateway's faces hear it and as it is
 /// printed.
 #[derive(Drop)]
 pub(crate) struct Prepared<K: Key> {
-    pub(crate) rows: GatewayState<K>,
+    pub(crate) rows: BoxedState<K>,
     pub(crate) said: Vec<(u32, Message<K>)>,
     pub(crate) printed: Vec<Sent<K>>,
 }

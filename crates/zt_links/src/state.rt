@@ -25,7 +25,7 @@ use zt_protocol::{Call, Message, Sent};
 use zt_queues::Queues;
 use zt_region::SouthConf;
 use zt_state::GatewayState;
-use zt_twins::{Ahead, TwinState};
+use zt_twins::{Ahead, BoxedState, TwinState};
 
 /// A gateway with what its links are made by: its configuration of the south, and its name.
 #[derive(Drop)]
@@ -180,7 +180,7 @@ impl<K: Key> FabricState<K> {
         &mut self,
         alloc: Global,
         at: usize,
-        rows: GatewayState<K>,
+        rows: BoxedState<K>,
         call: &Call<K>,
         sends: &[(u32, Message<K>)],
     )
@@ -195,7 +195,7 @@ impl<K: Key> FabricState<K> {
     }
 
     /// A gateway's rows are replaced; answers the former ones.
-    pub(crate) fn put_rows(&mut self, at: usize, rows: GatewayState<K>) -> GatewayState<K>
+    pub(crate) fn put_rows(&mut self, at: usize, rows: BoxedState<K>) -> BoxedState<K>
         requires { at < length self.old.gateways }
         ensures put { self.new ≡ with_rows (at + 1) (λ _. rows) self.old }
         ensures former { (node : Node K) → nth (at + 1) self.old.gateways ≡ Some node
@@ -389,7 +389,7 @@ fn commit_in<K: Key>(
     alloc: Global,
     gateways: &mut Vec<NodeState<K>>,
     at: usize,
-    rows: GatewayState<K>,
+    rows: BoxedState<K>,
     call: &Call<K>,
     sends: &[(u32, Message<K>)],
 )
@@ -408,8 +408,8 @@ fn commit_in<K: Key>(
 fn put_rows_at<K: Key>(
     gateways: &mut Vec<NodeState<K>>,
     at: usize,
-    rows: GatewayState<K>,
-) -> GatewayState<K>
+    rows: BoxedState<K>,
+) -> BoxedState<K>
     requires { at < vec_len gateways.old }
     ensures put { gateways.new.items
         ≡ at_nth (at + 1) (λ node. record node { rows = rows }) gateways.old.items }

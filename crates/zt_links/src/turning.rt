@@ -13,14 +13,14 @@ use crate::state::FabricState;
 use std::alloc::Global;
 use zt_keys::{Key, Memory};
 use zt_protocol::{Call, Sent};
-use zt_state::GatewayState;
+use zt_twins::BoxedState;
 
 /// A gateway where a call was carried out, what it kept before, and what the call says. Where there
 /// is no such gateway nothing was kept, and nothing is said.
 #[derive(Drop)]
 pub(crate) struct Turned<K: Key> {
     pub(crate) gateway: u32,
-    pub(crate) former: Option<GatewayState<K>>,
+    pub(crate) former: Option<BoxedState<K>>,
     pub(crate) printed: Vec<Sent<K>>,
 }
 
@@ -57,7 +57,7 @@ pub(crate) fn hear_call<K: Key>(
 }
 
 /// A gateway keeps again what it kept before.
-pub(crate) fn undo<K: Key>(s: &mut FabricState<K>, gateway: u32, former: Option<GatewayState<K>>)
+pub(crate) fn undo<K: Key>(s: &mut FabricState<K>, gateway: u32, former: Option<BoxedState<K>>)
     ensures { s.new ≡ undone former gateway s.old }
 {
     match former {
@@ -66,7 +66,7 @@ pub(crate) fn undo<K: Key>(s: &mut FabricState<K>, gateway: u32, former: Option<
     }
 }
 
-fn put_back<K: Key>(s: &mut FabricState<K>, gateway: u32, rows: GatewayState<K>)
+fn put_back<K: Key>(s: &mut FabricState<K>, gateway: u32, rows: BoxedState<K>)
     ensures { s.new ≡ with_rows gateway (λ _. rows) s.old }
 {
     match place_of_number(s.gateways(), gateway) {
@@ -83,7 +83,7 @@ fn put_back<K: Key>(s: &mut FabricState<K>, gateway: u32, rows: GatewayState<K>)
 pub(crate) fn undo_opening<K: Key>(
     s: &mut FabricState<K>,
     gateway: u32,
-    former: Option<GatewayState<K>>,
+    former: Option<BoxedState<K>>,
 )
     requires { AreBelow (length s.old.faces) s.old.links }
     ensures { s.new ≡ without_last_place (undone former gateway s.old) }

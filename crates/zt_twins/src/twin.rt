@@ -4,9 +4,9 @@ ghost use Rattle.zt_laws.specs.Sound.{opens_face, rows_after_call};
 ghost use Rattle.zt_model.specs.Says.{said};
 ghost use Rattle.zt_protocol.specs.Plain.{plain_call};
 
+use crate::boxed::{BoxedState, boxed_copy, exchange};
 use std::alloc::Global;
 use std::marker::Model;
-use std::mem;
 use zt_calls::{alter, carry_out};
 use zt_keys::{Key, Memory};
 use zt_protocol::{Call, Message};
@@ -21,7 +21,7 @@ use zt_state::GatewayState;
 #[derive(Drop)]
 pub struct TwinState<K: Key> {
     state: GatewayState<K>,
-    spare: Option<GatewayState<K>>,
+    spare: Option<BoxedState<K>>,
 }
 
 impl<K: Key> Model for TwinState<K> {
@@ -39,7 +39,7 @@ impl<K: Key> Model for TwinState<K> {
 /// call.
 #[derive(Drop)]
 pub struct Ahead<K: Key> {
-    pub state: GatewayState<K>,
+    pub state: BoxedState<K>,
     pub said: Vec<(u32, Message<K>)>,
 }
 
@@ -54,7 +54,7 @@ fn opens_face<K: Key>(call: &Call<K>) -> bool
 // face that it opens, leave the state in between.
 fn carry_on<K: Key>(
     alloc: Global,
-    state: &mut GatewayState<K>,
+    state: &mut BoxedState<K>,
     call: &Call<K>,
 ) -> Result<Vec<(u32, Message<K>)>, Memory>
     ensures state { OnOk result (state.new
@@ -62,17 +62,17 @@ fn carry_on<K: Key>(
     ensures said { IfOk result (λ sends. sends.items
         ≡ said K.cmp K.matching (plain_call call.now) state.old) }
 {
-    if opens_face(call) && state.made() == u32::MAX {
+    if opens_face(call) && state.inner.made() == u32::MAX {
         return Err(Memory);
     }
-    carry_out(alloc, state, call)
+    carry_out(alloc, &mut *state.inner, call)
 }
 
 // Changes what a call itself changes, and lets the faces hear what it says. Want of memory, and of
 // a number for the face that it opens, leave the state in between.
 fn follow<K: Key>(
     alloc: Global,
-    state: &mut GatewayState<K>,
+    state: &mut BoxedState<K>,
     call: &Call<K>,
     sends: &[(u32, Message<K>)],
 ) -> Result<(), Memory>
@@ -80,20 +80,20 @@ fn follow<K: Key>(
     ensures { OnOk result (state.new
         ≡ rows_after_call K.cmp K.matching (plain_call call.now) state.old) }
 {
-    if opens_face(call) && state.made() == u32::MAX {
+    if opens_face(call) && state.inner.made() == u32::MAX {
         return Err(Memory);
     }
-    alter(alloc, state, call)?;
-    state.hear_all(alloc, sends)
+    alter(alloc, &mut *state.inner, call)?;
+    state.inner.hear_all(alloc, sends)
 }
 
 // A state after a call that says this, unless memory lacks.
 fn caught_up<K: Key>(
     alloc: Global,
-    mut state: GatewayState<K>,
+    mut state: BoxedState<K>,
     call: &Call<K>,
     sends: &[(u32, Message<K>)],
-) -> Option<GatewayState<K>>
+) -> Option<BoxedState<K>>
     requires { sends.now ≡ said K.cmp K.matching (plain_call call.now) state }
     ensures { IfSome result (λ after. after
         ≡ rows_after_call K.cmp K.matching (plain_call call.now) state) }
@@ -120,13 +120,13 @@ impl<K: Key> TwinState<K> {
     }
 
     // An equal state to carry a call out on: the second one, or else a copy.
-    fn draft(&mut self, alloc: Global) -> Result<GatewayState<K>, Memory>
+    fn draft(&mut self, alloc: Global) -> Result<BoxedState<K>, Memory>
         ensures draft { IfOk result (λ draft. draft ≡ self.old) }
         ensures same { self.new ≡ self.old }
     {
         match self.spare.take() {
             Some(spare) => Ok(spare),
-            None => self.state.copy(alloc),
+            None => boxed_copy(alloc, &self.state),
         }
     }
 
@@ -146,12 +146,13 @@ impl<K: Key> TwinState<K> {
 
     /// Replaces what the gateway keeps, and answers the former state. There is no second one then,
     /// until `catch_up` makes one.
-    pub fn put(&mut self, state: GatewayState<K>) -> GatewayState<K>
+    pub fn put(&mut self, mut state: BoxedState<K>) -> BoxedState<K>
         ensures put { self.new ≡ state }
         ensures former { result ≡ self.old }
     {
         self.spare = None;
-        mem::replace(&mut self.state, state)
+        exchange(&mut self.state, &mut state);
+        state
     }
 
     /// Brings a former state up to date by the call that came after it, and by what that said, so
@@ -159,7 +160,7 @@ impl<K: Key> TwinState<K> {
     pub fn catch_up(
         &mut self,
         alloc: Global,
-        former: GatewayState<K>,
+        former: BoxedState<K>,
         call: &Call<K>,
         sends: &[(u32, Message<K>)],
     )
@@ -174,7 +175,7 @@ impl<K: Key> TwinState<K> {
     pub fn commit(
         &mut self,
         alloc: Global,
-        state: GatewayState<K>,
+        state: BoxedState<K>,
         call: &Call<K>,
         sends: &[(u32, Message<K>)],
     )
