@@ -1,5 +1,6 @@
 mod Askers
 pub mod LeftIds
+mod Listing
 pub mod Numbering
 mod Passing
 mod Seekers

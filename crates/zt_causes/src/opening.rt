@@ -43,7 +43,7 @@ fn does_new_face_lack<K: Key>(
         ≡ lacks_for_opening K.cmp K.matching g.now
         (face_opened zid whatami region bound first g.now)) }
 {
-    let f = FaceState::new(alloc, number, region, bound, whatami, zid, first, None);
+    let f = FaceState::new(alloc, number, region, bound, whatami, zid, first, None)?;
     if is_routed(g, &f) {
         return Ok(false);
     }

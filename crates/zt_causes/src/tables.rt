@@ -4,61 +4,67 @@ ghost use Rattle.std.specs.List.{list_any};
 ghost use Rattle.zt_model.specs.Journal.{cause_of};
 ghost use Rattle.zt_model.specs.Refusals.{is_unknown_face, names_unlisted};
 ghost use Rattle.zt_model.specs.Strategy.{is_region_of, is_router_hat, strategy_of};
-ghost use Rattle.zt_model.specs.Trees.{is_listed};
 ghost use Rattle.zt_protocol.specs.Plain.{Expire, SetEntities, SetTrees, trees_of};
+ghost use Rattle.zt_causes.specs.Unlisted.{names_others};
+ghost use Rattle.zt_routers.specs.Listed.{is_among};
 
 use crate::dictionary::is_filled_by_entities;
 use crate::regions::is_region_of;
 use std::alloc::Global;
+use std::collections::BTreeSet;
 use zt_keys::{Key, Memory};
 use zt_protocol::{QueryableInfo, Refusal, TreeTable};
-use zt_region::{Region, Zid};
-use zt_routers::counted_table;
+use zt_region::{NodeId, Region, Zid};
+use zt_routers::{counted_table, is_listed, routers_listed};
 use zt_state::GatewayState;
 use zt_tokens::{find_face, is_router_region};
 
-// Whether the table lists the router.
-fn is_listed(table: &TreeTable, zid: Zid) -> bool
-    ensures { result ≡ is_listed zid (trees_of table.now) }
+// Whether links name a router that isn't listed.
+fn links_unlisted(links: &[(u32, NodeId, Zid)], listed: &BTreeSet<Zid>) -> bool
+    ensures { result ≡ list_any (λ l. not (is_among l.2 listed.now.keys)) links.now }
 {
-    table.routers.iter().any(|router| zid == router.1)
+    links.iter().any(|link| !is_listed(listed, link.2))
 }
 
-// Whether the links of a table name a router that it doesn't list.
-fn links_unlisted(table: &TreeTable) -> bool
+// Whether not both of these routers are listed.
+fn is_child_unlisted(child: &(Zid, Zid), listed: &BTreeSet<Zid>) -> bool
     ensures { result
-        ≡ list_any (λ l. not (is_listed l.2 (trees_of table.now))) (trees_of table.now).links }
+        ≡ (not (is_among child.now.0 listed.now.keys)
+        || not (is_among child.now.1 listed.now.keys)) }
 {
-    table.links.iter().any(|link| !is_listed(table, link.2))
+    !is_listed(listed, child.0) || !is_listed(listed, child.1)
 }
 
-// Whether the table lists not both of these routers.
-fn is_child_unlisted(table: &TreeTable, child: &(Zid, Zid)) -> bool
-    ensures { result
-        ≡ (not (is_listed child.now.0 (trees_of table.now))
-        || not (is_listed child.now.1 (trees_of table.now))) }
+// Whether children name a router that isn't listed.
+fn children_unlisted(children: &[(Zid, Zid)], listed: &BTreeSet<Zid>) -> bool
+    ensures { result ≡ list_any (λ c. not (is_among c.0 listed.now.keys)
+        || not (is_among c.1 listed.now.keys)) children.now }
 {
-    !is_listed(table, child.0) || !is_listed(table, child.1)
-}
-
-// Whether the children of a table name a router that it doesn't list.
-fn children_unlisted(table: &TreeTable) -> bool
-    ensures { result
-        ≡ list_any
-        (λ c. not (is_listed c.0 (trees_of table.now)) || not (is_listed c.1 (trees_of table.now)))
-        (trees_of table.now).children }
-{
-    table
-        .children
+    children
         .iter()
-        .any(|child| is_child_unlisted(table, child))
+        .any(|child| is_child_unlisted(child, listed))
 }
 
-// Whether a table names a router that it doesn't list, or doesn't list the gateway.
-fn names_unlisted<K: Key>(g: &GatewayState<K>, table: &TreeTable) -> bool
-    ensures { result ≡ names_unlisted (trees_of table.now) g.now }
+// Whether a table names a router that isn't among these, or the gateway isn't.
+fn names_others<K: Key>(g: &GatewayState<K>, table: &TreeTable, listed: &BTreeSet<Zid>) -> bool
+    ensures { result ≡ names_others (trees_of table.now) listed.now.keys g.now.zid }
 {
-    !is_listed(table, g.zid()) || links_unlisted(table) || children_unlisted(table)
+    !is_listed(listed, g.zid())
+        || links_unlisted(&table.links, listed)
+        || children_unlisted(&table.children, listed)
+}
+
+// Whether a table names a router that it doesn't list, or doesn't list the gateway. The only error
+// is want of memory.
+fn names_unlisted<K: Key>(
+    alloc: Global,
+    g: &GatewayState<K>,
+    table: &TreeTable,
+) -> Result<bool, Memory>
+    ensures { IfOk result (λ is. is ≡ names_unlisted (trees_of table.now) g.now) }
+{
+    let listed = routers_listed(alloc, table)?;
+    Ok(names_others(g, table, &listed))
 }
 
 // Whether the gateway has no such region of routers.
@@ -102,7 +108,7 @@ pub(crate) fn table_cause<K: Key>(
     if lacks_region(g, region) {
         return Ok(Some(Refusal::NoSuchRegion));
     }
-    if names_unlisted(g, &counted) {
+    if names_unlisted(alloc, g, &counted)? {
         return Ok(Some(Refusal::UnknownRouter));
     }
     Ok(None)

@@ -1,15 +1,13 @@
 -- A map by number, seen as rows by id.
-use Rattle.std.proofs.Common.{◌≡◌, ℕ, ◌<◌, ◌==◌, true, false, ◌||◌, not, if◌then◌else◌, Option, Some, None, is_some, List, [], ◌∷◌, ◌++◌, map, refl, ap, sym, subst, ◌∙◌, arith}
+use Rattle.std.proofs.Common.{◌≡◌, ℕ, ◌==◌, true, false, ◌||◌, not, if◌then◌else◌, Option, Some, None, is_some, List, [], ◌∷◌, ◌++◌, map, refl, ap, sym, subst, ◌∙◌}
 use Rattle.std.proofs.lemmas.Bool.{eqb-true}
-use Rattle.std.proofs.lemmas.Bool.Decides.{nat_tests}
-use Rattle.std.proofs.lemmas.List.Elements.{recursion_from_All}
 use Rattle.std.proofs.lemmas.Map.Keys.{sorted_head, sorted_tail}
 use Rattle.std.specs.BTreeMap.{insert_entry, is_at}
 use Rattle.std.specs.Cmp.{unsigned_tied, nat_cmp_total}
 use Rattle.std.specs.FinMap.Entries.{by_order, put}
-use Rattle.std.specs.List.{All, AllByRecursion}
+use Rattle.std.specs.List.{AllByRecursion}
 use Rattle.std.specs.Map.{keys_of, lookup, remove_entry, set_value}
-use Rattle.std.specs.Ordering.{is_eq, is_lt, match_ordering, nat_cmp, ordering_reverse}
+use Rattle.std.specs.Ordering.{is_eq, match_ordering, nat_cmp, ordering_reverse}
 use Rattle.std.specs.declared.cmp.Ordering.TheVariants.{Less, Equal, Greater}
 use Rattle.zt_face.specs.Told.{IsAbove, IsInOrder}
 use Rattle.zt_model.specs.Lists.{at_id, has_id, without_id}
@@ -67,15 +65,6 @@ module _ {A : Type 0} where
       ap (λ o. by_order o ((id, v) ∷ row ∷ rows) ((row.0, v) ∷ rows) (row ∷ put nat_cmp id v rows)) above.0
       ∙ ap (λ r. row ∷ r) (put_behind id v rows above.1)
 
-  -- and taken away again
-  pub put_taken : (id : ℕ) (v : A) (rows : List (ℕ × A)) → IsAbove id rows → without_id id (rows ++ (id, v) ∷ []) ≡ rows
-  put_taken id v [] above =
-      let here : (id == id) ≡ true = grind (arith, nat_tests) in
-      ap (λ b. if not b then (id, v) ∷ [] else []) here
-  put_taken id v (row ∷ rows) above =
-      ap (λ b. if not b then row ∷ without_id id (rows ++ (id, v) ∷ []) else without_id id (rows ++ (id, v) ∷ [])) (sym (unsigned_tied id row.0) ∙ ap is_eq above.0)
-      ∙ ap (λ r. row ∷ r) (put_taken id v rows above.1)
-
   less_last : (x : ℕ) (rows rest : List (ℕ × A)) (row : ℕ × A) → AllByRecursion (λ k. nat_cmp x k ≡ Less) (keys_of (rows ++ row ∷ rest)) → nat_cmp x row.0 ≡ Less
   less_last x [] rest row less = less.0
   less_last x (other ∷ rows) rest row less = less_last x rows rest row less.1
@@ -99,17 +88,6 @@ module _ {A : Type 0} where
       behind : (xs : List (ℕ × A)) → (xs ++ row ∷ []) ++ left ≡ xs ++ row ∷ left
       behind [] = refl
       behind (x ∷ xs) = ap (λ r. x ∷ r) (behind xs)
-
-  all_turned : (last id : ℕ) (rows : List (ℕ × A)) → last < id → AllByRecursion (λ k. is_lt (nat_cmp last k) ≡ false) (keys_of rows) → IsAbove id rows
-  all_turned last id [] above least = tt
-  all_turned last id (row ∷ rows) above least = (turned row.0 least.0, all_turned last id rows above least.1)
-    where
-      turned : (k : ℕ) → is_lt (nat_cmp last k) ≡ false → nat_cmp id k ≡ Greater
-      turned k least_ = grind (arith, nat_tests)
-
-  -- an id above one that no other is above
-  pub above_last : (last id : ℕ) (rows : List (ℕ × A)) → last < id → All (λ k. is_lt (nat_cmp last k) ≡ false) (keys_of rows) → IsAbove id rows
-  above_last last id rows above least = all_turned last id rows above (recursion_from_All (λ k. is_lt (nat_cmp last k) ≡ false) (keys_of rows) least)
 
   -- ---- a change of the row under an id
 

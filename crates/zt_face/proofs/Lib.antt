@@ -1,4 +1,5 @@
 mod Answered
 mod ById
 mod Found
+pub mod Places
 pub mod Told

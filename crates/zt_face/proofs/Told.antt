@@ -9,9 +9,8 @@ use Rattle.std.specs.Ordering.{is_eq, nat_cmp}
 use Rattle.std.specs.declared.cmp.Ordering.{Ordering}
 use Rattle.std.specs.declared.cmp.Ordering.TheVariants.{Less, Equal, Greater}
 use Rattle.zt_keys.specs.Test.{by_test}
-use Rattle.zt_face.specs.Told.{AreApart, IsIndexed, IsInOrder}
+use Rattle.zt_face.specs.Told.{AreApart, IsIndexed, IsInOrder, with_pair}
 use Rattle.zt_face.proofs.ById.{below_all_absent}
-use Rattle.zt_model.specs.Hearing.{told_pair}
 use Rattle.zt_model.specs.Lists.{at_id, same, without_id}
 use Rattle.zt_model.specs.Parts.{told_id}
 use Rattle.zt_model.specs.Rows.{ById}
@@ -71,14 +70,11 @@ module _ {K : Type 0} (cmp : K → K → Ordering) where
       and_none true f = f
       and_none false f = f
 
-  pub told_zero : (id : ℕ) (e : K) (rows : ById K) → (id == 0) ≡ true → told_pair cmp id e rows ≡ rows
-  told_zero id e rows zero_ = rw zero_ refl
+  pub with_again : (id : ℕ) (e : K) (rows : ById K) → told_id cmp e rows ≡ Some id → with_pair cmp id e rows ≡ rows
+  with_again id e rows found = rw (found_pair id e rows found) refl
 
-  pub told_again : (id : ℕ) (e : K) (rows : ById K) → told_id cmp e rows ≡ Some id → told_pair cmp id e rows ≡ rows
-  told_again id e rows found = by_test (id == 0) (λ t. rw t refl) (λ t. rw (t, found_pair id e rows found) refl)
-
-  pub told_first : (id : ℕ) (e : K) (rows : ById K) → (id == 0) ≡ false → told_id cmp e rows ≡ None → told_pair cmp id e rows ≡ rows ++ (id, e) ∷ []
-  told_first id e rows real none_ = rw (real, no_pair id e rows none_) refl
+  pub with_first : (id : ℕ) (e : K) (rows : ById K) → told_id cmp e rows ≡ None → with_pair cmp id e rows ≡ rows ++ (id, e) ∷ []
+  with_first id e rows none_ = rw (no_pair id e rows none_) refl
 
   module _ (total : IsTotalOrder cmp) (exact : (a b : K) → cmp a b ≡ Equal → a ≡ b) where
     same_is : (a b : K) → same cmp a b ≡ true → a ≡ b
@@ -228,3 +224,36 @@ module _ {K : Type 0} (cmp : K → K → Ordering) where
         finds = λ q. updates q ∙ ap (λ b. if b then None else before q) (ties e q) ∙ ap (λ (o : Option ℕ). if same cmp e q then None else o) (indexed.finds q) ∙ sym (told_dropped q e rows);
         apart = apart_dropped e rows indexed.apart;
       }
+
+    -- an expression that was put and taken away again
+    put_taken : (eq : K → K → Bool) (before put after : K → Option ℕ) (id : ℕ) (e : K)
+        → ((q : K) → put q ≡ (if eq e q then Some id else before q)) → ((q : K) → after q ≡ (if eq e q then None else put q))
+        → (q : K) → after q ≡ (if eq e q then None else before q)
+    put_taken eq before put after id e puts takes q = takes q ∙ ap (λ (o : Option ℕ). if eq e q then None else o) (puts q) ∙ within (eq e q)
+      where
+        within : (b : Bool) → (if b then None else (if b then Some id else before q)) ≡ (if b then None else before q)
+        within true = refl
+        within false = refl
+
+    module _ {eq : K → K → Bool} (ties : (a b : K) → eq a b ≡ is_eq (cmp a b)) (before put : K → Option ℕ) (id : ℕ) (e : K) (rows : ById K) (indexed : IsIndexed cmp before rows)
+        (puts : (q : K) → put q ≡ (if eq e q then Some id else before q)) where
+      -- an expression that is told under this id
+      pub indexed_again : told_id cmp e rows ≡ Some id → IsIndexed cmp put rows
+      indexed_again found = record {
+        finds = λ q. puts q ∙ by_test (eq e q)
+            (λ t. rw t (subst (λ k. Some id ≡ told_id cmp k rows) (same_is e q (sym (ties e q) ∙ t)) (sym found)))
+            (λ t. rw t (indexed.finds q));
+        apart = indexed.apart;
+      }
+
+      module _ (after : K → Option ℕ) (takes : (q : K) → after q ≡ (if eq e q then None else put q)) where
+        -- one that isn't told, and is taken away again
+        pub indexed_undone : told_id cmp e rows ≡ None → IsIndexed cmp after rows
+        indexed_undone absent =
+            subst (IsIndexed cmp after) (none_dropped e rows absent) (indexed_dropped ties before after e rows indexed (put_taken eq before put after id e puts takes))
+
+        -- one that is told under another id, and goes
+        pub indexed_gone : (known : ℕ) → IsInOrder rows → told_id cmp e rows ≡ Some known → IsIndexed cmp after (without_id known rows)
+        indexed_gone known ordered found =
+            subst (IsIndexed cmp after) (dropped_without known e rows ordered indexed.apart (told_at known e rows ordered found))
+            (indexed_dropped ties before after e rows indexed (put_taken eq before put after id e puts takes))

@@ -1,3 +1,4 @@
 pub mod Ids
 pub mod Locals
+pub mod Places
 pub mod Told

@@ -1,13 +1,13 @@
 -- What a face was told, by id and by expression.
-use Rattle.std.specs.Prelude.{◌≡◌, ℕ, if◌then◌else◌, [], ◌∷◌, ◌++◌, Option, None}
-use Rattle.std.specs.List.{AllByRecursion}
+use Rattle.std.specs.Prelude.{◌≡◌, ℕ, ◌==◌, ◌&&◌, if◌then◌else◌, [], ◌∷◌, ◌++◌, Option, None}
+use Rattle.std.specs.List.{AllByRecursion, list_any}
 use Rattle.std.specs.List.Sorted.{IsStrictlySortedBy}
 use Rattle.std.specs.Map.{keys_of}
 use Rattle.std.specs.Ordering.{nat_cmp}
 use Rattle.std.specs.declared.cmp.Ordering.{Ordering}
 use Rattle.std.specs.declared.cmp.Ordering.TheVariants.{Greater}
 use Rattle.zt_model.specs.Parts.{told_id}
-use Rattle.zt_model.specs.Lists.{is_among}
+use Rattle.zt_model.specs.Lists.{is_among, same}
 use Rattle.zt_model.specs.Rows.{Ask, ById}
 
 -- rows in order of id, each id once
@@ -28,6 +28,10 @@ module _ {K : Type 0} (cmp : K → K → Ordering) where
   pub record IsIndexed (id_of : K → Option ℕ) (rows : ById K) : Type 0 where
     pub finds : (e : K) → id_of e ≡ told_id cmp e rows
     pub apart : AreApart rows
+
+  -- a pair of id and expression more, which is there once
+  abbrev pub with_pair : ℕ → K → ById K → ById K
+  with_pair id e rows = if list_any (λ row. id == row.0 && same cmp e row.1) rows then rows else rows ++ (id, e) ∷ []
 
   -- an ask that was answered an expression, which is there once
   abbrev pub answered_with : K → Ask K → Ask K

@@ -54,7 +54,7 @@ impl<K: Key> FaceState<K> {
     pub fn register(&mut self, alloc: Global, id: TokenId, expr: &K) -> Result<(), Memory>
         ensures { OnOk result (self.new ≡ registered id expr.now self.old) }
     {
-        self.live.put(id, expr.copy(alloc)?)
+        self.rows.live.put(id, expr.copy(alloc)?)
     }
 
     /// The face holds an interest that asks for what comes later, and asks one that asks for what
@@ -69,7 +69,7 @@ impl<K: Key> FaceState<K> {
     ) -> Result<(), Memory>
         ensures { OnOk result (self.new ≡ asked_as pendings.now id interest.now self.old) }
     {
-        put_held(alloc, &mut self.held, id, interest)?;
-        put_ask(alloc, &mut self.asks, id, interest, pendings)
+        put_held(alloc, &mut self.rows.held, id, interest)?;
+        put_ask(alloc, &mut self.rows.asks, id, interest, pendings)
     }
 }

@@ -1,7 +1,7 @@
 // Copies of what a face keeps.
 ghost use Rattle.std.specs.Prelude.{◌≡◌, IfOk};
 
-use crate::face::{AskState, FaceState, PendingInterest};
+use crate::face::{AskState, FaceRows, FaceState, PendingInterest};
 use crate::interest::RemoteInterest;
 use crate::rows::RowsById;
 use std::alloc::Global;
@@ -105,22 +105,25 @@ impl Duplicate for PendingInterest {
 
 impl<K: Key> Duplicate for FaceState<K> {
     fn duplicate(&self, alloc: Global) -> Result<Self, Memory> {
+        let rows = FaceRows {
+            bound: self.rows.bound,
+            mode: self.rows.mode,
+            zid: self.rows.zid,
+            next: self.rows.next,
+            live: copy_key_rows(alloc, &self.rows.live)?,
+            told: self.rows.told.copy(alloc)?,
+            held: copy_rows(alloc, &self.rows.held)?,
+            locals: self.rows.locals.copy(alloc)?,
+            pendings: copy_rows(alloc, &self.rows.pendings)?,
+            asks: copy_rows(alloc, &self.rows.asks)?,
+            initial: self.rows.initial,
+            subscribers: copy_keys(alloc, self.rows.subscribers.as_slice())?,
+            queryables: copy_queryables(alloc, self.rows.queryables.as_slice())?,
+        };
         Ok(FaceState {
             number: self.number,
             region: self.region,
-            bound: self.bound,
-            mode: self.mode,
-            zid: self.zid,
-            next: self.next,
-            live: copy_key_rows(alloc, &self.live)?,
-            told: self.told.copy(alloc)?,
-            held: copy_rows(alloc, &self.held)?,
-            locals: self.locals.copy(alloc)?,
-            pendings: copy_rows(alloc, &self.pendings)?,
-            asks: copy_rows(alloc, &self.asks)?,
-            initial: self.initial,
-            subscribers: copy_keys(alloc, self.subscribers.as_slice())?,
-            queryables: copy_queryables(alloc, self.queryables.as_slice())?,
+            rows: Box::new(alloc, rows)?,
         })
     }
 }

@@ -13,29 +13,29 @@ impl<K: Key> FaceState<K> {
     pub fn unregister(&mut self, id: TokenId)
         ensures { self.new ≡ unregistered id self.old }
     {
-        self.live.remove(id);
+        self.rows.live.remove(id);
     }
 
     /// The face holds the interest of the id no more.
     pub fn unhold(&mut self, id: InterestId)
         ensures { self.new ≡ unheld id self.old }
     {
-        self.held.remove(id);
+        self.rows.held.remove(id);
     }
 
     /// The interest that the face was sent under the id is finished.
     pub fn end_pending(&mut self, id: InterestId)
         ensures { self.new ≡ ended id self.old }
     {
-        self.pendings.remove(id);
+        self.rows.pendings.remove(id);
     }
 
     /// A final with the id 0 finalises the initial interest, where the face has one.
     pub fn finalise_initial(&mut self, id: InterestId)
         ensures { self.new ≡ initial_finalised id self.old }
     {
-        if id == 0 && self.initial.is_some() {
-            self.initial = Some(true);
+        if id == 0 && self.rows.initial.is_some() {
+            self.rows.initial = Some(true);
         }
     }
 
@@ -43,6 +43,6 @@ impl<K: Key> FaceState<K> {
     pub fn drop_asks(&mut self)
         ensures { self.new ≡ without_asks self.old }
     {
-        self.asks.clear();
+        self.rows.asks.clear();
     }
 }

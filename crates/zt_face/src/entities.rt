@@ -18,8 +18,8 @@ impl<K: Key> FaceState<K> {
         ensures { OnOk result (self.new
             ≡ record self.old { subscribers = subscribers.now; queryables = queryables.now }) }
     {
-        self.subscribers = copy_keys(alloc, subscribers)?;
-        self.queryables = copy_queryables(alloc, queryables)?;
+        self.rows.subscribers = copy_keys(alloc, subscribers)?;
+        self.rows.queryables = copy_queryables(alloc, queryables)?;
         Ok(())
     }
 }

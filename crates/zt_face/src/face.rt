@@ -3,8 +3,8 @@ ghost use Rattle.std.specs.Prelude.{◌≡◌, [], IfOk};
 ghost use Rattle.zt_model.specs.Parts.{new_face};
 
 use crate::interest::RemoteInterest;
-use crate::local::LocalTokens;
-use crate::locals::LocalInterests;
+use crate::local_interests::LocalInterests;
+use crate::local_tokens::LocalTokens;
 use crate::rows::RowsById;
 use std::alloc::Global;
 use std::marker::Model;
@@ -110,12 +110,9 @@ impl<K: Key> AskState<K> {
     }
 }
 
-/// An open face with its rows, each kind in order of id. With Zenoh's words `live` are the remote
-/// tokens, `told` the local tokens, `held` the remote interests and `locals` the local interests.
+/// What a face keeps beside its number and region.
 #[derive(Drop)]
-pub struct FaceState<K: Key> {
-    pub(crate) number: u32,
-    pub(crate) region: Region,
+pub(crate) struct FaceRows<K: Key> {
     pub(crate) bound: Bound,
     pub(crate) mode: WhatAmI,
     pub(crate) zid: Zid,
@@ -131,6 +128,16 @@ pub struct FaceState<K: Key> {
     pub(crate) queryables: Vec<(K, QueryableInfo)>,
 }
 
+/// An open face with its rows, each kind in order of id. With Zenoh's words `live` are the remote
+/// tokens, `told` the local tokens, `held` the remote interests and `locals` the local interests.
+/// The rows stand in a box: faces stand side by side, and move up where one before them closes.
+#[derive(Drop)]
+pub struct FaceState<K: Key> {
+    pub(crate) number: u32,
+    pub(crate) region: Region,
+    pub(crate) rows: Box<FaceRows<K>>,
+}
+
 impl<K: Key> Model for FaceState<K> {
     ghost use Rattle.zt_model.specs.Rows.{Face};
 
@@ -139,24 +146,24 @@ impl<K: Key> Model for FaceState<K> {
     ghost view = { λ f. record {
       number = f.number;
       region = f.region;
-      bound = f.bound;
-      mode = f.mode;
-      zid = f.zid;
-      next = f.next;
-      live = f.live;
-      told = f.told;
-      held = f.held;
-      locals = f.locals;
-      pendings = f.pendings;
-      asks = f.asks;
-      initial = f.initial;
-      subscribers = f.subscribers.items;
-      queryables = f.queryables.items;
+      bound = f.rows.value.bound;
+      mode = f.rows.value.mode;
+      zid = f.rows.value.zid;
+      next = f.rows.value.next;
+      live = f.rows.value.live;
+      told = f.rows.value.told;
+      held = f.rows.value.held;
+      locals = f.rows.value.locals;
+      pendings = f.rows.value.pendings;
+      asks = f.rows.value.asks;
+      initial = f.rows.value.initial;
+      subscribers = f.rows.value.subscribers.items;
+      queryables = f.rows.value.queryables.items;
     } };
 }
 
 impl<K: Key> FaceState<K> {
-    /// A face without rows.
+    /// A face without rows. The only error is want of memory.
     pub fn new(
         alloc: Global,
         number: u32,
@@ -166,13 +173,11 @@ impl<K: Key> FaceState<K> {
         zid: Zid,
         first: u32,
         initial: Option<bool>,
-    ) -> Self
-        ensures { result ≡ record
-            (new_face number region bound mode zid first) { initial = initial } }
+    ) -> Result<Self, Memory>
+        ensures { IfOk result (λ face. face ≡ record
+            (new_face number region bound mode zid first) { initial = initial }) }
     {
-        FaceState {
-            number,
-            region,
+        let rows = FaceRows {
             bound,
             mode,
             zid,
@@ -186,7 +191,13 @@ impl<K: Key> FaceState<K> {
             initial,
             subscribers: Vec::new(alloc),
             queryables: Vec::new(alloc),
-        }
+        };
+        let rows = Box::new(alloc, rows)?;
+        Ok(FaceState {
+            number,
+            region,
+            rows,
+        })
     }
 
     /// The face's number at its gateway.
@@ -207,90 +218,90 @@ impl<K: Key> FaceState<K> {
     pub fn bound(&self) -> Bound
         ensures { result ≡ self.now.bound }
     {
-        self.bound
+        self.rows.bound
     }
 
     /// The remote's mode.
     pub fn mode(&self) -> WhatAmI
         ensures { result ≡ self.now.mode }
     {
-        self.mode
+        self.rows.mode
     }
 
     /// The remote's number.
     pub fn zid(&self) -> Zid
         ensures { result ≡ self.now.zid }
     {
-        self.zid
+        self.rows.zid
     }
 
     /// The id that is drawn next.
     pub fn next(&self) -> u32
         ensures { result ≡ self.now.next }
     {
-        self.next
+        self.rows.next
     }
 
     /// The tokens that the face declares, each under its id.
     pub fn live(&self) -> &RowsById<K>
         ensures { result.now ≡ self.now.live }
     {
-        &self.live
+        &self.rows.live
     }
 
     /// The tokens that the face was told, each under its id.
     pub fn told(&self) -> &LocalTokens<K>
         ensures { result.now ≡ self.now.told }
     {
-        &self.told
+        &self.rows.told
     }
 
     /// The interests that the face holds, each under its id.
     pub fn held(&self) -> &RowsById<RemoteInterest<K>>
         ensures { result.now ≡ self.now.held }
     {
-        &self.held
+        &self.rows.held
     }
 
     /// The future-mode interests that the face was sent, each under its id.
     pub fn locals(&self) -> &LocalInterests<K>
         ensures { result.now ≡ self.now.locals }
     {
-        &self.locals
+        &self.rows.locals
     }
 
     /// The current-mode interests that the face was sent and hasn't finished, each under its id.
     pub fn pendings(&self) -> &RowsById<PendingInterest>
         ensures { result.now ≡ self.now.pendings }
     {
-        &self.pendings
+        &self.rows.pendings
     }
 
     /// The face's own interests whose final wasn't sent, each under its id.
     pub fn asks(&self) -> &RowsById<AskState<K>>
         ensures { result.now ≡ self.now.asks }
     {
-        &self.asks
+        &self.rows.asks
     }
 
     /// Whether the initial interest is finalised, for a mutual north peer.
     pub fn initial(&self) -> Option<bool>
         ensures { result ≡ self.now.initial }
     {
-        self.initial
+        self.rows.initial
     }
 
     /// The subscribers last handed in for the face.
     pub fn subscribers(&self) -> &[K]
         ensures { result.now ≡ self.now.subscribers }
     {
-        &self.subscribers
+        &self.rows.subscribers
     }
 
     /// The queryables last handed in for the face.
     pub fn queryables(&self) -> &[(K, QueryableInfo)]
         ensures { result.now ≡ self.now.queryables }
     {
-        &self.queryables
+        &self.rows.queryables
     }
 }

@@ -8,7 +8,7 @@ ghost use Rattle.zt_protocol.specs.Interest.{is_current, is_future};
 
 use crate::face::{AskState, FaceState, PendingInterest};
 use crate::interest::RemoteInterest;
-use crate::locals::LocalInterests;
+use crate::local_interests::LocalInterests;
 use crate::rows::RowsById;
 use std::alloc::Global;
 use zt_keys::{Key, Memory};
@@ -126,9 +126,9 @@ impl<K: Key> FaceState<K> {
           asks = asks_answered K.cmp interest expr.now self.old.asks;
         }) }
     {
-        self.next = next_after(id, self.next)?;
-        self.told.tell(alloc, id, expr)?;
-        answer_named(alloc, &mut self.asks, interest, expr)
+        self.rows.next = next_after(id, self.rows.next)?;
+        self.rows.told.tell(alloc, id, expr)?;
+        answer_named(alloc, &mut self.rows.asks, interest, expr)
     }
 
     // An interest is sent to the face. The only error is want of memory, or of ids.
@@ -149,30 +149,30 @@ impl<K: Key> FaceState<K> {
               (record { mode = mode; options = options; expr = expr.now }) self.old.locals;
         }) }
     {
-        self.next = next_after(id, self.next)?;
-        put_pending(&mut self.pendings, id, mode, moment)?;
-        put_future(alloc, &mut self.locals, id, mode, options, expr)
+        self.rows.next = next_after(id, self.rows.next)?;
+        put_pending(&mut self.rows.pendings, id, mode, moment)?;
+        put_future(alloc, &mut self.rows.locals, id, mode, options, expr)
     }
 
     // The face is told that a token is gone.
     fn hear_gone(&mut self, id: u32, expr: &Option<K>)
         ensures { self.new ≡ record self.old { told = untold K.cmp id expr.now self.old.told } }
     {
-        self.told.untell(id, expr);
+        self.rows.told.untell(id, expr);
     }
 
     // The ask of the face ends.
     fn hear_final(&mut self, id: u32)
         ensures { self.new ≡ record self.old { asks = without_id id self.old.asks } }
     {
-        self.asks.remove(id);
+        self.rows.asks.remove(id);
     }
 
     // An interest that the face was sent ends.
     fn hear_interest_final(&mut self, id: u32)
         ensures { self.new ≡ record self.old { locals = without_id id self.old.locals } }
     {
-        self.locals.remove(id);
+        self.rows.locals.remove(id);
     }
 
     /// The face is sent a message, at this moment. The only error is want of memory, or of ids.

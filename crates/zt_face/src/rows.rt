@@ -3,8 +3,8 @@ ghost use Rattle.std.specs.FinMap.Entries.{put};
 ghost use Rattle.std.specs.Map.Iter.{ShowsInOrder, deref_pair};
 ghost use Rattle.std.specs.Option.{option_copied};
 ghost use Rattle.std.specs.Ordering.{nat_cmp};
-ghost use Rattle.std.specs.Prelude.{◌≡◌, ℕ, [], true, OnErr, OnOk};
-ghost use Rattle.zt_face.specs.Told.{IsAbove, IsInOrder};
+ghost use Rattle.std.specs.Prelude.{◌≡◌, ℕ, [], OnErr, OnOk};
+ghost use Rattle.zt_face.specs.Told.{IsInOrder};
 ghost use Rattle.zt_model.specs.Lists.{at_id, has_id, without_id};
 
 use std::alloc::Global;
@@ -60,16 +60,6 @@ impl<X: Drop> RowsById<X> {
         ensures { result ≡ has_id id self.now }
     {
         self.rows.contains_key(&id)
-    }
-
-    /// Whether the id is above those of all rows.
-    pub fn are_below(&self, id: u32) -> bool
-        ensures { result ≡ true → IsAbove id self.now }
-    {
-        match self.rows.last_key_value() {
-            None => true,
-            Some((last, _)) => *last < id,
-        }
     }
 
     /// The rows, each with its id, in order of id.

@@ -1,6 +1,8 @@
+mod Apart
 mod Changed
 mod Copied
 mod Hashed
+mod InOrder
 mod Kept
 mod Less
 mod Ordered

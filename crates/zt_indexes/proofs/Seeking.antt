@@ -2,15 +2,12 @@
 use Rattle.std.proofs.Common.{◌≡◌, ℕ, Bool, true, false, ◌&&◌, ◌||◌, if◌then◌else◌, List, [], ◌∷◌, Option, Some, None, filter, is_some, not, unwrap_or, refl, sym, ap, ◌∙◌}
 use Rattle.std.proofs.lemmas.Bool.{false≢true}
 use Rattle.std.proofs.lemmas.List.Kept.{IsStrictlySortedBy-filter}
-use Rattle.std.proofs.lemmas.Map.{lookup-none}
-use Rattle.std.proofs.lemmas.Map.Entries.{none_past_head}
 use Rattle.std.proofs.lemmas.Map.Lookups.{btree_set_from_contains}
 use Rattle.std.specs.BTreeMap.{is_at}
 use Rattle.std.specs.Cmp.{IsTotalOrder, eq_by_cmp_equiv, tied_itself}
-use Rattle.std.specs.List.{IsDistinct}
 use Rattle.std.specs.List.Sorted.{IsStrictlySortedBy}
-use Rattle.std.specs.Map.{keys_of, lookup}
-use Rattle.std.specs.Ordering.{eq_by_cmp, is_eq}
+use Rattle.std.specs.Map.{lookup}
+use Rattle.std.specs.Ordering.{is_eq}
 use Rattle.std.specs.declared.cmp.Ordering.{Ordering}
 use Rattle.std.specs.declared.cmp.Ordering.TheVariants.{Equal}
 use Rattle.zt_keys.specs.Test.{by_test}
@@ -76,14 +73,6 @@ dropped : (a passes left there : Bool) → there ≡ (passes && left) → (a ≡
 dropped true passes left there is own = is ∙ ap (λ b. b && left) (own refl) ∙ sym (ap (λ b. b && true) (own refl))
 dropped false passes left there is own = is
 
--- the first of the entries left is tried
-tried-here : (m n s found : Bool) → m ≡ n → ((if m && s then true else found) || (n && false)) ≡ (found || (n && s))
-tried-here true true true found same = sym (or_all found)
-tried-here true true false found same = refl
-tried-here true false s found same = cc
-tried-here false true s found same = cc
-tried-here false false s found same = refl
-
 shown-there : (shown : Region → Bool) (found : Option (List (Region × ℕ))) → is_shown_in shown (unwrap_or found []) ≡ true → is_some found ≡ true
 shown-there shown None h = h
 shown-there shown (Some x) h = refl
@@ -95,25 +84,12 @@ module _ {K : Type 0} (cmp : K → K → Ordering) (o : IsTotalOrder cmp) (one :
   step sought q e found left =
       one-gathered (is_at (cmp e) q) (is_at (cmp q) e) (sought e) (sought q) found (is_in cmp q left) ((eq_by_cmp_equiv o).symm e q) (λ t. ap sought (sym (one q e (equal-from _ t))))
 
-  among-filter : (passes : K → Bool) (q : K) (keys : List K) → is_in cmp q (filter passes keys) ≡ (passes q && is_in cmp q keys)
+  pub among-filter : (passes : K → Bool) (q : K) (keys : List K) → is_in cmp q (filter passes keys) ≡ (passes q && is_in cmp q keys)
   among-filter passes q [] = sym (and_none (passes q))
   among-filter passes q (x ∷ xs) =
       by_test (passes x)
       (λ t. rw t (kept (is_at (cmp q) x) (passes q) (is_in cmp q xs) _ (among-filter passes q xs) (λ u. ap passes (one q x (equal-from _ u)) ∙ t)))
       (λ t. rw t (dropped (is_at (cmp q) x) (passes q) (is_in cmp q xs) _ (among-filter passes q xs) (λ u. ap passes (one q x (equal-from _ u)) ∙ t)))
-
-  -- one of entries later, as many are found
-  pub one-tried : (matches : K → Bool) (shown : Region → Bool) (e : K × List (Region × ℕ)) (left : List (K × List (Region × ℕ))) → IsDistinct (eq_by_cmp cmp) (keys_of (e ∷ left)) → (q : K) (found : Bool)
-      → ((if is_at (cmp e.0) q && (matches e.0 && is_shown_in shown e.1) then true else found) || is_sought cmp matches shown left q) ≡ (found || is_sought cmp matches shown (e ∷ left) q)
-  one-tried matches shown e left distinct q found =
-      by_test (is_at (cmp q) e.0)
-      (λ t.
-      let other : is_at (cmp e.0) q ≡ true = sym ((eq_by_cmp_equiv o).symm q e.0) ∙ t in
-      let none : lookup (is_at (cmp q)) left ≡ None = lookup-none (is_at (cmp q)) left (none_past_head (eq_by_cmp_equiv o) q e left distinct t) in
-      rw (t, other, none) (tried-here (matches e.0) (matches q) (is_shown_in shown e.1) found (ap matches (sym (one q e.0 (equal-from _ t))))))
-      (λ t.
-      let other : is_at (cmp e.0) q ≡ false = sym ((eq_by_cmp_equiv o).symm q e.0) ∙ t in
-      rw (t, other) refl)
 
   module _ (shown : Region → Bool) (counts : List (K × List (Region × ℕ))) (exprs : List K) (sorted : IsStrictlySortedBy cmp exprs) where
     shown-there-too : (q : K) → is_shown_in shown (counts_at cmp q counts) ≡ is_in cmp q (shown_keys shown (ordered_entries cmp counts))

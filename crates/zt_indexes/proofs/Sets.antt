@@ -1,5 +1,5 @@
 -- Sets of keys of which one stands apart.
-use Rattle.std.proofs.Common.{◌≡◌, Bool, true, false, ◌&&◌, ◌||◌, cond, if◌then◌else◌, List, ◌∷◌, ◌++◌, Option, Some, None, refl, sym, ap, ◌∙◌}
+use Rattle.std.proofs.Common.{◌≡◌, Bool, true, false, ◌&&◌, ◌||◌, cond, if◌then◌else◌, List, [], ◌∷◌, ◌++◌, Option, Some, None, refl, sym, ap, ◌∙◌}
 use Rattle.std.proofs.lemmas.List.Folds.{list_any-append}
 use Rattle.std.specs.BTreeMap.{is_at}
 use Rattle.std.specs.Cmp.{IsTotalOrder, eq_by_cmp_equiv}
@@ -35,6 +35,18 @@ gone-both : (one b more : Bool) → ((if b then false else one) || (if b then fa
 gone-both one true more = refl
 gone-both one false more = refl
 
+put-last : (was a b : Bool) → a ≡ b → (was || (a || false)) ≡ (if b && true then true else was)
+put-last true true true h = refl
+put-last true false false h = refl
+put-last false true true h = refl
+put-last false false false h = refl
+put-last was true false h = cc
+put-last was false true h = cc
+
+none-put : (b was : Bool) → was ≡ (if b && false then true else was)
+none-put true was = refl
+none-put false was = refl
+
 pub both-gathered : (found one more sought : Bool) → ((found || (one && sought)) || (more && sought)) ≡ (found || ((one || more) && sought))
 both-gathered true one more sought = refl
 both-gathered false false more sought = refl
@@ -47,6 +59,11 @@ module _ {K : Type 0} (cmp : K → K → Ordering) (o : IsTotalOrder cmp) where
 
   pub in-both : (q : K) (xs ys : List K) → is_in cmp q (xs ++ ys) ≡ (is_in cmp q xs || is_in cmp q ys)
   in-both q xs ys = list_any-append (is_at (cmp q)) xs ys
+
+  -- a key at the end, or none
+  pub in-added : (added : Bool) (q key : K) (keys : List K) → is_in cmp q (if added then keys ++ key ∷ [] else keys) ≡ (if is_at (cmp key) q && added then true else is_in cmp q keys)
+  in-added true q key keys = in-both q keys (key ∷ []) ∙ put-last (is_in cmp q keys) (is_at (cmp q) key) (is_at (cmp key) q) (turned q key)
+  in-added false q key keys = none-put (is_at (cmp key) q) (is_in cmp q keys)
 
   -- the first key
   pub put-one : (key : K) (more : List K) (q : K) → is_in cmp q (key ∷ more) ≡ (if is_at (cmp key) q then true else is_in cmp q more)

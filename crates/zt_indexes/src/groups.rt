@@ -5,16 +5,18 @@ ghost use Rattle.std.specs.BTreeMap.{is_at};
 ghost use Rattle.zt_indexes.specs.Grouped.{HasChanged, as_list, is_in, keys_at, number_cmp};
 ghost use Rattle.zt_indexes.specs.Live.{IsWithout};
 
+use crate::boxed_keys::BoxedKeys;
 use std::alloc::Global;
-use std::collections::{HashMap, HashSet};
+use std::collections::HashMap;
 use std::marker::Model;
 use zt_keys::{Anchor, Key, Memory};
 
-/// A set of keys. One of them takes no memory beside the set, since most sets have no other.
+/// A set of keys. One of them takes no memory beside the set, since most sets have no other. The
+/// others are in a box: sets stand side by side in tables, and are many.
 #[derive(Drop)]
 pub struct KeySet<K: Key> {
     one: Option<K>,
-    more: HashSet<K>,
+    more: BoxedKeys<K>,
 }
 
 impl<K: Key> Model for KeySet<K> {
@@ -23,7 +25,7 @@ impl<K: Key> Model for KeySet<K> {
 
     ghost Value = { List K };
 
-    ghost view = { λ k. as_list k.one ++ k.more.keys };
+    ghost view = { λ k. as_list k.one ++ k.more };
 }
 
 // Whether the key is there.
@@ -48,17 +50,17 @@ fn drop_one<K: Key>(one: &mut Option<K>, key: &K)
 
 impl<K: Key> KeySet<K> {
     /// No keys. It takes no memory.
-    pub fn new(alloc: Global) -> Self
+    pub fn new() -> Self
         ensures { result ≡ [] }
     {
         KeySet {
             one: None,
-            more: HashSet::new(alloc),
+            more: BoxedKeys::new(),
         }
     }
 
     /// A key more, unless it is there. The only error is want of memory, and then the keys stay.
-    pub fn insert(&mut self, key: K) -> Result<(), Memory>
+    pub fn insert(&mut self, alloc: Global, key: K) -> Result<(), Memory>
         ensures ok { OnOk result ((q : K) → is_in K.cmp q self.new
             ≡ (if is_at (K.cmp key) q then true else is_in K.cmp q self.old)) }
         ensures err { OnErr result (self.new ≡ self.old) }
@@ -67,8 +69,7 @@ impl<K: Key> KeySet<K> {
             self.one = Some(key);
             return Ok(());
         }
-        self.more.insert(key)?;
-        Ok(())
+        self.more.insert(alloc, key)
     }
 
     /// A key less, if it is there.
@@ -98,8 +99,8 @@ impl<K: Key> KeySet<K> {
     }
 
     /// The keys: one, if there is one, and more.
-    pub fn parts(&self) -> (&Option<K>, &HashSet<K>)
-        ensures { self.now ≡ as_list result.0.now ++ result.1.now.keys }
+    pub fn parts(&self) -> (&Option<K>, &BoxedKeys<K>)
+        ensures { self.now ≡ as_list result.0.now ++ result.1.now }
     {
         (&self.one, &self.more)
     }
@@ -117,10 +118,10 @@ fn put_in<K: Key>(
     ensures err { OnErr result (groups.new.entries ≡ groups.old.entries) }
 {
     match groups.get_mut(&number) {
-        Some(keys) => keys.insert(key),
+        Some(keys) => keys.insert(alloc, key),
         None => {
-            let mut keys = KeySet::new(alloc);
-            keys.insert(key)?;
+            let mut keys = KeySet::new();
+            keys.insert(alloc, key)?;
             groups.insert(number, keys)?;
             Ok(())
         }

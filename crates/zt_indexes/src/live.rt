@@ -159,7 +159,7 @@ fn put_wild<K: Key>(alloc: Global, wilds: &mut KeySet<K>, expr: &K) -> Result<()
     ensures err { OnErr result (wilds.new ≡ wilds.old) }
 {
     if expr.anchor(Anchor::Whole).is_none() {
-        wilds.insert(expr.copy(alloc)?)?;
+        wilds.insert(alloc, expr.copy(alloc)?)?;
     }
     Ok(())
 }
@@ -207,7 +207,7 @@ impl<K: Key> LiveCounts<K> {
             keys: HashMap::new(alloc),
             firsts: KeyGroups::new(alloc),
             lasts: KeyGroups::new(alloc),
-            wilds: KeySet::new(alloc),
+            wilds: KeySet::new(),
         }
     }
 
@@ -298,7 +298,7 @@ impl<K: Key> LiveCounts<K> {
         let mut keys = HashMap::new(alloc);
         let mut firsts = KeyGroups::new(alloc);
         let mut lasts = KeyGroups::new(alloc);
-        let mut wilds = KeySet::new(alloc);
+        let mut wilds = KeySet::new();
         for (expr, counts) in &self.keys {
             put_at_anchors(alloc, &mut firsts, &mut lasts, expr)?;
             put_wild(alloc, &mut wilds, expr)?;

@@ -1,3 +1,4 @@
 mod Changed
 mod Copied
 mod InBucket
+mod InOrder

@@ -2,7 +2,12 @@
 --     is_about matching about e        an interest in this expression, or in all keys, is about the key
 --     is_of face id row                the row is the interest that the face holds under the id
 --     asks_from matching e face row    the row is an interest of the face about the key
-use Rattle.std.specs.Prelude.{ℕ, Bool, true, ◌&&◌, ◌==◌, Option, Some, None}
+--     is_among n numbers               the number is one of these
+use Rattle.std.specs.Prelude.{ℕ, Bool, true, ◌&&◌, ◌==◌, List, Option, Some, None}
+use Rattle.std.specs.List.{list_any}
+
+abbrev pub is_among : ℕ → List ℕ → Bool
+is_among n numbers = list_any (λ m. n == m) numbers
 
 module _ {K : Type 0} where
   abbrev pub is_of : ℕ → ℕ → (ℕ × ℕ) × Option K → Bool

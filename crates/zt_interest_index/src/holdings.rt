@@ -1,13 +1,10 @@
 // The interests of one bucket.
 ghost use Rattle.std.specs.Prelude.{◌≡◌, ℕ, ◌∷◌, ◌++◌, ◌&&◌, ◌||◌, ◌==◌, [], filter, length, not};
-ghost use Rattle.std.specs.Prelude.{IfOk, OnErr, OnOk};
-ghost use Rattle.std.specs.BTreeSet.{contains};
+ghost use Rattle.std.specs.Prelude.{true, IfOk, IfSome, OnErr, OnOk};
 ghost use Rattle.std.specs.List.{list_any};
-ghost use Rattle.std.specs.Ordering.{nat_cmp};
-ghost use Rattle.zt_interest_index.specs.Holdings.{asks_from, is_about, is_of};
+ghost use Rattle.zt_interest_index.specs.Holdings.{asks_from, is_about, is_among, is_of};
 
 use std::alloc::Global;
-use std::collections::BTreeSet;
 use std::marker::Model;
 use zt_keys::{Key, Memory};
 
@@ -35,34 +32,65 @@ fn drop_in<K: Key>(rows: &mut Vec<((u32, u32), Option<K>)>, face: u32, id: u32)
     rows.retain(|row| is_other(row, face, id));
 }
 
-// Puts a face among those found, where its interest is about the key. The only error is want of
-// memory.
-fn add_face<K: Key>(
-    found: &mut BTreeSet<u32>,
-    row: &((u32, u32), Option<K>),
-    expr: &K,
-) -> Result<(), Memory>
-    ensures { OnOk result ((n : ℕ) → contains nat_cmp found.new n
-        ≡ (contains nat_cmp found.old n || asks_from K.matching expr.now n row.now)) }
+// Whether the number stands last.
+fn is_last(numbers: &[u32], number: u32) -> bool
+    ensures { result ≡ true → is_among number numbers.now ≡ true }
 {
-    if is_about(&row.1, expr) {
-        found.insert(row.0.0)?;
+    match numbers.last() {
+        Some(last) => number == *last,
+        None => false,
+    }
+}
+
+// What an interest is about that was tried, and whether that is the key.
+#[derive(Clone, Copy, Drop)]
+struct Tried<'a, K: Key> {
+    about: &'a Option<K>,
+    is_about: bool,
+}
+
+// Whether an interest in this expression, or in all keys, is about the key. One that is like the
+// one that was tried before isn't matched anew: many faces hold interests in one expression.
+fn is_about_as<K: Key>(tried: &Option<Tried<'_, K>>, about: &Option<K>, expr: &K) -> bool
+    requires { IfSome tried.now (λ t. t.is_about ≡ is_about K.matching t.about.now expr.now) }
+    ensures { result ≡ is_about K.matching about.now expr.now }
+{
+    match tried {
+        Some(tried) if tried.about == about => tried.is_about,
+        _ => is_about(about, expr),
+    }
+}
+
+// Puts a face among those found, if its interest is about the key. One that was found last isn't
+// put there again. The only error is want of memory.
+fn add_face(found: &mut Vec<u32>, face: u32, is_about: bool) -> Result<(), Memory>
+    ensures { OnOk result ((n : ℕ) → is_among n found.new.items
+        ≡ (is_among n found.old.items || (n == face && is_about))) }
+{
+    if is_about && !is_last(found.as_slice(), face) {
+        found.push(face)?;
     }
     Ok(())
 }
 
-// Puts the faces among those found whose interests are about the key. The only error is want of
-// memory.
+// Puts the faces among those found whose interests are about the key, one that holds several maybe
+// more than once. The only error is want of memory.
 fn gather_in<K: Key>(
-    found: &mut BTreeSet<u32>,
+    found: &mut Vec<u32>,
     rows: &[((u32, u32), Option<K>)],
     expr: &K,
 ) -> Result<(), Memory>
-    ensures { OnOk result ((n : ℕ) → contains nat_cmp found.new n
-        ≡ (contains nat_cmp found.old n || list_any (asks_from K.matching expr.now n) rows.now)) }
+    ensures { OnOk result ((n : ℕ) → is_among n found.new.items
+        ≡ (is_among n found.old.items || list_any (asks_from K.matching expr.now n) rows.now)) }
 {
+    let mut tried = None;
     for row in rows {
-        add_face(found, row, expr)?;
+        let is_about = is_about_as(&tried, &row.1, expr);
+        add_face(found, row.0.0, is_about)?;
+        tried = Some(Tried {
+            about: &row.1,
+            is_about,
+        });
     }
     Ok(())
 }
@@ -145,11 +173,11 @@ impl<K: Key> Holdings<K> {
         &self.rows
     }
 
-    /// Puts the faces among those found whose interests are about the key. The only error is want
-    /// of memory.
-    pub fn gather(&self, found: &mut BTreeSet<u32>, expr: &K) -> Result<(), Memory>
-        ensures { OnOk result ((n : ℕ) → contains nat_cmp found.new n
-            ≡ (contains nat_cmp found.old n
+    /// Puts the faces among those found whose interests are about the key, one that holds several
+    /// maybe more than once. The only error is want of memory.
+    pub fn gather(&self, found: &mut Vec<u32>, expr: &K) -> Result<(), Memory>
+        ensures { OnOk result ((n : ℕ) → is_among n found.new.items
+            ≡ (is_among n found.old.items
             || list_any (asks_from K.matching expr.now n) self.now)) }
     {
         gather_in(found, &self.rows, expr)

@@ -1,20 +1,19 @@
 // Interests by bucket.
-ghost use Rattle.std.specs.Prelude.{◌≡◌, ℕ, ◌++◌, ◌∷◌, ◌||◌, ◌==◌, [], filter, not, true, IfNone};
-ghost use Rattle.std.specs.Prelude.{IfOk, IfSome, List, Option, OnErr, OnOk};
-ghost use Rattle.std.specs.BTreeSet.{contains};
+ghost use Rattle.std.specs.Prelude.{◌≡◌, ℕ, ◌++◌, ◌∷◌, ◌||◌, [], filter, not, true};
+ghost use Rattle.std.specs.Prelude.{IfOk, IfSome, List, Option, OnOk};
 ghost use Rattle.std.specs.List.{list_any};
 ghost use Rattle.std.specs.List.Sorted.{IsStrictlySortedBy};
 ghost use Rattle.std.specs.Map.{keys_of};
 ghost use Rattle.std.specs.Ordering.{nat_cmp};
 ghost use Rattle.zt_interest_index.specs.Buckets.{anchors_of, bucket_of};
 ghost use Rattle.zt_interest_index.specs.Holders.{AreHoldersAnd, HasAllIn, IsIndexOf, asks_in};
-ghost use Rattle.zt_interest_index.specs.Holdings.{asks_from, is_of};
+ghost use Rattle.zt_interest_index.specs.Holdings.{asks_from, is_among, is_of};
 ghost use Rattle.zt_interest_index.specs.Index.{ChangesAt, IsWith, IsWithout, bucket_cmp, rows_at};
 
 use crate::bucket::{Bucket, anchors_of, bucket_of, looked_into};
 use crate::holdings::{Holdings, copy_about};
 use std::alloc::Global;
-use std::collections::{BTreeMap, BTreeSet};
+use std::collections::BTreeMap;
 use std::marker::Model;
 use zt_keys::{Key, Memory};
 
@@ -115,13 +114,13 @@ fn rows_in<K: Key>(
 // Puts the faces among those found whose interests in a bucket are about the key. The only error is
 // want of memory.
 fn gather_from<K: Key>(
-    found: &mut BTreeSet<u32>,
+    found: &mut Vec<u32>,
     buckets: &BTreeMap<Bucket, Holdings<K>>,
     bucket: Bucket,
     expr: &K,
 ) -> Result<(), Memory>
-    ensures { OnOk result ((n : ℕ) → contains nat_cmp found.new n
-        ≡ (contains nat_cmp found.old n
+    ensures { OnOk result ((n : ℕ) → is_among n found.new.items
+        ≡ (is_among n found.old.items
         || list_any (asks_from K.matching expr.now n) (rows_at bucket buckets.now.entries))) }
 {
     match buckets.get(&bucket) {
@@ -133,13 +132,13 @@ fn gather_from<K: Key>(
 // Puts the faces among those found whose interests in some of these buckets are about the key. The
 // only error is want of memory.
 fn gather_all<K: Key>(
-    found: &mut BTreeSet<u32>,
+    found: &mut Vec<u32>,
     buckets: &BTreeMap<Bucket, Holdings<K>>,
     looked: &[Bucket],
     expr: &K,
 ) -> Result<(), Memory>
-    ensures { OnOk result ((n : ℕ) → contains nat_cmp found.new n
-        ≡ (contains nat_cmp found.old n
+    ensures { OnOk result ((n : ℕ) → is_among n found.new.items
+        ≡ (is_among n found.old.items
         || asks_in K.matching expr.now n buckets.now.entries looked.now)) }
 {
     for bucket in looked {
@@ -148,34 +147,13 @@ fn gather_all<K: Key>(
     Ok(())
 }
 
-// Puts a number into a set. The only error is want of memory.
-fn add_number(set: &mut BTreeSet<u32>, number: u32) -> Result<(), Memory>
-    ensures { OnOk result ((n : ℕ) → contains nat_cmp set.new n
-        ≡ (contains nat_cmp set.old n || (n == number))) }
+// Puts numbers in order, each once.
+fn put_in_order(numbers: &mut Vec<u32>)
+    ensures in_order { IsStrictlySortedBy nat_cmp numbers.new.items }
+    ensures same { (n : ℕ) → is_among n numbers.new.items ≡ is_among n numbers.old.items }
 {
-    set.insert(number)?;
-    Ok(())
-}
-
-// The numbers as a set. The only error is want of memory.
-fn set_of(alloc: Global, numbers: &[u32]) -> Result<BTreeSet<u32>, Memory>
-    ensures { IfOk result (λ set. (n : ℕ) → contains nat_cmp set n
-        ≡ list_any (λ m. n == m) numbers.now) }
-{
-    let mut set = BTreeSet::new(alloc);
-    for number in numbers {
-        add_number(&mut set, *number)?;
-    }
-    Ok(set)
-}
-
-// The numbers of a set, in order. The only error is want of memory.
-fn listed(alloc: Global, found: &BTreeSet<u32>) -> Result<Vec<u32>, Memory>
-    ensures listed { IfOk result (λ list. list.items ≡ found.now.keys) }
-    ensures in_order { IsStrictlySortedBy nat_cmp found.now.keys }
-{
-    let list = found.iter().copied().collect(alloc)?;
-    Ok(list)
+    numbers.sort_unstable();
+    numbers.dedup();
 }
 
 impl<K: Key> InterestIndex<K> {
@@ -233,9 +211,11 @@ impl<K: Key> InterestIndex<K> {
         let Some(numbers) = anchors_of(expr) else {
             return Ok(None);
         };
-        let mut found = set_of(alloc, others)?;
+        let mut found = Vec::new(alloc);
+        found.extend_from_slice(others)?;
         gather_all(&mut found, &self.buckets, &looked_into(numbers), expr)?;
-        Ok(Some(listed(alloc, &found)?))
+        put_in_order(&mut found);
+        Ok(Some(found))
     }
 
     /// The interests in the expression, or those in all keys where it is `None`, each under its

@@ -20,8 +20,10 @@ fn told_in_order<K: Key>(alloc: Global, f: &FaceState<K>) -> Result<Vec<K>, Memo
         ≡ in_key_order K.cmp (map (λ row. row.1) f.now.told)) }
 {
     let mut exprs = KeysInOrder::new(alloc);
-    for (_, expr) in f.told().iter().rev() {
-        exprs.insert(alloc, expr)?;
+    for (_, row) in f.told().places().iter().rev() {
+        if let Some(expr) = row {
+            exprs.insert(alloc, expr)?;
+        }
     }
     exprs.into_vec(alloc)
 }

@@ -343,21 +343,21 @@ fn spends_at<K: Key>(
     }
 }
 
-/// A gateway's rows after a call that opens a face. The only error is want of memory; that the face
-/// has no number counts as such.
+/// A gateway's rows after a call that opens a face, in a box. The only error is want of memory; that
+/// the face has no number counts as such.
 fn rows_behind<K: Key>(
     alloc: Global,
     rows: &GatewayState<K>,
     call: &Call<K>,
-) -> Result<GatewayState<K>, Memory>
-    ensures { IfOk result (λ after. after
+) -> Result<Box<GatewayState<K>>, Memory>
+    ensures { IfOk result (λ after. after.value
         ≡ rows_after_call K.cmp K.matching (plain_call call.now) rows.now) }
 {
     if rows.made() == u32::MAX {
         return Err(Memory);
     }
-    let mut after = rows.copy(alloc)?;
-    let _ = carry_out(alloc, &mut after, call)?;
+    let mut after = Box::new(alloc, rows.copy(alloc)?)?;
+    let _ = carry_out(alloc, &mut *after, call)?;
     Ok(after)
 }
 
@@ -378,7 +378,7 @@ fn spends_behind<K: Key>(
         None => Ok(false),
         Some(node) => {
             let rows = rows_behind(alloc, node.rows(), forth)?;
-            spends_ids(alloc, &rows, back)
+            spends_ids(alloc, &*rows, back)
         }
     }
 }

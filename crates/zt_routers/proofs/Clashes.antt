@@ -11,12 +11,12 @@ use Rattle.zt_region.specs.Region.{zid_cmp, zid_eq}
 use Rattle.zt_model.specs.Trees.{is_same_link, is_same_router}
 use Rattle.zt_routers.specs.KeysOf.{AreKeysOf, node_key_cmp, zid_key_cmp}
 
-or_swap : (a b c : Bool) → (a || (b || c)) ≡ (b || (a || c))
+pub or_swap : (a b c : Bool) → (a || (b || c)) ≡ (b || (a || c))
 or_swap true true c = refl
 or_swap true false c = refl
 or_swap false b c = refl
 
-or_turn : (a b : Bool) → (a || b) ≡ (b || (a || false))
+pub or_turn : (a b : Bool) → (a || b) ≡ (b || (a || false))
 or_turn true true = refl
 or_turn true false = refl
 or_turn false true = refl
@@ -42,7 +42,7 @@ pub right_fails : (a b : Bool) → (a || b) ≡ false → b ≡ false
 right_fails true b is = (cc)
 right_fails false b is = is
 
-any_alike : {A : Type 0} (p q : A → Bool) → ((x : A) → p x ≡ q x) → (xs : List A) → list_any p xs ≡ list_any q xs
+pub any_alike : {A : Type 0} (p q : A → Bool) → ((x : A) → p x ≡ q x) → (xs : List A) → list_any p xs ≡ list_any q xs
 any_alike p q alike [] = refl
 any_alike p q alike (x ∷ xs) = ap (λ b. b || list_any p xs) (alike x) ∙ ap (λ b. q x || b) (any_alike p q alike xs)
 
@@ -50,7 +50,7 @@ or_assoc : (a b c : Bool) → (a || (b || c)) ≡ ((a || b) || c)
 or_assoc true b c = refl
 or_assoc false b c = refl
 
-any-append : {A : Type 0} (p : A → Bool) (xs ys : List A) → list_any p (xs ++ ys) ≡ (list_any p xs || list_any p ys)
+pub any-append : {A : Type 0} (p : A → Bool) (xs ys : List A) → list_any p (xs ++ ys) ≡ (list_any p xs || list_any p ys)
 any-append p [] ys = refl
 any-append p (x ∷ xs) ys = ap (λ b. p x || b) (any-append p xs ys) ∙ or_assoc (p x) (list_any p xs) (list_any p ys)
 
@@ -88,10 +88,10 @@ module _ {K : Type 0} (cmp : K → K → Ordering) where
           ∙ sym (any-append (λ y. test (key y)) xs (x ∷ []));
     }
 
-nat_is : (a b : ℕ) → is_eq (nat_cmp a b) ≡ (a == b)
+pub nat_is : (a b : ℕ) → is_eq (nat_cmp a b) ≡ (a == b)
 nat_is a b = grind (arith, nat_tests)
 
-both_are : (a b : Ordering) → is_eq (ordering_then a b) ≡ (is_eq a && is_eq b)
+pub both_are : (a b : Ordering) → is_eq (ordering_then a b) ≡ (is_eq a && is_eq b)
 both_are Less b = refl
 both_are Equal b = refl
 both_are Greater b = refl

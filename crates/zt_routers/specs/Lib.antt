@@ -4,3 +4,4 @@ pub mod Greeting
 pub mod Hiding
 pub mod KeysOf
 pub mod LeftOut
+pub mod Listed

@@ -1,15 +1,17 @@
 // Faces that are new among a source's children.
-ghost use Rattle.std.specs.Prelude.{◌≡◌, ◌&&◌, ◌++◌, IfOk, OnOk, map, not};
+ghost use Rattle.std.specs.Prelude.{◌≡◌, ◌++◌, IfOk, OnOk, map};
+ghost use Rattle.std.specs.List.{flat_map};
 ghost use Rattle.zt_model.specs.Parts.{to_each};
-ghost use Rattle.zt_model.specs.Trees.{greet_to, is_child, routed_expressions, routers_in_order};
-ghost use Rattle.zt_model.specs.Trees.{table_of};
+ghost use Rattle.zt_model.specs.Trees.{greet_to, routed_expressions};
 ghost use Rattle.zt_protocol.specs.Plain.{trees_of};
-ghost use Rattle.zt_routers.specs.Greeting.{declared, greeted};
+ghost use Rattle.zt_routers.specs.Greeting.{declared, greeted, greeted_by, is_new_among};
 
+use crate::listed::children_listed;
 use crate::ordering::{routed_expressions, routers_in_order};
-use crate::passing::is_child;
+use crate::passing::is_face_of_router;
 use crate::tables::table_of;
 use std::alloc::Global;
+use std::collections::BTreeSet;
 use zt_keys::{Key, Memory};
 use zt_protocol::{Message, TreeTable};
 use zt_region::{NodeId, Region, Zid};
@@ -38,19 +40,15 @@ fn declare<K: Key>(
     Ok(())
 }
 
-// Whether the face is a child of the router by the first table, and none by the second.
-#[tactic(auto, unfolding(zt_model::specs::Trees::is_child))]
-fn is_new_child<K: Key>(
-    g: &GatewayState<K>,
-    table: &TreeTable,
-    before: &TreeTable,
-    router: Zid,
-    f: &FaceState<K>,
+// Whether a child is new among the children of its source.
+fn is_new_child(
+    child: (Zid, Zid),
+    children: &BTreeSet<(Zid, Zid)>,
+    before: &BTreeSet<(Zid, Zid)>,
 ) -> bool
-    ensures { result ≡ (is_child g.now (trees_of table.now) router f.now
-        && not (is_child g.now (trees_of before.now) router f.now)) }
+    ensures { result ≡ is_new_among child children.now.keys before.now.keys }
 {
-    is_child(g, &table.children, router, f) && !is_child(g, &before.children, router, f)
+    children.contains(&child) && !before.contains(&child)
 }
 
 // Adds what the face is told of the tokens of one router.
@@ -58,42 +56,61 @@ fn greet_from<K: Key>(
     alloc: Global,
     g: &GatewayState<K>,
     region: Region,
-    table: &TreeTable,
-    before: &TreeTable,
+    children: &BTreeSet<(Zid, Zid)>,
+    before: &BTreeSet<(Zid, Zid)>,
     router: &(NodeId, Zid),
     f: &FaceState<K>,
     sends: &mut Vec<(u32, Message<K>)>,
 ) -> Result<(), Memory>
     ensures { OnOk result (sends.new.items ≡ sends.old.items
         ++ map (λ m. (f.now.number, m))
-        (greeted K.cmp g.now region (trees_of table.now) (trees_of before.now) f.now router.now)) }
+        (greeted K.cmp g.now region children.now.keys before.now.keys f.now router.now)) }
 {
-    if f.region() == region && is_new_child(g, table, before, router.1, f) {
+    if is_new_child((router.1, f.zid()), children, before) {
         let exprs = routed_expressions(alloc, g, region, router.1)?;
         declare(alloc, &exprs, router.0, f, sends)?;
     }
     Ok(())
 }
 
-// Adds what the face is told, by the table of the region and its routers in order.
+// Adds what the face is told of the tokens of each router.
+fn greet_from_each<K: Key>(
+    alloc: Global,
+    g: &GatewayState<K>,
+    region: Region,
+    routers: &[(NodeId, Zid)],
+    children: &BTreeSet<(Zid, Zid)>,
+    before: &BTreeSet<(Zid, Zid)>,
+    f: &FaceState<K>,
+    sends: &mut Vec<(u32, Message<K>)>,
+) -> Result<(), Memory>
+    ensures { OnOk result (sends.new.items ≡ sends.old.items
+        ++ map (λ m. (f.now.number, m)) (flat_map
+        (greeted K.cmp g.now region children.now.keys before.now.keys f.now) routers.now)) }
+{
+    for router in routers {
+        greet_from(alloc, g, region, children, before, router, f, sends)?;
+    }
+    Ok(())
+}
+
+// Adds what the face is told, by the routers of the region in order and its children.
 fn greet_to<K: Key>(
     alloc: Global,
     g: &GatewayState<K>,
     region: Region,
-    table: &TreeTable,
     routers: &[(NodeId, Zid)],
-    before: &TreeTable,
+    children: &BTreeSet<(Zid, Zid)>,
+    before: &BTreeSet<(Zid, Zid)>,
     f: &FaceState<K>,
     sends: &mut Vec<(u32, Message<K>)>,
 ) -> Result<(), Memory>
-    requires counted { trees_of table.now ≡ table_of g.now region }
-    requires in_order { routers.now ≡ routers_in_order K.cmp (trees_of table.now) }
     ensures { OnOk result (sends.new.items ≡ sends.old.items
-        ++ map (λ m. (f.now.number, m))
-        (greet_to K.cmp g.now region (trees_of before.now) f.now)) }
+        ++ map (λ m. (f.now.number, m)) (greeted_by
+        K.cmp g.now region routers.now children.now.keys before.now.keys f.now)) }
 {
-    for router in routers {
-        greet_from(alloc, g, region, table, before, router, f, sends)?;
+    if f.region() == region && is_face_of_router(g, f) {
+        greet_from_each(alloc, g, region, routers, children, before, f, sends)?;
     }
     Ok(())
 }
@@ -111,9 +128,13 @@ pub fn greet<K: Key>(
 {
     let table = table_of(alloc, g, region)?;
     let routers = routers_in_order(alloc, &table)?;
+    let children = children_listed(alloc, &table.children)?;
+    let earlier = children_listed(alloc, &before.children)?;
     let mut sends = Vec::new(alloc);
     for f in g.faces() {
-        greet_to(alloc, g, region, &table, &routers, before, f, &mut sends)?;
+        greet_to(
+            alloc, g, region, &routers, &children, &earlier, f, &mut sends,
+        )?;
     }
     Ok(sends)
 }

@@ -1,5 +1,6 @@
 // Expressions and routers in order.
-ghost use Rattle.std.specs.Prelude.{◌≡◌, ◌≤◌, IfNone, IfOk, IfSome, OnOk, insert, length};
+ghost use Rattle.std.specs.Prelude.{◌≡◌, IfOk, OnOk};
+ghost use Rattle.std.specs.BTreeMap.{IsOrdered};
 ghost use Rattle.std.specs.Ordering.{nat_cmp};
 ghost use Rattle.zt_model.specs.Lists.{in_key_order, with_key};
 ghost use Rattle.zt_model.specs.Trees.{left_out, routed_expressions};
@@ -9,8 +10,7 @@ ghost use Rattle.zt_routers.specs.LeftOut.{exprs_left_out};
 ghost use Rattle.zt_tokens.specs.Gathered.{with_keys};
 
 use std::alloc::Global;
-use std::cmp::Ordering;
-use std::collections::BTreeSet;
+use std::collections::{BTreeMap, BTreeSet};
 use zt_keys::{Key, Memory};
 use zt_protocol::TreeTable;
 use zt_region::{NodeId, Region, Zid};
@@ -83,36 +83,30 @@ pub(crate) fn routed_expressions<K: Key>(
     g.routed().expressions(alloc, region, source)
 }
 
-// The place of a router among routers in order of node id, unless its node id is there.
-fn place_for(routers: &[(NodeId, Zid)], router: &(NodeId, Zid)) -> Option<usize>
-    ensures bound { IfSome result (λ place. place ≤ length routers.now) }
-    ensures place { IfSome result (λ place. with_key (λ a b. nat_cmp a.0 b.0) router.now routers.now
-        ≡ insert routers.now place router.now) }
-    ensures there { IfNone result
-        (with_key (λ a b. nat_cmp a.0 b.0) router.now routers.now ≡ routers.now) }
+// Puts a router in its place among routers in order of node id, unless its node id is there.
+fn add_router(routers: &mut BTreeMap<NodeId, Zid>, router: &(NodeId, Zid)) -> Result<(), Memory>
+    requires { IsOrdered nat_cmp routers.old }
+    ensures router { OnOk result (routers.new.entries
+        ≡ with_key (λ a b. nat_cmp a.0 b.0) router.now routers.old.entries) }
+    ensures ordered { OnOk result (IsOrdered nat_cmp routers.new) }
 {
-    for (place, other) in routers.iter().enumerate() {
-        match router.0.cmp(&other.0) {
-            Ordering::Less => return Some(place),
-            Ordering::Equal => return None,
-            Ordering::Greater => {}
-        }
+    if routers.contains_key(&router.0) {
+        return Ok(());
     }
-    Some(routers.len())
+    routers.insert(router.0, router.1)?;
+    Ok(())
 }
 
-// Puts a router in its place among routers in order of node id, unless its node id is there.
-fn add_router(routers: &mut Vec<(NodeId, Zid)>, router: &(NodeId, Zid)) -> Result<(), Memory>
-    ensures { OnOk result (routers.new.items
-        ≡ with_key (λ a b. nat_cmp a.0 b.0) router.now routers.old.items) }
+// The routers of a table by node id. Of those with one node id it is the last.
+fn routers_by_node(alloc: Global, listed: &[(NodeId, Zid)]) -> Result<BTreeMap<NodeId, Zid>, Memory>
+    ensures { IfOk result (λ routers. routers.entries
+        ≡ in_key_order (λ a b. nat_cmp a.0 b.0) listed.now) }
 {
-    match place_for(routers.as_slice(), router) {
-        None => Ok(()),
-        Some(place) => {
-            routers.insert(place, *router)?;
-            Ok(())
-        }
+    let mut routers = BTreeMap::new(alloc);
+    for place in (0..listed.len()).rev() {
+        add_router(&mut routers, &listed[place])?;
     }
+    Ok(routers)
 }
 
 // The routers of a table in order of node id.
@@ -123,10 +117,9 @@ pub(crate) fn routers_in_order(
     ensures { IfOk result (λ routers. routers.items
         ≡ in_key_order (λ a b. nat_cmp a.0 b.0) (trees_of table.now).routers) }
 {
-    let listed = table.routers.as_slice();
     let mut routers = Vec::new(alloc);
-    for place in (0..listed.len()).rev() {
-        add_router(&mut routers, &listed[place])?;
+    for router in routers_by_node(alloc, &table.routers)? {
+        routers.push(router)?;
     }
     Ok(routers)
 }

@@ -29,7 +29,7 @@ fn find_face_of<K: Key>(g: &GatewayState<K>, region: Region, zid: Zid) -> Option
 }
 
 // Whether the face stands for its router.
-fn is_face_of_router<K: Key>(g: &GatewayState<K>, f: &FaceState<K>) -> bool
+pub(crate) fn is_face_of_router<K: Key>(g: &GatewayState<K>, f: &FaceState<K>) -> bool
     ensures { result ≡ is_face_of_router g.now f.now }
 {
     match find_face_of(g, f.region(), f.zid()) {
@@ -48,7 +48,7 @@ fn lists_child(children: &[(Zid, Zid)], source: Zid, router: Zid) -> bool
 }
 
 // Whether by the children of a table the source's tokens go on to the face.
-pub(crate) fn is_child<K: Key>(
+fn is_child<K: Key>(
     g: &GatewayState<K>,
     children: &[(Zid, Zid)],
     source: Zid,

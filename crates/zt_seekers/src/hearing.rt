@@ -79,7 +79,9 @@ pub(crate) fn untell_all<K: Key>(told: &mut ToldCounts<K>, f: &FaceState<K>)
     ensures { IsRetold K.cmp f.now.told []
         (counted K.cmp told.old) (counted K.cmp told.new) }
 {
-    for (_, expr) in f.told().iter() {
-        told.remove(expr);
+    for (_, row) in f.told().places() {
+        if let Some(expr) = row {
+            told.remove(expr);
+        }
     }
 }

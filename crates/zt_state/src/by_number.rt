@@ -1,6 +1,6 @@
 // The open faces, found and changed by their numbers.
 ghost use Rattle.std.specs.Prelude.{◌≡◌, ◌==◌, ◌<◌, ◌++◌, ◌∷◌, [], filter, if◌then◌else◌, get_or};
-ghost use Rattle.std.specs.Prelude.{length, map, not, set, IfNone, IfOk, IfSome, OnErr, OnOk};
+ghost use Rattle.std.specs.Prelude.{length, map, not, set, true, IfNone, IfOk, IfSome, OnErr, OnOk};
 ghost use Rattle.std.specs.Option.{option_copied};
 ghost use Rattle.zt_model.specs.Lists.{first_where};
 ghost use Rattle.zt_model.specs.Rows.{Face};
@@ -13,7 +13,7 @@ use zt_face::{FaceState, copy_all};
 use zt_keys::{Key, Memory};
 
 // Where the face of a number stands. A search by halves.
-fn place_of<K: Key>(faces: &[FaceState<K>], number: u32) -> Option<usize>
+fn search_place<K: Key>(faces: &[FaceState<K>], number: u32) -> Option<usize>
     requires { IsRising (λ f. f.number) faces.now }
     ensures found { IfSome result (λ place. IsPlace (λ f. f.number) number faces.now place) }
     ensures none { IfNone result (HasNone (λ f. f.number) number faces.now) }
@@ -22,6 +22,30 @@ fn place_of<K: Key>(faces: &[FaceState<K>], number: u32) -> Option<usize>
         Ok(place) => Some(place),
         Err(_) => None,
     }
+}
+
+// Whether the face of a number stands at a place.
+fn is_place<K: Key>(faces: &[FaceState<K>], number: u32, place: usize) -> bool
+    ensures { result ≡ true → IsPlace (λ f. f.number) number faces.now place }
+{
+    match faces.get(place) {
+        Some(f) => number == f.number(),
+        None => false,
+    }
+}
+
+// Where the face of a number stands. Numbers count up from 1, so where none below it was closed it
+// stands at its own; otherwise it is searched for by halves.
+fn place_of<K: Key>(faces: &[FaceState<K>], number: u32) -> Option<usize>
+    requires { IsRising (λ f. f.number) faces.now }
+    ensures found { IfSome result (λ place. IsPlace (λ f. f.number) number faces.now place) }
+    ensures none { IfNone result (HasNone (λ f. f.number) number faces.now) }
+{
+    let place = number.saturating_sub(1) as usize;
+    if is_place(faces, number, place) {
+        return Some(place);
+    }
+    search_place(faces, number)
 }
 
 // The face of a number.

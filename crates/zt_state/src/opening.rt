@@ -89,7 +89,7 @@ impl<K: Key> GatewayState<K> {
             self.zid,
             first,
             None,
-        );
+        )?;
         self.open_next(alloc, session)
     }
 
@@ -108,7 +108,7 @@ impl<K: Key> GatewayState<K> {
     {
         let number = self.made + 1;
         let initial = initial_of(self.mode, region, bound);
-        let face = FaceState::new(alloc, number, region, bound, whatami, zid, first, initial);
+        let face = FaceState::new(alloc, number, region, bound, whatami, zid, first, initial)?;
         self.open_next(alloc, face)
     }
 }

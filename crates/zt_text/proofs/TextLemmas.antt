@@ -1,10 +1,11 @@
 -- Texts that grow at their end.
-use Rattle.std.proofs.Common.{◌≡◌, ℕ, ◌+◌, ◌<◌, true, List, [], ◌++◌, length, take, drop, get_or, Result, Ok, Err, sym, subst, ap, ◌∙◌, append_assoc, add-one, suc}
+use Rattle.std.proofs.Common.{◌≡◌, ℕ, ◌+◌, ◌/◌, ◌%◌, ◌<◌, ◌≤◌, arith, true, List, [], ◌∷◌, ◌++◌, length, take, drop, get_or, Result, Ok, Err, sym, subst, ap, ◌∙◌, append_assoc, add-one, suc}
 use Rattle.std.proofs.Math.Seq.{drop-cons}
 use Rattle.std.proofs.lemmas.List.{append-nil, take_at}
 use Rattle.std.proofs.lemmas.List.Concat.{flat_map-cons}
+use Rattle.std.proofs.lemmas.Fmt.{decimal_digit, decimal_step}
 use Rattle.std.specs.List.{flat_map}
-use Rattle.std.specs.Prelude.{OnErr, is_err, IsUtf8}
+use Rattle.std.specs.Prelude.{OnOk, OnErr, is_err, IsUtf8, decimal}
 use Rattle.zt_keys.specs.declared.error.Memory.{Memory}
 use Rattle.zt_text.specs.Text.{Begins}
 
@@ -47,3 +48,20 @@ on_err (Err e) P p = p
 pub on_err_step : {E : Type 0} (r : Result (Unit {0}) E) (a b c t : List ℕ) → b ≡ a ++ t → OnErr r (Begins b c) → OnErr r (Begins a c)
 on_err_step (Ok x) a b c t grown h = tt
 on_err_step (Err e) a b c t grown h = begins_step a b c t grown h
+
+pub on_ok_step : {E : Type 0} (r : Result (Unit {0}) E) (a b c t u all : List ℕ) → b ≡ a ++ t → t ++ u ≡ all → OnOk r (c ≡ b ++ u) → OnOk r (c ≡ a ++ all)
+on_ok_step (Ok x) a b c t u all first whole h = h ∙ (ap (λ (y : List ℕ). y ++ u) first ∙ (append_assoc a t u ∙ ap (λ (y : List ℕ). a ++ y) whole))
+on_ok_step (Err e) a b c t u all first whole h = tt
+
+-- ---- short numbers
+
+pub decimal_one : (n : ℕ) → n < 10 → decimal n ≡ (48 + n) ∷ []
+decimal_one n h = decimal_digit n h
+
+pub decimal_two : (n : ℕ) → 10 ≤ n → n < 100 → decimal n ≡ (48 + n / 10) ∷ (48 + n % 10) ∷ []
+decimal_two n lo hi = rw (decimal_step n lo (omega arith), decimal_digit (n / 10) (omega arith))
+
+pub decimal_three : (n : ℕ) → 100 ≤ n → n < 1000 → decimal n ≡ (48 + n / 100) ∷ (48 + n / 10 % 10) ∷ (48 + n % 10) ∷ []
+decimal_three n lo hi =
+    let a : n / 10 / 10 ≡ n / 100 = omega arith in
+    rw (decimal_step n (omega arith) (omega arith), decimal_two (n / 10) (omega arith) (omega arith), a)

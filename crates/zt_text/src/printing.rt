@@ -1,7 +1,7 @@
 // The printed text. The private functions add to a text, and leave a part of what they add where
 // memory runs out.
-ghost use Rattle.std.specs.Prelude.{◌≡◌, ◌++◌, ◌∷◌, [], map, take, decimal, IsUtf8, codes, OnOk};
-ghost use Rattle.std.specs.Prelude.{OnErr, IfOk, is_ok, if◌then◌else◌, string_bytes};
+ghost use Rattle.std.specs.Prelude.{◌≡◌, ◌+◌, ◌<◌, ◌++◌, ◌∷◌, [], take, decimal, IsUtf8, codes};
+ghost use Rattle.std.specs.Prelude.{OnOk, OnErr, IfOk, is_ok, if◌then◌else◌, string_bytes};
 ghost use Rattle.std.specs.List.{flat_map};
 ghost use Rattle.zt_protocol.specs.Interest.{has_bits};
 ghost use Rattle.zt_protocol.specs.Plain.{plain_entry};
@@ -15,7 +15,7 @@ use bitflags::Flags;
 use itoa::Buffer;
 use std::alloc::Global;
 use zt_keys::{Key, Memory};
-use zt_protocol::{Entry, InterestMode, InterestOptions, Message, Report, Sent};
+use zt_protocol::{Entry, InterestMode, InterestOptions, Message, QueryableInfo, Report, Sent};
 
 /// Adds a field.
 fn put_field(out: &mut String, field: &str) -> Result<(), Memory>
@@ -28,25 +28,49 @@ fn put_field(out: &mut String, field: &str) -> Result<(), Memory>
     Ok(())
 }
 
+#[inline(always)]
+fn put_digit(out: &mut String, digit: u64) -> Result<(), Memory>
+    requires { digit < 10 }
+    ensures ok { OnOk result (string_bytes out.new
+        ≡ string_bytes out.old ++ (48 + digit) ∷ []) }
+    ensures err { OnErr result (Begins (string_bytes out.old) (string_bytes out.new)) }
+{
+    out.push(char::from(b'0' + digit as u8))?;
+    Ok(())
+}
+
+/// Adds the digits of a short number one by one: they cost less than a text of their own.
+#[inline(always)]
+#[tactic(auto, using(crate::proofs::TextLemmas::decimal_one))]
+fn put_short(out: &mut String, number: u64) -> Result<(), Memory>
+    requires { number < 1000 }
+    ensures ok { OnOk result (string_bytes out.new ≡ string_bytes out.old ++ decimal number) }
+    ensures err { OnErr result (Begins (string_bytes out.old) (string_bytes out.new)) }
+{
+    if number < 10 {
+        return put_digit(out, number);
+    }
+    if number < 100 {
+        put_digit(out, number / 10)?;
+        return put_digit(out, number % 10);
+    }
+    put_digit(out, number / 100)?;
+    put_digit(out, number / 10 % 10)?;
+    put_digit(out, number % 10)
+}
+
+/// Adds a number as a field. Most numbers are short.
 fn put_number(out: &mut String, number: u64) -> Result<(), Memory>
     ensures ok { OnOk result (string_bytes out.new
         ≡ string_bytes out.old ++ spaced (decimal number ∷ [])) }
     ensures err { OnErr result (Begins (string_bytes out.old) (string_bytes out.new)) }
 {
-    let mut buffer = Buffer::new();
-    put_field(out, buffer.format(number))
-}
-
-/// Adds a word and numbers.
-fn put_head(out: &mut String, word: &str, numbers: &[u32]) -> Result<(), Memory>
-    ensures ok { OnOk result (string_bytes out.new
-        ≡ string_bytes out.old ++ spaced (word.now ∷ map decimal numbers.now)) }
-    ensures err { OnErr result (Begins (string_bytes out.old) (string_bytes out.new)) }
-{
-    put_field(out, word)?;
-    for number in numbers {
-        put_number(out, u64::from(*number))?;
+    out.push(' ')?;
+    if number < 1000 {
+        return put_short(out, number);
     }
+    let mut buffer = Buffer::new();
+    out.push_str(buffer.format(number))?;
     Ok(())
 }
 
@@ -134,10 +158,30 @@ fn put_interest<K: Key>(
         ∷ key_fields K.printed expr.now)) }
     ensures err { OnErr result (Begins (string_bytes out.old) (string_bytes out.new)) }
 {
-    put_head(out, "interest", &[id])?;
+    out.push_str(" interest")?;
+    put_number(out, u64::from(id))?;
     put_field(out, interest_mode_text(mode))?;
     put_options(out, options)?;
     put_optional_key(out, expr)
+}
+
+fn put_interest_final(out: &mut String, id: u32) -> Result<(), Memory>
+    ensures ok { OnOk result (string_bytes out.new
+        ≡ string_bytes out.old ++ spaced (codes "interest-final" ∷ decimal id ∷ [])) }
+    ensures err { OnErr result (Begins (string_bytes out.old) (string_bytes out.new)) }
+{
+    out.push_str(" interest-final")?;
+    put_number(out, u64::from(id))
+}
+
+fn put_info(out: &mut String, info: QueryableInfo) -> Result<(), Memory>
+    ensures ok { OnOk result (string_bytes out.new
+        ≡ string_bytes out.old
+        ++ spaced (flag_text info.complete ∷ decimal info.distance ∷ [])) }
+    ensures err { OnErr result (Begins (string_bytes out.old) (string_bytes out.new)) }
+{
+    out.push_str(if info.complete { " 1" } else { " 0" })?;
+    put_number(out, u64::from(info.distance))
 }
 
 fn put_message<K: Key>(out: &mut String, message: &Message<K>) -> Result<(), Memory>
@@ -152,7 +196,9 @@ fn put_message<K: Key>(out: &mut String, message: &Message<K>) -> Result<(), Mem
             interest_id: None,
             node_id,
         } => {
-            put_head(out, "token", &[*id, u32::from(*node_id)])?;
+            out.push_str(" token")?;
+            put_number(out, u64::from(*id))?;
+            put_number(out, u64::from(*node_id))?;
             put_key(out, expr)
         }
         Message::DeclareToken {
@@ -161,27 +207,37 @@ fn put_message<K: Key>(out: &mut String, message: &Message<K>) -> Result<(), Mem
             interest_id: Some(interest_id),
             node_id,
         } => {
-            put_head(out, "answer", &[*interest_id, *id, u32::from(*node_id)])?;
+            out.push_str(" answer")?;
+            put_number(out, u64::from(*interest_id))?;
+            put_number(out, u64::from(*id))?;
+            put_number(out, u64::from(*node_id))?;
             put_key(out, expr)
         }
         Message::UndeclareToken { id, expr, node_id } => {
-            put_head(out, "untoken", &[*id, u32::from(*node_id)])?;
+            out.push_str(" untoken")?;
+            put_number(out, u64::from(*id))?;
+            put_number(out, u64::from(*node_id))?;
             put_optional_key(out, expr)
         }
-        Message::DeclareFinal { interest_id } => put_head(out, "final", &[*interest_id]),
+        Message::DeclareFinal { interest_id } => {
+            out.push_str(" final")?;
+            put_number(out, u64::from(*interest_id))
+        }
         Message::Interest {
             id,
             mode,
             options,
             expr,
         } => put_interest(out, *id, *mode, *options, expr),
-        Message::InterestFinal { id } => put_head(out, "interest-final", &[*id]),
+        Message::InterestFinal { id } => put_interest_final(out, *id),
         Message::DeclareSubscriber {
             id,
             expr,
             interest_id,
         } => {
-            put_head(out, "subscriber", &[*interest_id, *id])?;
+            out.push_str(" subscriber")?;
+            put_number(out, u64::from(*interest_id))?;
+            put_number(out, u64::from(*id))?;
             put_key(out, expr)
         }
         Message::DeclareQueryable {
@@ -190,9 +246,10 @@ fn put_message<K: Key>(out: &mut String, message: &Message<K>) -> Result<(), Mem
             info,
             interest_id,
         } => {
-            put_head(out, "queryable", &[*interest_id, *id])?;
-            put_field(out, if info.complete { "1" } else { "0" })?;
-            put_number(out, u64::from(info.distance))?;
+            out.push_str(" queryable")?;
+            put_number(out, u64::from(*interest_id))?;
+            put_number(out, u64::from(*id))?;
+            put_info(out, *info)?;
             put_key(out, expr)
         }
     }

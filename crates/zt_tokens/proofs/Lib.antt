@@ -4,3 +4,5 @@ pub mod Answers
 pub mod Chosen
 pub mod Unsought
 mod Unheard
+mod Gone
+mod Told

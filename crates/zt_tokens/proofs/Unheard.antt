@@ -1,5 +1,5 @@
 -- Where as many of the faces that seek an expression keep it as faces do altogether, no other face hears of its tokens.
-use Rattle.std.proofs.Common.{◌≡◌, ◌≤◌, ℕ, ◌==◌, Bool, true, false, ◌||◌, suc, List, [], ◌∷◌, Option, Some, None, ap, arith, filter, length, map, refl, sym, ◌∙◌}
+use Rattle.std.proofs.Common.{◌≡◌, ◌≤◌, ℕ, ◌==◌, Bool, true, false, ◌||◌, suc, List, [], ◌∷◌, Option, Some, None, ap, arith, filter, length, map, refl, ◌∙◌}
 use Rattle.std.specs.List.{AllByRecursion, list_any}
 use Rattle.std.specs.declared.cmp.Ordering.{Ordering}
 use Rattle.zt_keys.specs.Test.{by_test}

@@ -1,91 +1,191 @@
 // Faces hear that tokens are gone.
-ghost use Rattle.std.specs.Prelude.{◌≡◌, ◌++◌, IfOk, OnOk, None, false, filter, length, map, true};
-ghost use Rattle.zt_model.specs.Parts.{told_id};
+ghost use Rattle.std.specs.Prelude.{◌≡◌, ◌++◌, ◌∷◌, ◌&&◌, [], not, IfOk, OnOk, None};
+ghost use Rattle.std.specs.Prelude.{filter, if◌then◌else◌, length, map, true};
+ghost use Rattle.std.specs.List.{flat_map};
+ghost use Rattle.zt_protocol.specs.declared.messages.Message.TheVariants.{UndeclareToken};
+ghost use Rattle.zt_model.specs.Strategy.{strategy_of, is_client_hat};
 ghost use Rattle.zt_model.specs.Wants.{wants};
-ghost use Rattle.zt_model.specs.Telling.{forget, forget_to, forget_untold};
-ghost use Rattle.zt_model.specs.Visible.{keeps};
-ghost use Rattle.zt_tokens.specs.Walks.{is_kept_at};
+ghost use Rattle.zt_model.specs.Telling.{forget, forget_untold};
+ghost use Rattle.zt_model.specs.Visible.{keeps, shows};
+ghost use Rattle.zt_tokens.specs.Gone.{IsGone, forget_by, forget_known, is_seen};
+ghost use Rattle.zt_tokens.specs.Walks.{given_at, is_kept_at, sent_to};
 
-use crate::questions::{find_face, is_client_region, is_routed, is_visible, keeps, shows, wants};
-use crate::walking::{FaceRule, say_at, say_each};
+use crate::questions::{find_face, is_client_region, is_routed, is_visible, shows, wants};
+use crate::walking::{FaceRule, say_each};
 use std::alloc::Global;
 use zt_keys::{Key, Memory};
-use zt_protocol::Message;
+use zt_protocol::{Message, TokenId};
 use zt_region::Region;
 use zt_state::{FaceState, GatewayState};
 
-// Adds what a face that wasn't told the expression hears, by expression.
-#[tactic(auto, unfolding(zt_model::specs::Telling::forget_untold))]
-fn forget_untold_to<K: Key>(
-    alloc: Global,
-    g: &GatewayState<K>,
-    source: Region,
-    expr: &K,
-    f: &FaceState<K>,
-    sends: &mut Vec<(u32, Message<K>)>,
-) -> Result<(), Memory>
-    ensures { OnOk result (sends.new.items ≡ sends.old.items ++ map (λ m. (f.now.number, m))
-        (forget_untold K.cmp K.matching g.now source expr.now f.now)) }
+// Whether faces of no region see the expression: those of `Local` see each live token.
+fn is_gone<K: Key>(g: &GatewayState<K>, expr: &K) -> bool
+    ensures { result ≡ true → IsGone K.cmp g.now expr.now }
 {
-    if wants(f, expr) && !is_client_region(g.mode(), f.region()) && shows(f.region(), source) {
-        let message = Message::UndeclareToken {
-            id: 0,
-            expr: Some(expr.copy(alloc)?),
-            node_id: 0,
-        };
-        sends.push((f.number(), message))?;
-    }
-    Ok(())
+    !is_visible(g, Region::Local, expr)
 }
 
-// Whether a face was neither told the expression nor wants it, so that it hears nothing of it in
-// any case: cheaper to ask than what is visible.
-fn is_unheard<K: Key>(f: &FaceState<K>, expr: &K) -> bool
-    ensures untold { result ≡ true → told_id K.cmp expr.now f.now.told ≡ None }
-    ensures unwanted { result ≡ true → wants K.matching f.now expr.now ≡ false }
+// Whether a face that wasn't told the expression and doesn't see it hears that it is gone.
+fn hears_untold<K: Key>(g: &GatewayState<K>, source: Region, expr: &K, f: &FaceState<K>) -> bool
+    ensures { result ≡ (wants K.matching f.now expr.now
+        && not (is_client_hat (strategy_of g.now.mode f.now.region)) && shows f.now.region source) }
 {
-    f.told().id_of(expr).is_none() && !wants(f, expr)
+    shows(f.region(), source) && !is_client_region(g.mode(), f.region()) && wants(f, expr)
 }
 
-// Adds what a face hears of an expression that is gone.
-#[tactic(auto, unfolding(zt_model::specs::Telling::forget_to))]
-fn forget_to<K: Key>(
-    alloc: Global,
-    g: &GatewayState<K>,
-    source: Region,
-    expr: &K,
-    f: &FaceState<K>,
-    sends: &mut Vec<(u32, Message<K>)>,
-) -> Result<(), Memory>
-    ensures { OnOk result (sends.new.items ≡ sends.old.items ++ map (λ m. (f.now.number, m))
-        (forget_to K.cmp K.matching g.now source expr.now f.now)) }
-{
-    if is_routed(g, f) || is_unheard(f, expr) || is_visible(g, f.region(), expr) {
-        return Ok(());
-    }
-    let Some(id) = f.told().id_of(expr) else {
-        return forget_untold_to(alloc, g, source, expr, f, sends);
-    };
-    let message = Message::UndeclareToken {
-        id,
-        expr: None,
-        node_id: 0,
-    };
-    sends.push((f.number(), message))?;
-    Ok(())
-}
-
-// What a face hears of an expression that is gone from a region.
+// What a face hears of an expression that is gone from a region. Of one that is gone everywhere no
+// face is asked whether it sees it.
 #[derive(Drop)]
 struct Forgets<'a, K: Key> {
     source: Region,
     expr: &'a K,
+    is_gone: bool,
+}
+
+impl<'a, K: Key> Forgets<'a, K> {
+    // Whether the face sees the expression.
+    fn is_seen(&self, g: &GatewayState<K>, f: &FaceState<K>) -> bool
+        ensures { result ≡ is_seen K.cmp self.now.is_gone g.now f.now.region self.now.expr.now }
+    {
+        !self.is_gone && is_visible(g, f.region(), self.expr)
+    }
+
+    // Adds what a face hears that was told the expression under an id.
+    fn say_told(
+        &self,
+        g: &GatewayState<K>,
+        f: &FaceState<K>,
+        id: TokenId,
+        sends: &mut Vec<(u32, Message<K>)>,
+    ) -> Result<(), Memory>
+        ensures { OnOk result (sends.new.items ≡ sends.old.items ++ map (λ m. (f.now.number, m))
+            (if is_seen K.cmp self.now.is_gone g.now f.now.region self.now.expr.now then []
+            else UndeclareToken id None 0 ∷ [])) }
+    {
+        if !self.is_seen(g, f) {
+            let message = Message::UndeclareToken {
+                id,
+                expr: None,
+                node_id: 0,
+            };
+            sends.push((f.number(), message))?;
+        }
+        Ok(())
+    }
+
+    // Adds what a face hears that wasn't told the expression.
+    fn say_untold(
+        &self,
+        alloc: Global,
+        g: &GatewayState<K>,
+        f: &FaceState<K>,
+        sends: &mut Vec<(u32, Message<K>)>,
+    ) -> Result<(), Memory>
+        ensures { OnOk result (sends.new.items ≡ sends.old.items ++ map (λ m. (f.now.number, m))
+            (if is_seen K.cmp self.now.is_gone g.now f.now.region self.now.expr.now then []
+            else forget_untold K.cmp K.matching g.now self.now.source self.now.expr.now f.now)) }
+    {
+        if hears_untold(g, self.source, self.expr, f) && !self.is_seen(g, f) {
+            let message = Message::UndeclareToken {
+                id: 0,
+                expr: Some(self.expr.copy(alloc)?),
+                node_id: 0,
+            };
+            sends.push((f.number(), message))?;
+        }
+        Ok(())
+    }
+
+    // Adds what a face hears that was told the expression under an id, or not at all.
+    fn say_by(
+        &self,
+        alloc: Global,
+        g: &GatewayState<K>,
+        f: &FaceState<K>,
+        told: Option<TokenId>,
+        sends: &mut Vec<(u32, Message<K>)>,
+    ) -> Result<(), Memory>
+        ensures { OnOk result (sends.new.items ≡ sends.old.items ++ map (λ m. (f.now.number, m))
+            (forget_by K.cmp K.matching self.now.is_gone g.now self.now.source self.now.expr.now
+            f.now told)) }
+    {
+        if is_routed(g, f) {
+            return Ok(());
+        }
+        match told {
+            Some(id) => self.say_told(g, f, id, sends),
+            None => self.say_untold(alloc, g, f, sends),
+        }
+    }
+
+    // Adds what a face hears, and answers whether it keeps the expression.
+    #[tactic(auto, using(crate::proofs::Told::told_is_some))]
+    fn say_to(
+        &self,
+        alloc: Global,
+        g: &GatewayState<K>,
+        f: &FaceState<K>,
+        sends: &mut Vec<(u32, Message<K>)>,
+    ) -> Result<bool, Memory>
+        ensures said { OnOk result (sends.new.items ≡ sends.old.items
+            ++ sent_to (forget_known K.cmp K.matching self.now.is_gone g.now self.now.source
+            self.now.expr.now) f.now) }
+        ensures kept { IfOk result (λ kept. kept ≡ keeps K.cmp f.now self.now.expr.now) }
+    {
+        let told = f.told().id_of(self.expr);
+        self.say_by(alloc, g, f, told, sends)?;
+        Ok(told.is_some())
+    }
+
+    // Adds what the face of a number hears, if it is open, and answers whether it keeps the
+    // expression.
+    fn say_to_number(
+        &self,
+        alloc: Global,
+        g: &GatewayState<K>,
+        number: u32,
+        sends: &mut Vec<(u32, Message<K>)>,
+    ) -> Result<bool, Memory>
+        ensures said { OnOk result (sends.new.items ≡ sends.old.items
+            ++ given_at (sent_to (forget_known K.cmp K.matching self.now.is_gone g.now
+            self.now.source self.now.expr.now)) g.now.faces number) }
+        ensures kept { IfOk result (λ kept. kept
+            ≡ is_kept_at K.cmp self.now.expr.now g.now.faces number) }
+    {
+        match find_face(g, number) {
+            Some(f) => self.say_to(alloc, g, f, sends),
+            None => Ok(false),
+        }
+    }
+
+    // What the faces of these numbers hear, and how many of them keep the expression.
+    fn say_to_numbers(
+        &self,
+        alloc: Global,
+        g: &GatewayState<K>,
+        numbers: &[u32],
+    ) -> Result<(Vec<(u32, Message<K>)>, usize), Memory>
+        ensures said { IfOk result (λ done. done.0.items
+            ≡ flat_map (given_at (sent_to (forget_known K.cmp K.matching self.now.is_gone g.now
+            self.now.source self.now.expr.now)) g.now.faces) numbers.now) }
+        ensures kept { IfOk result (λ done. done.1
+            ≡ length (filter (is_kept_at K.cmp self.now.expr.now g.now.faces) numbers.now)) }
+    {
+        let mut sends = Vec::new(alloc);
+        let mut kept = 0;
+        for number in numbers {
+            if self.say_to_number(alloc, g, *number, &mut sends)? {
+                kept += 1;
+            }
+        }
+        Ok((sends, kept))
+    }
 }
 
 impl<'a, K: Key> FaceRule<K> for Forgets<'a, K> {
-    ghost use Rattle.zt_model.specs.Telling.{forget_to};
+    ghost use Rattle.zt_tokens.specs.Gone.{forget_known};
 
-    ghost given = { λ t g. forget_to K.cmp K.matching g t.source t.expr.now };
+    ghost given = { λ t g. forget_known K.cmp K.matching t.is_gone g t.source t.expr.now };
 
     fn say(
         &self,
@@ -94,36 +194,8 @@ impl<'a, K: Key> FaceRule<K> for Forgets<'a, K> {
         f: &FaceState<K>,
         sends: &mut Vec<(u32, Message<K>)>,
     ) -> Result<(), Memory> {
-        forget_to(alloc, g, self.source, self.expr, f, sends)
+        self.say_by(alloc, g, f, f.told().id_of(self.expr), sends)
     }
-}
-
-// Whether the face of the number is open and keeps the expression.
-fn is_kept_at<K: Key>(g: &GatewayState<K>, expr: &K, number: u32) -> bool
-    ensures { result ≡ is_kept_at K.cmp expr.now g.now.faces number }
-{
-    match find_face(g, number) {
-        Some(f) => keeps(f, expr),
-        None => false,
-    }
-}
-
-// How many faces of these numbers keep the expression.
-fn count_kept<K: Key>(g: &GatewayState<K>, expr: &K, numbers: &[u32]) -> usize
-    ensures { result ≡ length (filter (is_kept_at K.cmp expr.now g.now.faces) numbers.now) }
-{
-    numbers
-        .iter()
-        .filter(|number| is_kept_at(g, expr, **number))
-        .count()
-}
-
-// Whether as many faces of these numbers keep the expression as faces do altogether.
-fn are_all_kept<K: Key>(g: &GatewayState<K>, expr: &K, numbers: &[u32]) -> bool
-    ensures { result ≡ true → length (filter (λ f. keeps K.cmp f expr.now) g.now.faces)
-        ≡ length (filter (is_kept_at K.cmp expr.now g.now.faces) numbers.now) }
-{
-    count_kept(g, expr, numbers) == g.told_count(expr) as usize
 }
 
 /// The faces that can't see an expression any more hear that it is gone from a region: Zenoh's
@@ -138,9 +210,16 @@ pub fn forget<K: Key>(
     ensures { IfOk result (λ sends. sends.items
         ≡ forget K.cmp K.matching source expr.now g.now) }
 {
-    let forgets = Forgets { source, expr };
-    match g.find_seekers(alloc, expr)? {
-        Some(numbers) if are_all_kept(g, expr, &numbers) => say_at(alloc, g, &numbers, &forgets),
-        _ => say_each(alloc, g, &forgets),
+    let forgets = Forgets {
+        source,
+        expr,
+        is_gone: is_gone(g, expr),
+    };
+    if let Some(numbers) = g.find_seekers(alloc, expr)? {
+        let (sends, kept) = forgets.say_to_numbers(alloc, g, &numbers)?;
+        if kept == g.told_count(expr) as usize {
+            return Ok(sends);
+        }
     }
+    say_each(alloc, g, &forgets)
 }

@@ -6,6 +6,7 @@ ghost use Rattle.zt_model.specs.Strategy.{strategy_of, is_client_hat, is_router_
 ghost use Rattle.zt_model.specs.Telling.{is_told};
 ghost use Rattle.zt_model.specs.Visible.{is_visible, keeps, shows};
 ghost use Rattle.zt_model.specs.Wants.{seeks, wants};
+ghost use Rattle.zt_tokens.specs.Seeking.{is_seeker_told};
 
 use zt_indexes::RegionTest;
 use zt_keys::Key;
@@ -83,15 +84,27 @@ pub fn is_routed<K: Key>(g: &GatewayState<K>, f: &FaceState<K>) -> bool
     is_router_region(g.mode(), f.region())
 }
 
-/// Whether the face is told of a token of the expression that was declared in the region `source`.
-pub fn is_told<K: Key>(g: &GatewayState<K>, source: Region, expr: &K, f: &FaceState<K>) -> bool
-    ensures { result ≡ is_told K.cmp K.matching g.now source expr.now f.now }
+/// Whether a face that seeks the expression is told of a token of it that was declared in the
+/// region `source`.
+pub fn is_seeker_told<K: Key>(
+    g: &GatewayState<K>,
+    source: Region,
+    expr: &K,
+    f: &FaceState<K>,
+) -> bool
+    ensures { result ≡ is_seeker_told K.cmp g.now source expr.now f.now }
 {
     !is_routed(g, f)
         && g.admission().admits(source, f.region())
         && shows(f.region(), source)
         && !keeps(f, expr)
-        && seeks(f, expr)
+}
+
+/// Whether the face is told of a token of the expression that was declared in the region `source`.
+pub fn is_told<K: Key>(g: &GatewayState<K>, source: Region, expr: &K, f: &FaceState<K>) -> bool
+    ensures { result ≡ is_told K.cmp K.matching g.now source expr.now f.now }
+{
+    is_seeker_told(g, source, expr, f) && seeks(f, expr)
 }
 
 /// Of regions those whose tokens faces of this region are shown.

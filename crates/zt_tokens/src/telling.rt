@@ -1,14 +1,35 @@
 // Faces hear of tokens that were declared.
-ghost use Rattle.std.specs.Prelude.{◌≡◌, IfOk};
+ghost use Rattle.std.specs.Prelude.{◌≡◌, ◌++◌, IfOk, OnOk, map};
 ghost use Rattle.zt_model.specs.Telling.{tell};
+ghost use Rattle.zt_tokens.specs.Seeking.{declared_to};
 
-use crate::questions::is_told;
+use crate::questions::{is_seeker_told, is_told};
 use crate::walking::{FaceRule, say_at, say_each};
 use std::alloc::Global;
 use zt_keys::{Key, Memory};
 use zt_protocol::Message;
 use zt_region::Region;
 use zt_state::{FaceState, GatewayState};
+
+// Adds the declaration of a token of the expression.
+fn declare_to<K: Key>(
+    alloc: Global,
+    expr: &K,
+    f: &FaceState<K>,
+    sends: &mut Vec<(u32, Message<K>)>,
+) -> Result<(), Memory>
+    ensures { OnOk result (sends.new.items ≡ sends.old.items
+        ++ map (λ m. (f.now.number, m)) (declared_to expr.now f.now)) }
+{
+    let message = Message::DeclareToken {
+        id: f.next(),
+        expr: expr.copy(alloc)?,
+        interest_id: None,
+        node_id: 0,
+    };
+    sends.push((f.number(), message))?;
+    Ok(())
+}
 
 // What a face is told of a token of the expression.
 #[derive(Drop)]
@@ -31,13 +52,33 @@ impl<'a, K: Key> FaceRule<K> for Tells<'a, K> {
         sends: &mut Vec<(u32, Message<K>)>,
     ) -> Result<(), Memory> {
         if is_told(g, self.source, self.expr, f) {
-            let message = Message::DeclareToken {
-                id: f.next(),
-                expr: self.expr.copy(alloc)?,
-                interest_id: None,
-                node_id: 0,
-            };
-            sends.push((f.number(), message))?;
+            declare_to(alloc, self.expr, f, sends)?;
+        }
+        Ok(())
+    }
+}
+
+// What a face is told that is known to seek the expression: it isn't asked again whether it does.
+#[derive(Drop)]
+struct TellsSeeker<'a, K: Key> {
+    source: Region,
+    expr: &'a K,
+}
+
+impl<'a, K: Key> FaceRule<K> for TellsSeeker<'a, K> {
+    ghost use Rattle.zt_tokens.specs.Seeking.{tell_seeker};
+
+    ghost given = { λ t g. tell_seeker K.cmp g t.source t.expr.now };
+
+    fn say(
+        &self,
+        alloc: Global,
+        g: &GatewayState<K>,
+        f: &FaceState<K>,
+        sends: &mut Vec<(u32, Message<K>)>,
+    ) -> Result<(), Memory> {
+        if is_seeker_told(g, self.source, self.expr, f) {
+            declare_to(alloc, self.expr, f, sends)?;
         }
         Ok(())
     }
@@ -53,9 +94,8 @@ pub fn tell<K: Key>(
 ) -> Result<Vec<(u32, Message<K>)>, Memory>
     ensures { IfOk result (λ sends. sends.items ≡ tell K.cmp K.matching source expr.now g.now) }
 {
-    let tells = Tells { source, expr };
     match g.find_seekers(alloc, expr)? {
-        Some(numbers) => say_at(alloc, g, &numbers, &tells),
-        None => say_each(alloc, g, &tells),
+        Some(numbers) => say_at(alloc, g, &numbers, &TellsSeeker { source, expr }),
+        None => say_each(alloc, g, &Tells { source, expr }),
     }
 }

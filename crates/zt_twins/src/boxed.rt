@@ -7,8 +7,7 @@ use std::mem;
 use zt_keys::{Key, Memory};
 use zt_state::GatewayState;
 
-/// What a gateway keeps, in a box: a call hands it from one to the next some fifty times, and moves a
-/// pointer then.
+/// What a gateway keeps, in a box: it is large and handed on often, and a pointer moves then.
 #[derive(Drop)]
 pub struct BoxedState<K: Key> {
     pub(crate) inner: Box<GatewayState<K>>,

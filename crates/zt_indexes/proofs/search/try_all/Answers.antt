@@ -1,12 +1,27 @@
-use Rattle.std.proofs.Common.{◌∙◌}
-use Rattle.std.proofs.lemmas.Result.{IfOk-weaker}
-use Rattle.zt_indexes.proofs.Seeking.{matching-listed}
+use Rattle.std.proofs.Common.{◌&&◌, ap, sym, ◌∙◌}
+use Rattle.std.proofs.lemmas.List.Sorted.{list_any-IsPermutation}
+use Rattle.std.specs.BTreeMap.{is_at}
+use Rattle.zt_indexes.specs.Grouped.{is_in}
+use Rattle.zt_indexes.specs.Live.{shown_keys}
+use Rattle.zt_indexes.specs.Shown.{among-apart, shown-apart}
+use Rattle.zt_indexes.proofs.Apart.{apart-filter, sorted-apart}
+use Rattle.zt_indexes.proofs.Seeking.{among-filter, matching-listed}
 use Rattle.zt_indexes.proofs.search.try_all.Goals as goal
 
 pub returns : goal.returns
 returns g c =
-    IfOk-weaker c.listed.result _ _
-    (λ exprs is.
-    is
-    ∙ matching-listed g.K.Ord.cmp g.met.K.Ord.total g.met.K.Key.laws.equal_is_same (g.T.RegionTest.passes c.args.test.now) c.args.keys.now.entries c.in_ok-found.found.keys c.listed.ensures.in_order (g.K.Key.matching c.args.key.now) c.in_ok-found.ensures)
-    c.listed.ensures.listed
+    let cmp = g.K.Ord.cmp in
+    let total = g.met.K.Ord.total in
+    let one = g.met.K.Key.laws.equal_is_same in
+    let matches = g.K.Key.matching c.args.key.now in
+    let shown = g.T.RegionTest.passes c.args.test.now in
+    let entries = c.args.keys.now.entries in
+    let found = c.in_ok-found.found.items in
+    let exprs = c.sort_unstable.new.self.items in
+    let moved = c.sort_unstable.ensures.permutation in
+    let are = c.in_ok-found.ensures.matching in
+    let apart = c.in_ok-found.ensures.apart in
+    matching-listed cmp total one shown entries exprs
+    (sorted-apart cmp total found exprs moved c.sort_unstable.ensures.sorted (rw are (apart-filter _ matches (shown_keys shown entries) (shown-apart cmp total shown entries apart))))
+    matches
+    (λ q. sym (list_any-IsPermutation (is_at (cmp q)) found exprs moved) ∙ ap (is_in cmp q) are ∙ among-filter cmp total one matches q (shown_keys shown entries) ∙ ap (λ b. matches q && b) (among-apart cmp total shown q entries apart))

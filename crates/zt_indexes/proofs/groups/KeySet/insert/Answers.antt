@@ -1,12 +1,12 @@
-use Rattle.std.proofs.Common.{true}
-use Rattle.zt_indexes.proofs.Hashed.{keys-changed}
+use Rattle.std.proofs.lemmas.Result.{on_err_weaker, on_ok_weaker}
+use Rattle.std.proofs.Common.{◌++◌, ap}
+use Rattle.zt_indexes.specs.Grouped.{as_list}
 use Rattle.zt_indexes.proofs.Sets.{put-more}
 use Rattle.zt_indexes.proofs.groups.KeySet.insert.Goals as goal
 
 pub returns-clause-ok : goal.returns-clause-ok
-returns-clause-ok g c q =
-    let key = c.args.key in
-    let old = c.self.inside.more.keys in
-    let new = c.insert.new.self.keys in
+returns-clause-ok g c =
     rw (← c.self.view_is)
-    (put-more g.K.Ord.cmp g.met.K.Ord.total c.self.inside.one key old new (keys-changed g.K.Ord.cmp g.met.K.Ord.matches_eq true key old new c.in_ok-insert.ensures.updates.0) q)
+    (on_ok_weaker c.insert.result
+    (λ more. put-more g.K.Ord.cmp g.met.K.Ord.total c.self.inside.one c.args.key c.self.inside.more c.insert.new.self more)
+    c.insert.ensures.ok)

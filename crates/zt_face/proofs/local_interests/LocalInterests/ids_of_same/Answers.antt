@@ -1,0 +1,17 @@
+use Rattle.std.proofs.Common.{ap, refl, subst, ◌∙◌}
+use Rattle.std.proofs.lemmas.Result.{IfOk-weaker}
+use Rattle.std.specs.HashMap.{get}
+use Rattle.std.specs.List.Sorted.{IsStrictlySortedBy}
+use Rattle.std.specs.Ordering.{nat_cmp}
+use Rattle.zt_face.specs.Ids.{ids_under}
+use Rattle.zt_face.specs.Locals.{asked_by, asked_eq}
+use Rattle.zt_face.proofs.Found.{found_ids}
+use Rattle.zt_face.proofs.local_interests.LocalInterests.ids_of_same.Goals as goal
+
+pub returns : goal.returns
+returns g c =
+    let sets = get (asked_eq g.K.PartialEq.eq) c.self.inside.ids in
+    let asked = asked_by c.args.interest.now in
+    let rising = subst (λ q. IsStrictlySortedBy nat_cmp (ids_under (sets q))) c.asked.ensures c.ids_of.ensures.rising in
+    let same = found_ids g.K.Ord.cmp g.K.Key.matching sets c.self.inside.rows c.self.invariant (ids_under (sets asked)) asked refl rising in
+    rw (← c.self.view_is) (IfOk-weaker c.ids_of.result _ _ (λ ids are. are ∙ ap (λ q. ids_under (sets q)) c.asked.ensures ∙ same) c.ids_of.ensures.ids)

@@ -1,6 +1,0 @@
-use Rattle.std.proofs.Common.{◌≡◌, ◌++◌}
-use Rattle.zt_face.proofs.locals.LocalInterests.copy.Given as goal
-
--- those so far and those left are all
-abbrev pub invariant-loop-id : goal.invariant-loop-id
-invariant-loop-id g l = l.copies ++ l.id-iterator ≡ l.self

@@ -1,0 +1,102 @@
+-- Entries clash where keys of theirs are among those of entries that count.
+use Rattle.std.proofs.Common.{◌≡◌, ◌&&◌, ◌||◌, ◌==◌, ◌++◌, ◌∷◌, ℕ, Bool, true, false, List, [], ap, arith, cond, refl, sym, ◌∙◌}
+use Rattle.std.proofs.lemmas.Bool.Decides.{nat_tests}
+use Rattle.std.proofs.lemmas.Cmp.{nat_cmp_total, on_total, then_total}
+use Rattle.std.specs.BTreeSet.{BTreeSet, Updates}
+use Rattle.std.specs.Cmp.{IsTotalOrder, eq_by_cmp_equiv}
+use Rattle.std.specs.List.{list_any}
+use Rattle.std.specs.Ordering.{is_eq, nat_cmp, ordering_then}
+use Rattle.std.specs.declared.cmp.Ordering.{Ordering}
+use Rattle.std.specs.declared.cmp.Ordering.TheVariants.{Less, Equal, Greater}
+use Rattle.zt_region.specs.declared.region.Zid.{Zid}
+use Rattle.zt_region.specs.Region.{zid_cmp, zid_cmp_total, zid_eq}
+use Rattle.zt_model.specs.Trees.{is_same_link, is_same_router}
+use Rattle.zt_tables.specs.KeysOf.{AreKeysOf, node_key_cmp, zid_key_cmp}
+
+or_last : (a b : Bool) → cond a true b ≡ (b || (a || false))
+or_last true true = refl
+or_last true false = refl
+or_last false true = refl
+or_last false false = refl
+
+or_four : (a b c d : Bool) → ((a || b) || (c || d)) ≡ ((a || c) || (b || d))
+or_four true b true d = refl
+or_four true b false d = refl
+or_four false true true d = refl
+or_four false true false d = refl
+or_four false false true d = refl
+or_four false false false d = refl
+
+and_or : (a b c : Bool) → (a && (b || c)) ≡ ((a && b) || (a && c))
+and_or true b c = refl
+and_or false b c = refl
+
+or_assoc : (a b c : Bool) → (a || (b || c)) ≡ ((a || b) || c)
+or_assoc true b c = refl
+or_assoc false b c = refl
+
+any_alike : {A : Type 0} (p q : A → Bool) → ((x : A) → p x ≡ q x) → (xs : List A) → list_any p xs ≡ list_any q xs
+any_alike p q alike [] = refl
+any_alike p q alike (x ∷ xs) = ap (λ b. b || list_any p xs) (alike x) ∙ ap (λ b. q x || b) (any_alike p q alike xs)
+
+any-append : {A : Type 0} (p : A → Bool) (xs ys : List A) → list_any p (xs ++ ys) ≡ (list_any p xs || list_any p ys)
+any-append p [] ys = refl
+any-append p (x ∷ xs) ys = ap (λ b. p x || b) (any-append p xs ys) ∙ or_assoc (p x) (list_any p xs) (list_any p ys)
+
+any_or : {A : Type 0} (p q : A → Bool) (xs : List A) → list_any (λ x. p x || q x) xs ≡ (list_any p xs || list_any q xs)
+any_or p q [] = refl
+any_or p q (x ∷ xs) = ap (λ b. (p x || q x) || b) (any_or p q xs) ∙ or_four (p x) (q x) (list_any p xs) (list_any q xs)
+
+-- one member more, and its key
+pub one_key_more : {K A : Type 0} {cmp : K → K → Ordering} → IsTotalOrder cmp → (key : A → K) (old new : BTreeSet K) (xs : List A) (x : A)
+    → AreKeysOf cmp key old.keys xs → Updates cmp old new (key x) true → AreKeysOf cmp key new.keys (xs ++ x ∷ [])
+one_key_more {K} {A} {cmp} total key old new xs x keys put = record {
+  finds = λ q.
+      let test : A → Bool = λ y. is_eq (cmp q (key y)) in
+      put.0 q
+      ∙ ap (λ b. cond b true (list_any (λ k. is_eq (cmp q k)) old.keys)) ((eq_by_cmp_equiv total).symm (key x) q)
+      ∙ ap (λ b. cond (test x) true b) (keys.finds q)
+      ∙ or_last (test x) (list_any test xs)
+      ∙ sym (any-append test xs (x ∷ []));
+}
+
+pub node_key_total : IsTotalOrder node_key_cmp
+node_key_total = then_total (on_total (λ p. p.0) nat_cmp_total) (on_total (λ p. p.1) nat_cmp_total)
+
+pub zid_key_total : IsTotalOrder zid_key_cmp
+zid_key_total = then_total (on_total (λ p. p.0) nat_cmp_total) (on_total (λ p. p.1) zid_cmp_total)
+
+pub nat_is : (a b : ℕ) → is_eq (nat_cmp a b) ≡ (a == b)
+nat_is a b = grind (arith, nat_tests)
+
+pub both_are : (a b : Ordering) → is_eq (ordering_then a b) ≡ (is_eq a && is_eq b)
+both_are Less b = refl
+both_are Equal b = refl
+both_are Greater b = refl
+
+-- a router clashes where its node id or its number is among those of routers that count
+pub router_clashes : (r : ℕ × Zid) (nodes : List ℕ) (zids : List Zid) (counted : List (ℕ × Zid))
+    → AreKeysOf nat_cmp (λ (x : ℕ × Zid). x.0) nodes counted → AreKeysOf zid_cmp (λ (x : ℕ × Zid). x.1) zids counted
+    → (list_any (λ k. is_eq (nat_cmp r.0 k)) nodes || list_any (λ k. is_eq (zid_cmp r.1 k)) zids) ≡ list_any (is_same_router r) counted
+router_clashes r nodes zids counted by_node by_zid =
+    ap (λ b. b || list_any (λ k. is_eq (zid_cmp r.1 k)) zids) (by_node.finds r.0 ∙ any_alike _ (λ (x : ℕ × Zid). r.0 == x.0) (λ x. nat_is r.0 x.0) counted)
+    ∙ ap (λ b. list_any (λ (x : ℕ × Zid). r.0 == x.0) counted || b) (by_zid.finds r.1 ∙ any_alike _ (λ (x : ℕ × Zid). zid_eq r.1 x.1) (λ x. nat_is r.1.0 x.1.0) counted)
+    ∙ sym (any_or (λ (x : ℕ × Zid). r.0 == x.0) (λ (x : ℕ × Zid). zid_eq r.1 x.1) counted)
+
+-- a link clashes where for its face its node id or its router is among those of links that count
+pub link_clashes : (l : ℕ × ℕ × Zid) (nodes : List (ℕ × ℕ)) (zids : List (ℕ × Zid)) (counted : List (ℕ × ℕ × Zid))
+    → AreKeysOf node_key_cmp (λ (x : ℕ × ℕ × Zid). (x.0, x.1)) nodes counted → AreKeysOf zid_key_cmp (λ (x : ℕ × ℕ × Zid). (x.0, x.2)) zids counted
+    → (list_any (λ k. is_eq (node_key_cmp (l.0, l.1) k)) nodes || list_any (λ k. is_eq (zid_key_cmp (l.0, l.2) k)) zids) ≡ list_any (is_same_link l) counted
+link_clashes l nodes zids counted by_node by_zid =
+    ap (λ b. b || list_any (λ k. is_eq (zid_key_cmp (l.0, l.2) k)) zids)
+    (by_node.finds (l.0, l.1) ∙ any_alike _ same_node (λ x. both_are (nat_cmp l.0 x.0) (nat_cmp l.1 x.1) ∙ ap (λ b. b && is_eq (nat_cmp l.1 x.1)) (nat_is l.0 x.0) ∙ ap (λ b. (l.0 == x.0) && b) (nat_is l.1 x.1)) counted)
+    ∙ ap (λ b. list_any same_node counted || b)
+    (by_zid.finds (l.0, l.2) ∙ any_alike _ same_zid (λ x. both_are (nat_cmp l.0 x.0) (zid_cmp l.2 x.2) ∙ ap (λ b. b && is_eq (zid_cmp l.2 x.2)) (nat_is l.0 x.0) ∙ ap (λ b. (l.0 == x.0) && b) (nat_is l.2.0 x.2.0)) counted)
+    ∙ sym (any_or same_node same_zid counted)
+    ∙ any_alike _ (is_same_link l) (λ x. sym (and_or (l.0 == x.0) (l.1 == x.1) (zid_eq l.2 x.2))) counted
+  where
+    same_node : ℕ × ℕ × Zid → Bool
+    same_node x = (l.0 == x.0) && (l.1 == x.1)
+
+    same_zid : ℕ × ℕ × Zid → Bool
+    same_zid x = (l.0 == x.0) && zid_eq l.2 x.2

@@ -1,0 +1,3 @@
+mod Clashes
+mod Looked
+mod Nodes

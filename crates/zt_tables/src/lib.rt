@@ -1,0 +1,10 @@
+//! The tables of router regions, as gateways keep them: which of their entries count, and look-ups
+//! that are made once, when a table is handed in. They stand for Zenoh's link-state tree tables.
+#![tactic(auto)]
+
+mod counting;
+mod kept;
+mod lookups;
+
+pub use counting::counted_table;
+pub use kept::KeptTable;

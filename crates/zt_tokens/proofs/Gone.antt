@@ -1,0 +1,37 @@
+-- Of an expression that is gone everywhere no face needs to be asked whether it sees it.
+use Rattle.std.proofs.Common.{◌≡◌, Bool, true, false, ◌&&◌, not, List, [], ◌∷◌, refl, sym}
+use Rattle.std.specs.List.{list_any}
+use Rattle.std.specs.declared.cmp.Ordering.{Ordering}
+use Rattle.zt_keys.specs.Test.{by_test}
+use Rattle.zt_region.specs.declared.region.Region.{Region}
+use Rattle.zt_region.specs.declared.region.Region.TheVariants.{Local}
+use Rattle.zt_model.specs.Lists.{same}
+use Rattle.zt_model.specs.Rows.{Face, Rows}
+use Rattle.zt_model.specs.Telling.{forget_to}
+use Rattle.zt_model.specs.Visible.{is_visible, live_rows, shows}
+use Rattle.zt_tokens.specs.Gone.{IsGone, forget_known}
+
+unseen : (b : Bool) → not b ≡ true → b ≡ false
+unseen true h = sym h
+unseen false h = refl
+
+module _ {K : Type 0} (cmp : K → K → Ordering) where
+  -- faces of the region Local see each live token
+  local-sees : (e : K) (own : Region) (rows : List (Region × K)) → list_any (λ row. same cmp e row.1 && shows Local row.0) rows ≡ false → list_any (λ row. same cmp e row.1 && shows own row.0) rows ≡ false
+  local-sees e own [] none = refl
+  local-sees e own (row ∷ rows) none =
+      by_test (same cmp e row.1)
+      (λ t. let never = rw t at none in cc)
+      (λ t. rw t (local-sees e own rows (rw t at none)))
+
+  pub gone : (g : Rows K) (e : K) → not (is_visible cmp g Local e) ≡ true → IsGone cmp g e
+  unfolding is_visible
+  gone g e none own = local-sees e own (live_rows g) (unseen _ none)
+
+  pub forget-known : (matching : K → K → Bool) (is_gone : Bool) (g : Rows K) (source : Region) (e : K) → (is_gone ≡ true → IsGone cmp g e) → forget_known cmp matching is_gone g source e ≡ forget_to cmp matching g source e
+  unfolding forget_to
+  forget-known matching true g source e are = λ i f. unasked f i
+    where
+      unasked : (f : Face K) → forget_known cmp matching true g source e f ≡ forget_to cmp matching g source e f
+      unasked f = let unseen = are refl f.region in rw unseen refl
+  forget-known matching false g source e are = refl
