@@ -3,9 +3,9 @@ ghost use Rattle.std.specs.Prelude.{◌≡◌, ◌∷◌, [], OnOk};
 ghost use Rattle.zt_calls.specs.Does.{Does};
 ghost use Rattle.zt_model.specs.Parts.{Alter, Say, to_each};
 ghost use Rattle.zt_model.specs.Says.{forget, tell};
-ghost use Rattle.zt_model.specs.Trees.{but_for, changing_table, forgetting, greet_to, hiding};
-ghost use Rattle.zt_model.specs.Trees.{pass_on, showing, unpass, with_routed, with_table};
-ghost use Rattle.zt_model.specs.Trees.{without_routed};
+ghost use Rattle.zt_model.specs.Trees.{but_for, changing_table, counted_table, forgetting};
+ghost use Rattle.zt_model.specs.Trees.{greet_to, hiding, pass_on, showing, unpass, with_routed};
+ghost use Rattle.zt_model.specs.Trees.{with_table, without_routed};
 ghost use Rattle.zt_protocol.specs.Plain.{trees_of};
 
 use crate::speech::{Speech, say};
@@ -14,8 +14,9 @@ use std::alloc::Global;
 use zt_keys::{Key, Memory};
 use zt_protocol::{Message, TreeTable};
 use zt_region::{Region, Zid};
-use zt_routers::{counted_table, greet, left_out, pass_on, table_of, unpass};
+use zt_routers::{greet, left_out, pass_on, table_of, unpass};
 use zt_state::GatewayState;
+use zt_tables::KeptTable;
 
 // The messages but those to the face that a token comes from.
 fn spare<K: Key>(sends: &mut Vec<(u32, Message<K>)>, face: u32)
@@ -96,16 +97,15 @@ fn keep_and_greet<K: Key>(
     g: &mut GatewayState<K>,
     speech: &mut Speech<K>,
     region: Region,
-    table: &TreeTable,
-    before: &TreeTable,
+    table: KeptTable,
+    before: &KeptTable,
 ) -> Result<(), Memory>
     ensures { OnOk result (Does K.cmp K.matching
-        (Alter (with_table K.cmp region (trees_of table.now))
-        ∷ Say (λ h. to_each (greet_to K.cmp h region (trees_of before.now)) h.faces) ∷ [])
+        (Alter (with_table K.cmp region table)
+        ∷ Say (λ h. to_each (greet_to K.cmp h region (counted_table before.now)) h.faces) ∷ [])
         g.old g.new speech.old speech.new) }
 {
-    let kept = table.copy(alloc)?;
-    g.keep_table(alloc, region, kept)?;
+    g.keep_table(region, table)?;
     let greetings = speech.if_heard(alloc, || greet(alloc, g, region, before))?;
     say(alloc, g, speech, greetings)
 }
@@ -122,10 +122,10 @@ pub(crate) fn change_table<K: Key>(
         (changing_table K.cmp K.matching region (trees_of table.now) g.old)
         g.old g.new speech.old speech.new) }
 {
-    let counted = counted_table(alloc, table)?;
+    let kept = KeptTable::new(alloc, table.copy(alloc)?)?;
     let before = table_of(alloc, g, region)?;
-    let gone = left_out(alloc, g, region, &counted)?;
-    g.drop_left_out(region, &counted);
+    let gone = left_out(alloc, g, region, &kept)?;
+    g.drop_left_out(region, &kept);
     forget_each(alloc, g, speech, region, &gone)?;
-    keep_and_greet(alloc, g, speech, region, table, &before)
+    keep_and_greet(alloc, g, speech, region, kept, &before)
 }

@@ -149,7 +149,7 @@ pub(crate) fn declare_token<K: Key>(
     };
     let region = f.region();
     if is_routed(g, f) {
-        let source = source_of(alloc, g, f, node_id)?;
+        let source = source_of(g, f, node_id);
         return declare_from(alloc, g, speech, face, region, source, expr);
     }
     let asked = asked_by(f, interest);
@@ -222,7 +222,7 @@ pub(crate) fn undeclare_token<K: Key>(
     };
     let region = f.region();
     if is_routed(g, f) {
-        let source = source_of(alloc, g, f, node_id)?;
+        let source = source_of(g, f, node_id);
         return undeclare_from(alloc, g, speech, face, region, source, given);
     }
     let expr = copy_undeclared(alloc, f, id, given)?;

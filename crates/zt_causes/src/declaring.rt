@@ -35,7 +35,7 @@ pub(crate) fn declaring_cause<K: Key>(
     if is_unknown_ask(g, f, id, interest) {
         return Ok(Some(Refusal::UnknownAsk));
     }
-    if is_unknown_router(alloc, g, f, node_id)? {
+    if is_unknown_router(g, f, node_id) {
         return Ok(Some(Refusal::UnknownRouter));
     }
     let adds = adds_row(g, f, interest);

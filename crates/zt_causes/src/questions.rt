@@ -84,21 +84,15 @@ pub(crate) fn is_unknown_ask<K: Key>(
     }
 }
 
-/// Whether a face of a router region means no other router by the node id. The only error is want
-/// of memory.
+/// Whether a face of a router region means no other router by the node id.
 pub(crate) fn is_unknown_router<K: Key>(
-    alloc: Global,
     g: &GatewayState<K>,
     f: &FaceState<K>,
     node_id: NodeId,
-) -> Result<bool, Memory>
-    ensures { IfOk result (λ unknown. unknown ≡ is_unknown_router node_id g.now f.now) }
+) -> bool
+    ensures { result ≡ is_unknown_router node_id g.now f.now }
 {
-    if is_routed(g, f) {
-        Ok(source_of(alloc, g, f, node_id)?.is_none())
-    } else {
-        Ok(false)
-    }
+    is_routed(g, f) && source_of(g, f, node_id).is_none()
 }
 
 /// Whether a declaration for this interest, or for none, adds a live row to the face.

@@ -46,7 +46,7 @@ pub fn cause_of<K: Key>(
             id,
             expr,
             node_id,
-        } => undeclaring_cause(alloc, g, *face, *id, expr, *node_id),
+        } => Ok(undeclaring_cause(g, *face, *id, expr, *node_id)),
         Call::Interest {
             face,
             id,

@@ -6,39 +6,39 @@ ghost use Rattle.zt_model.specs.Refusals.{is_unknown_face, names_unlisted};
 ghost use Rattle.zt_model.specs.Strategy.{is_region_of, is_router_hat, strategy_of};
 ghost use Rattle.zt_protocol.specs.Plain.{Expire, SetEntities, SetTrees, trees_of};
 ghost use Rattle.zt_causes.specs.Unlisted.{names_others};
-ghost use Rattle.zt_routers.specs.Listed.{is_among};
+ghost use Rattle.zt_tables.specs.Listed.{is_among};
 
 use crate::dictionary::is_filled_by_entities;
 use crate::regions::is_region_of;
 use std::alloc::Global;
-use std::collections::BTreeSet;
+use std::collections::BTreeMap;
 use zt_keys::{Key, Memory};
 use zt_protocol::{QueryableInfo, Refusal, TreeTable};
 use zt_region::{NodeId, Region, Zid};
-use zt_routers::{counted_table, is_listed, routers_listed};
 use zt_state::GatewayState;
+use zt_tables::{counted_table, is_listed, routers_listed};
 use zt_tokens::{find_face, is_router_region};
 
 // Whether links name a router that isn't listed.
-fn links_unlisted(links: &[(u32, NodeId, Zid)], listed: &BTreeSet<Zid>) -> bool
-    ensures { result ≡ list_any (λ l. not (is_among l.2 listed.now.keys)) links.now }
+fn links_unlisted(links: &[(u32, NodeId, Zid)], listed: &BTreeMap<Zid, NodeId>) -> bool
+    ensures { result ≡ list_any (λ l. not (is_among l.2 listed.now.entries)) links.now }
 {
     links.iter().any(|link| !is_listed(listed, link.2))
 }
 
 // Whether not both of these routers are listed.
-fn is_child_unlisted(child: &(Zid, Zid), listed: &BTreeSet<Zid>) -> bool
+fn is_child_unlisted(child: &(Zid, Zid), listed: &BTreeMap<Zid, NodeId>) -> bool
     ensures { result
-        ≡ (not (is_among child.now.0 listed.now.keys)
-        || not (is_among child.now.1 listed.now.keys)) }
+        ≡ (not (is_among child.now.0 listed.now.entries)
+        || not (is_among child.now.1 listed.now.entries)) }
 {
     !is_listed(listed, child.0) || !is_listed(listed, child.1)
 }
 
 // Whether children name a router that isn't listed.
-fn children_unlisted(children: &[(Zid, Zid)], listed: &BTreeSet<Zid>) -> bool
-    ensures { result ≡ list_any (λ c. not (is_among c.0 listed.now.keys)
-        || not (is_among c.1 listed.now.keys)) children.now }
+fn children_unlisted(children: &[(Zid, Zid)], listed: &BTreeMap<Zid, NodeId>) -> bool
+    ensures { result ≡ list_any (λ c. not (is_among c.0 listed.now.entries)
+        || not (is_among c.1 listed.now.entries)) children.now }
 {
     children
         .iter()
@@ -46,8 +46,12 @@ fn children_unlisted(children: &[(Zid, Zid)], listed: &BTreeSet<Zid>) -> bool
 }
 
 // Whether a table names a router that isn't among these, or the gateway isn't.
-fn names_others<K: Key>(g: &GatewayState<K>, table: &TreeTable, listed: &BTreeSet<Zid>) -> bool
-    ensures { result ≡ names_others (trees_of table.now) listed.now.keys g.now.zid }
+fn names_others<K: Key>(
+    g: &GatewayState<K>,
+    table: &TreeTable,
+    listed: &BTreeMap<Zid, NodeId>,
+) -> bool
+    ensures { result ≡ names_others (trees_of table.now) listed.now.entries g.now.zid }
 {
     !is_listed(listed, g.zid())
         || links_unlisted(&table.links, listed)

@@ -11,29 +11,28 @@ use zt_region::NodeId;
 use zt_state::GatewayState;
 use zt_tokens::{find_face, is_routed};
 
-/// Why an undeclaration is refused. The only error is want of memory.
+/// Why an undeclaration is refused.
 #[tactic(auto, unfolding(zt_model::specs::Journal::cause_of, zt_model::specs::Refusals::call_causes, zt_model::specs::Refusals::first_cause))]
 pub(crate) fn undeclaring_cause<K: Key>(
-    alloc: Global,
     g: &GatewayState<K>,
     face: u32,
     id: TokenId,
     given: &Option<K>,
     node_id: NodeId,
-) -> Result<Option<Refusal>, Memory>
-    ensures { IfOk result (λ cause. cause
-        ≡ cause_of K.cmp K.matching (UndeclareToken face id given.now node_id) g.now) }
+) -> Option<Refusal>
+    ensures { result
+        ≡ cause_of K.cmp K.matching (UndeclareToken face id given.now node_id) g.now }
 {
     let Some(f) = find_face(g, face) else {
-        return Ok(Some(Refusal::UnknownFace));
+        return Some(Refusal::UnknownFace);
     };
-    if is_unknown_router(alloc, g, f, node_id)? {
-        return Ok(Some(Refusal::UnknownRouter));
+    if is_unknown_router(g, f, node_id) {
+        return Some(Refusal::UnknownRouter);
     }
     if is_unknown_token(f, id, given) {
-        return Ok(Some(Refusal::UnknownToken));
+        return Some(Refusal::UnknownToken);
     }
-    Ok(None)
+    None
 }
 
 /// Why the end of an interest is refused.

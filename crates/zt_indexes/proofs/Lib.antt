@@ -1,6 +1,7 @@
 mod Apart
 mod Changed
 mod Copied
+mod Counting
 mod Hashed
 mod InOrder
 mod Kept

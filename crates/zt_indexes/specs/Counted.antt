@@ -2,7 +2,8 @@
 --     count_in region counts           how many stand in the region
 --     is_shown_in shown counts         whether some stand in a region that passes a test
 --     one_in region other              1 where it is the same region, else 0
-use Rattle.std.specs.Prelude.{ℕ, Bool, ◌&&◌, if◌then◌else◌, nat_lt, List}
+--     can_count region row             a count that a row of the region may be added to
+use Rattle.std.specs.Prelude.{ℕ, Bool, ◌&&◌, ◌||◌, if◌then◌else◌, nat_eq, nat_lt, List}
 use Rattle.std.specs.List.{list_any, sum_by}
 use Rattle.zt_region.specs.Region.{region_eq}
 use Rattle.zt_region.specs.declared.region.Region.{Region}
@@ -19,3 +20,7 @@ is_shown_in shown counts = list_any (λ row. shown row.0 && nat_lt 0 row.1) coun
 
 abbrev pub one_in : Region → Region → ℕ
 one_in region other = if region_eq region other then 1 else 0
+
+-- it is of that region, or of no rows
+abbrev pub can_count : Region → Region × ℕ → Bool
+can_count region row = region_eq region row.0 || nat_eq row.1 0

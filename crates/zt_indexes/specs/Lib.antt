@@ -1,5 +1,6 @@
 pub mod Counted
 pub mod Grouped
+pub mod Held
 pub mod Live
 pub mod Rows
 pub mod Ordered

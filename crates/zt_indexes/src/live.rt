@@ -64,8 +64,9 @@ impl<K: Key> Model for LiveCounts<K> {
 }
 
 // One row more of an expression, where it has rows. Whether it has. The only error is want of
-// numbers, and then the counts stay.
+// memory, or of numbers, and then the counts stay.
 fn add_to<K: Key>(
+    alloc: Global,
     keys: &mut HashMap<K, RegionCounts>,
     region: Region,
     expr: &K,
@@ -81,7 +82,7 @@ fn add_to<K: Key>(
     match keys.get_mut(expr) {
         None => Ok(false),
         Some(counts) => {
-            counts.add(region)?;
+            counts.add(alloc, region)?;
             Ok(true)
         }
     }
@@ -126,8 +127,8 @@ fn put_first<K: Key>(
     ensures key { OnOk result (HasKeyMore K.cmp expr.now keys.old.entries keys.new.entries) }
     ensures err { OnErr result (keys.new.entries ≡ keys.old.entries) }
 {
-    let mut counts = RegionCounts::new(alloc);
-    counts.add(region)?;
+    let mut counts = RegionCounts::new();
+    counts.add(alloc, region)?;
     put_counts(alloc, keys, expr, counts)
 }
 
@@ -217,7 +218,7 @@ impl<K: Key> LiveCounts<K> {
         ensures ok { OnOk result (HasOneMore K.cmp region expr.now self.old self.new) }
         ensures err { OnErr result (self.new ≡ self.old) }
     {
-        if add_to(&mut self.keys, region, expr)? {
+        if add_to(alloc, &mut self.keys, region, expr)? {
             return Ok(());
         }
         put_at_anchors(alloc, &mut self.firsts, &mut self.lasts, expr)?;

@@ -1,9 +1,10 @@
 // How many rows stand in each region.
 ghost use Rattle.std.specs.Prelude.{◌≡◌, ℕ, ◌+◌, ◌-◌, ◌<◌, ◌&&◌, ◌∷◌, ◌++◌, [], true, nat_lt};
-ghost use Rattle.std.specs.Prelude.{get_or, length, not, IfNone, IfOk, IfSome, OnErr, OnOk};
-ghost use Rattle.zt_region.specs.Region.{region_eq};
+ghost use Rattle.std.specs.Prelude.{get_or, length, not, position};
+ghost use Rattle.std.specs.Prelude.{IfNone, IfOk, IfSome, OnErr, OnOk};
 ghost use Rattle.zt_region.specs.declared.region.Region.{Region};
-ghost use Rattle.zt_indexes.specs.Counted.{count_in, is_counted, is_shown_in, one_in};
+ghost use Rattle.zt_indexes.specs.Counted.{can_count, count_in, is_counted, is_shown_in, one_in};
+ghost use Rattle.zt_indexes.specs.Held.{counts_of};
 
 use crate::live::RegionTest;
 use std::alloc::Global;
@@ -16,6 +17,33 @@ fn is_counted(row: &(Region, u32), region: Region) -> bool
     ensures { result ≡ is_counted region row.now }
 {
     region == row.0 && 0 < row.1
+}
+
+// Whether a row of the region may be counted there: the count is of that region, or of no rows.
+fn can_count(row: &(Region, u32), region: Region) -> bool
+    ensures { result ≡ can_count region row.now }
+{
+    region == row.0 || row.1 == 0
+}
+
+// A count with one row more, of the region. The only error is want of numbers.
+fn with_one_more(row: (Region, u32), region: Region) -> Result<(Region, u32), Memory>
+    ensures { IfOk result (λ new. new ≡ (region, row.1 + 1)) }
+{
+    match row.1.checked_add(1) {
+        Some(more) => Ok((region, more)),
+        None => Err(Memory),
+    }
+}
+
+// One row less in the region, if the count is one of rows there.
+fn remove_one(row: &mut (Region, u32), region: Region)
+    ensures { (r : Region) →
+        count_in r (row.new ∷ []) ≡ count_in r (row.old ∷ []) - one_in r region }
+{
+    if is_counted(row, region) {
+        row.1 -= 1;
+    }
 }
 
 // Where rows of the region are counted, if there are any.
@@ -33,19 +61,23 @@ fn place_of(rows: &[(Region, u32)], region: Region) -> Option<usize>
     None
 }
 
-// One row more in the region. The only error is want of memory, or of numbers, and then the counts
-// stay.
+// Where a row of the region may be counted, if there is such a place.
+fn place_for(rows: &[(Region, u32)], region: Region) -> Option<usize>
+    ensures { result ≡ position (can_count region) rows.now }
+{
+    rows.iter().position(|row| can_count(row, region))
+}
+
+// One row more in the region. A count of no rows is used again, so that regions that come and go
+// take no more memory. The only error is want of memory, or of numbers, and then the counts stay.
 fn add_in(rows: &mut Vec<(Region, u32)>, region: Region) -> Result<(), Memory>
     ensures ok { OnOk result ((r : Region) →
         count_in r rows.new.items ≡ count_in r rows.old.items + one_in r region) }
     ensures err { OnErr result (rows.new.items ≡ rows.old.items) }
 {
-    match place_of(rows.as_slice(), region) {
+    match place_for(rows.as_slice(), region) {
         Some(place) => {
-            let Some(more) = rows[place].1.checked_add(1) else {
-                return Err(Memory);
-            };
-            rows[place].1 = more;
+            rows[place] = with_one_more(rows[place], region)?;
             Ok(())
         }
         None => {
@@ -92,68 +124,112 @@ impl RegionTest for Anywhere {
     }
 }
 
-/// How many rows stand in each region: one row more or less at a time.
+// Counts of rows: none yet, those of one region, or those of more in a box.
+#[derive(Drop)]
+enum Counts {
+    Empty,
+    One((Region, u32)),
+    More(Box<Vec<(Region, u32)>>),
+}
+
+// One row more beside those of one region. The only error is want of memory, or of numbers.
+fn beside_one(alloc: Global, row: (Region, u32), region: Region) -> Result<Counts, Memory>
+    ensures { IfOk result (λ counts. (r : Region) →
+        count_in r (counts_of counts) ≡ count_in r (row ∷ []) + one_in r region) }
+{
+    if can_count(&row, region) {
+        return Ok(Counts::One(with_one_more(row, region)?));
+    }
+    let rows = vec![in alloc; row, (region, 1)]?;
+    Ok(Counts::More(Box::new(alloc, rows)?))
+}
+
+/// How many rows stand in each region: one row more or less at a time. The rows of one region take
+/// no memory beside the struct, since mostly there are no others. Those of more are in a box:
+/// counts stand side by side in tables, and are many.
 #[derive(Drop)]
 pub struct RegionCounts {
-    rows: Vec<(Region, u32)>,
+    counts: Counts,
 }
 
 impl Model for RegionCounts {
     ghost use Rattle.std.specs.Prelude.{ℕ, List};
+    ghost use Rattle.zt_indexes.specs.Held.{counts_of};
     ghost use Rattle.zt_region.specs.declared.region.Region.{Region};
 
     ghost Value = { List (Region × ℕ) };
 
-    ghost view = { λ a. a.rows.items };
+    ghost view = { λ c. counts_of c.counts };
 }
 
 impl RegionCounts {
     /// No row in any region. It takes no memory.
-    pub fn new(alloc: Global) -> Self
+    pub fn new() -> Self
         ensures { result ≡ [] }
     {
         RegionCounts {
-            rows: Vec::new(alloc),
+            counts: Counts::Empty,
         }
     }
 
     /// One row more in the region. The only error is want of memory, or of numbers, and then the
     /// counts stay.
-    pub fn add(&mut self, region: Region) -> Result<(), Memory>
+    pub fn add(&mut self, alloc: Global, region: Region) -> Result<(), Memory>
         ensures ok { OnOk result ((r : Region) →
             count_in r self.new ≡ count_in r self.old + one_in r region) }
         ensures err { OnErr result (self.new ≡ self.old) }
     {
-        add_in(&mut self.rows, region)
+        match &mut self.counts {
+            Counts::Empty => {
+                self.counts = Counts::One((region, 1));
+                Ok(())
+            }
+            Counts::One(row) => {
+                self.counts = beside_one(alloc, *row, region)?;
+                Ok(())
+            }
+            Counts::More(rows) => add_in(rows, region),
+        }
     }
 
     /// One row less in the region, if any stands there.
     pub fn remove(&mut self, region: Region)
         ensures { (r : Region) → count_in r self.new ≡ count_in r self.old - one_in r region }
     {
-        remove_in(&mut self.rows, region);
+        match &mut self.counts {
+            Counts::Empty => {}
+            Counts::One(row) => remove_one(row, region),
+            Counts::More(rows) => remove_in(rows, region),
+        }
     }
 
     /// Whether some rows stand in a region that passes.
     pub fn is_shown<T: RegionTest>(&self, test: &T) -> bool
         ensures { result ≡ is_shown_in (T.passes test.now) self.now }
     {
-        is_shown_by(&self.rows, test)
+        match &self.counts {
+            Counts::Empty => false,
+            Counts::One(row) => is_shown_row(row, test),
+            Counts::More(rows) => is_shown_by(rows, test),
+        }
     }
 
     /// Whether no row stands in any region.
     pub fn is_empty(&self) -> bool
         ensures { result ≡ not (is_shown_in (λ _. true) self.now) }
     {
-        !is_shown_by(&self.rows, &Anywhere)
+        !self.is_shown(&Anywhere)
     }
 
     /// Equal counts. The only error is want of memory.
     pub fn copy(&self, alloc: Global) -> Result<Self, Memory>
         ensures { IfOk result (λ copy. copy ≡ self.now) }
     {
-        Ok(RegionCounts {
-            rows: self.rows.to_vec(alloc)?,
-        })
+        let counts = match &self.counts {
+            Counts::Empty => Counts::Empty,
+            Counts::One(row) => Counts::One(*row),
+            Counts::More(rows) => Counts::More(Box::new(alloc, rows.to_vec(alloc)?)?),
+        };
+        Ok(RegionCounts { counts })
     }
 }

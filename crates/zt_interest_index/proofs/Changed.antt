@@ -27,6 +27,10 @@ pub empty-from : {X : Type 0} (xs : List X) → (length xs == 0) ≡ true → xs
 empty-from [] h = refl
 empty-from (x ∷ xs) h = let none = no-more (length xs) h in absurd (omega arith)
 
+pub nothing-from : {X : Type 0} (xs : List X) → length xs ≡ 0 → xs ≡ []
+nothing-from [] h = refl
+nothing-from (x ∷ xs) h = absurd (omega (arith, h))
+
 pub bucket-total : IsTotalOrder bucket_cmp
 bucket-total = total-law
 

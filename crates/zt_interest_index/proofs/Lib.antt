@@ -1,4 +1,5 @@
 mod Changed
-mod Copied
 mod InBucket
 mod InOrder
+mod Looked
+mod Places

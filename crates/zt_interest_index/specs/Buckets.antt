@@ -1,9 +1,11 @@
 -- In which bucket an interest is kept, and in which it is looked for.
 --     bucket_of anchored about        the bucket of an interest in this expression, or in all keys
 --     anchors_of anchored key         the numbers of a key that has one at each anchor
+--     at_place place                  the bucket at an anchor and a number
+--     places_of numbers               the numbers at which a key with these numbers looks, each with its anchor
 --     looked_into numbers             the buckets into which a key with these numbers looks
 --     looked-for                      an interest in such a key is kept in a bucket that the key looks into
-use Rattle.std.specs.Prelude.{◌≡◌, ℕ, ◌<◌, Bool, true, List, [], ◌∷◌, slice_index_or, Contains, Option, Some, None, refl}
+use Rattle.std.specs.Prelude.{◌≡◌, ℕ, ◌<◌, Bool, true, List, [], ◌∷◌, map, slice_index_or, Contains, Option, Some, None, refl}
 use Rattle.std.proofs.Common.{ap, sym, arith, ◌∙◌}
 use Rattle.std.proofs.lemmas.Option.{same_Some}
 use Rattle.zt_keys.specs.declared.anchor.Anchor.{Anchor}
@@ -41,8 +43,14 @@ module _ {K : Type 0} (anchored : Anchor → K → Option ℕ) where
   abbrev pub anchors_of : K → Option Anchors
   anchors_of key = all_numbers (anchored Whole key) (anchored Last key) (anchored FirstTwo key) (anchored First key)
 
+abbrev pub at_place : Anchor × ℕ → Bucket
+at_place place = At place.0 place.1
+
+abbrev pub places_of : Anchors → List (Anchor × ℕ)
+places_of numbers = (Whole, numbers.whole) ∷ (Last, numbers.last) ∷ (FirstTwo, numbers.first_two) ∷ (First, numbers.first) ∷ []
+
 abbrev pub looked_into : Anchors → List Bucket
-looked_into numbers = Any ∷ At Whole numbers.whole ∷ At Last numbers.last ∷ At FirstTwo numbers.first_two ∷ At First numbers.first ∷ []
+looked_into numbers = Any ∷ map at_place (places_of numbers)
 
 -- ---- interests in a key are kept where it looks
 module _ {K : Type 0} (matching : K → K → Bool) (anchored : Anchor → K → Option ℕ)

@@ -1,6 +1,7 @@
 -- An index that is that of a list of interests, and the faces that it finds.
 --     IsIndexOf anchored index held                the interests of each bucket are those of the list that belong there
 --     asks_in matching e n index buckets           the face has an interest in the key in one of the buckets
+--     asks_at matching e n index places            .. or at one of these numbers
 --     HasAllIn about held rows                     the rows have each interest in the expression that is held, and no
 --                                                  other in it
 --     AreHoldersAnd matching e held others faces   the faces that hold an interest in the key, and the others, in
@@ -15,7 +16,7 @@ use Rattle.std.specs.Ordering.{is_eq, nat_cmp}
 use Rattle.std.proofs.Common.{ap, sym, ◌∙◌}
 use Rattle.std.proofs.lemmas.List.Folds.{list_any_at}
 use Rattle.zt_keys.specs.declared.anchor.Anchor.{Anchor}
-use Rattle.zt_interest_index.specs.Buckets.{anchors_of, bucket_of, looked-for, looked_into}
+use Rattle.zt_interest_index.specs.Buckets.{anchors_of, at_place, bucket_of, looked-for, looked_into}
 use Rattle.zt_interest_index.specs.Holdings.{asks_from}
 use Rattle.zt_interest_index.specs.Index.{bucket_cmp, rows_at}
 use Rattle.zt_interest_index.specs.contracts.bucket.BucketOrd.TheImpl.Laws.{total-law}
@@ -38,6 +39,9 @@ module _ {K : Type 0} where
   module _ (matching : K → K → Bool) (e : K) where
     abbrev pub asks_in : ℕ → List (Bucket × List ((ℕ × ℕ) × Option K)) → List Bucket → Bool
     asks_in n index buckets = list_any (λ bucket. list_any (asks_from matching e n) (rows_at bucket index)) buckets
+
+    abbrev pub asks_at : ℕ → List (Bucket × List ((ℕ × ℕ) × Option K)) → List (Anchor × ℕ) → Bool
+    asks_at n index places = list_any (λ place. list_any (asks_from matching e n) (rows_at (at_place place) index)) places
 
     pub record AreHoldersAnd (held : List ((ℕ × ℕ) × Option K)) (others faces : List ℕ) : Type 0 where
       pub in_order : IsStrictlySortedBy nat_cmp faces

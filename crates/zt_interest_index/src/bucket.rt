@@ -1,7 +1,7 @@
 // In which bucket an interest is kept.
 ghost use Rattle.std.specs.Prelude.{◌≡◌};
 ghost use Rattle.zt_interest_index.specs.Buckets.{anchors_of, bucket_of, bucket_of_key};
-ghost use Rattle.zt_interest_index.specs.Buckets.{looked_into};
+ghost use Rattle.zt_interest_index.specs.Buckets.{places_of};
 
 use zt_keys::{Anchor, Key};
 
@@ -39,16 +39,15 @@ pub fn anchors_of<K: Key>(key: &K) -> Option<Anchors>
     })
 }
 
-// The buckets into which a key with these numbers looks.
-pub(crate) fn looked_into(numbers: Anchors) -> [Bucket; 5]
-    ensures { result ≡ looked_into numbers }
+// The numbers at which a key with these numbers looks, each with its anchor.
+pub(crate) fn places_of(numbers: Anchors) -> [(Anchor, u64); 4]
+    ensures { result ≡ places_of numbers }
 {
     [
-        Bucket::Any,
-        Bucket::At(Anchor::Whole, numbers.whole),
-        Bucket::At(Anchor::Last, numbers.last),
-        Bucket::At(Anchor::FirstTwo, numbers.first_two),
-        Bucket::At(Anchor::First, numbers.first),
+        (Anchor::Whole, numbers.whole),
+        (Anchor::Last, numbers.last),
+        (Anchor::FirstTwo, numbers.first_two),
+        (Anchor::First, numbers.first),
     ]
 }
 

@@ -1,150 +1,40 @@
 // Interests by bucket.
-ghost use Rattle.std.specs.Prelude.{◌≡◌, ℕ, ◌++◌, ◌∷◌, ◌||◌, [], filter, not, true};
+ghost use Rattle.std.specs.Prelude.{◌≡◌, ℕ, ◌++◌, ◌∷◌, ◌||◌, [], filter, not};
 ghost use Rattle.std.specs.Prelude.{IfOk, IfSome, List, Option, OnOk};
 ghost use Rattle.std.specs.List.{list_any};
 ghost use Rattle.std.specs.List.Sorted.{IsStrictlySortedBy};
-ghost use Rattle.std.specs.Map.{keys_of};
 ghost use Rattle.std.specs.Ordering.{nat_cmp};
-ghost use Rattle.zt_interest_index.specs.Buckets.{anchors_of, bucket_of};
-ghost use Rattle.zt_interest_index.specs.Holders.{AreHoldersAnd, HasAllIn, IsIndexOf, asks_in};
+ghost use Rattle.zt_interest_index.specs.Buckets.{bucket_of};
+ghost use Rattle.zt_interest_index.specs.Holders.{AreHoldersAnd, HasAllIn, IsIndexOf};
 ghost use Rattle.zt_interest_index.specs.Holdings.{asks_from, is_among, is_of};
-ghost use Rattle.zt_interest_index.specs.Index.{ChangesAt, IsWith, IsWithout, bucket_cmp, rows_at};
+ghost use Rattle.zt_interest_index.specs.Index.{ChangesAt};
 
-use crate::bucket::{Bucket, anchors_of, bucket_of, looked_into};
+use crate::bucket::{Bucket, anchors_of, bucket_of, places_of};
 use crate::holdings::{Holdings, copy_about};
+use crate::numbered::{copy_buckets, gather_all, put_in, remove_from, rows_in};
 use std::alloc::Global;
-use std::collections::BTreeMap;
+use std::collections::HashMap;
 use std::marker::Model;
-use zt_keys::{Key, Memory};
+use zt_keys::{Anchor, Key, Memory};
 
 /// The interests of faces, each under its face and id, found by the key of what they are about. An
 /// index beside interests that are kept elsewhere: contracts see its buckets, and the definitions
-/// say when they are those of a list of interests.
+/// say when they are those of a list of interests. Those at no number stand apart: often there are
+/// no others, and then no number of a key need be worked out to find the faces.
 #[derive(Drop)]
 pub struct InterestIndex<K: Key> {
-    buckets: BTreeMap<Bucket, Holdings<K>>,
+    any: Holdings<K>,
+    numbered: HashMap<(Anchor, u64), Holdings<K>>,
 }
 
 impl<K: Key> Model for InterestIndex<K> {
     ghost use Rattle.std.specs.Prelude.{ℕ, List, Option};
+    ghost use Rattle.zt_interest_index.specs.Index.{at_numbers, with_any};
     ghost use Rattle.zt_interest_index.specs.declared.bucket.Bucket.{Bucket};
 
     ghost Value = { List (Bucket × List ((ℕ × ℕ) × Option K)) };
 
-    ghost view = { λ a. a.buckets.entries };
-}
-
-// Equal interests stand in a bucket. The only error is want of memory.
-fn put_copy<K: Key>(
-    alloc: Global,
-    buckets: &mut BTreeMap<Bucket, Holdings<K>>,
-    bucket: Bucket,
-    rows: &Holdings<K>,
-) -> Result<(), Memory>
-    ensures with { OnOk result (IsWith bucket rows.now buckets.old.entries buckets.new.entries) }
-    ensures in_order { OnOk result (IsStrictlySortedBy bucket_cmp (keys_of buckets.new.entries)) }
-{
-    drop(buckets.insert(bucket, rows.copy(alloc)?)?);
-    Ok(())
-}
-
-// An interest more in a bucket. The only error is want of memory, and then the buckets stay.
-fn put_in<K: Key>(
-    alloc: Global,
-    buckets: &mut BTreeMap<Bucket, Holdings<K>>,
-    bucket: Bucket,
-    face: u32,
-    id: u32,
-    about: Option<K>,
-) -> Result<(), Memory>
-    ensures { OnOk result (ChangesAt bucket
-        (λ rows. rows ++ ((face, id), about) ∷ []) buckets.old.entries buckets.new.entries) }
-{
-    match buckets.get_mut(&bucket) {
-        Some(rows) => rows.push(face, id, about),
-        None => {
-            let mut rows = Holdings::new(alloc);
-            rows.push(face, id, about)?;
-            buckets.insert(bucket, rows)?;
-            Ok(())
-        }
-    }
-}
-
-// An interest less in a bucket. Whether the bucket is empty then.
-fn drop_from<K: Key>(
-    buckets: &mut BTreeMap<Bucket, Holdings<K>>,
-    bucket: Bucket,
-    face: u32,
-    id: u32,
-) -> bool
-    ensures drops { ChangesAt bucket
-        (filter (λ row. not (is_of face id row))) buckets.old.entries buckets.new.entries }
-    ensures last { result ≡ true → rows_at bucket buckets.new.entries ≡ [] }
-{
-    match buckets.get_mut(&bucket) {
-        None => false,
-        Some(rows) => {
-            rows.remove(face, id);
-            rows.is_empty()
-        }
-    }
-}
-
-// A bucket goes.
-fn drop_bucket<K: Key>(buckets: &mut BTreeMap<Bucket, Holdings<K>>, bucket: Bucket)
-    ensures { IsWithout bucket buckets.old.entries buckets.new.entries }
-{
-    drop(buckets.remove(&bucket));
-}
-
-// The interests of a bucket.
-fn rows_in<K: Key>(
-    buckets: &BTreeMap<Bucket, Holdings<K>>,
-    bucket: Bucket,
-) -> &[((u32, u32), Option<K>)]
-    ensures { result.now ≡ rows_at bucket buckets.now.entries }
-{
-    match buckets.get(&bucket) {
-        None => &[],
-        Some(rows) => rows.as_slice(),
-    }
-}
-
-// Puts the faces among those found whose interests in a bucket are about the key. The only error is
-// want of memory.
-fn gather_from<K: Key>(
-    found: &mut Vec<u32>,
-    buckets: &BTreeMap<Bucket, Holdings<K>>,
-    bucket: Bucket,
-    expr: &K,
-) -> Result<(), Memory>
-    ensures { OnOk result ((n : ℕ) → is_among n found.new.items
-        ≡ (is_among n found.old.items
-        || list_any (asks_from K.matching expr.now n) (rows_at bucket buckets.now.entries))) }
-{
-    match buckets.get(&bucket) {
-        None => Ok(()),
-        Some(rows) => rows.gather(found, expr),
-    }
-}
-
-// Puts the faces among those found whose interests in some of these buckets are about the key. The
-// only error is want of memory.
-fn gather_all<K: Key>(
-    found: &mut Vec<u32>,
-    buckets: &BTreeMap<Bucket, Holdings<K>>,
-    looked: &[Bucket],
-    expr: &K,
-) -> Result<(), Memory>
-    ensures { OnOk result ((n : ℕ) → is_among n found.new.items
-        ≡ (is_among n found.old.items
-        || asks_in K.matching expr.now n buckets.now.entries looked.now)) }
-{
-    for bucket in looked {
-        gather_from(found, buckets, *bucket, expr)?;
-    }
-    Ok(())
+    ghost view = { λ a. with_any a.any (at_numbers a.numbered.entries) };
 }
 
 // Puts numbers in order, each once.
@@ -156,13 +46,30 @@ fn put_in_order(numbers: &mut Vec<u32>)
     numbers.dedup();
 }
 
+// These faces, and those whose interests are about the key. The only error is want of memory.
+fn found_in<K: Key>(
+    alloc: Global,
+    rows: &Holdings<K>,
+    expr: &K,
+    others: &[u32],
+) -> Result<Vec<u32>, Memory>
+    ensures { IfOk result (λ found. (n : ℕ) → is_among n found.items
+        ≡ (is_among n others.now || list_any (asks_from K.matching expr.now n) rows.now)) }
+{
+    let mut found = Vec::new(alloc);
+    found.extend_from_slice(others)?;
+    rows.gather(&mut found, expr)?;
+    Ok(found)
+}
+
 impl<K: Key> InterestIndex<K> {
     /// No interest at all. It takes no memory.
     pub fn new(alloc: Global) -> Self
         ensures { result ≡ [] }
     {
         InterestIndex {
-            buckets: BTreeMap::new(alloc),
+            any: Holdings::new(alloc),
+            numbered: HashMap::new(alloc),
         }
     }
 
@@ -178,9 +85,13 @@ impl<K: Key> InterestIndex<K> {
         ensures { OnOk result (ChangesAt (bucket_of K.anchored about.now)
             (λ rows. rows ++ ((face, id), about.now) ∷ []) self.old self.new) }
     {
-        let bucket = bucket_of(about);
-        let about = copy_about(alloc, about)?;
-        put_in(alloc, &mut self.buckets, bucket, face, id, about)
+        let copy = copy_about(alloc, about)?;
+        match bucket_of(about) {
+            Bucket::Any => self.any.push(face, id, copy),
+            Bucket::At(anchor, number) => {
+                put_in(alloc, &mut self.numbered, (anchor, number), face, id, copy)
+            }
+        }
     }
 
     /// The face holds its interest in the expression, or in all keys, no more, that it held under
@@ -189,15 +100,17 @@ impl<K: Key> InterestIndex<K> {
         ensures { ChangesAt (bucket_of K.anchored about.now)
             (filter (λ row. not (is_of face id row))) self.old self.new }
     {
-        let bucket = bucket_of(about);
-        if drop_from(&mut self.buckets, bucket, face, id) {
-            drop_bucket(&mut self.buckets, bucket);
+        match bucket_of(about) {
+            Bucket::Any => self.any.remove(face, id),
+            Bucket::At(anchor, number) => {
+                remove_from(&mut self.numbered, (anchor, number), face, id);
+            }
         }
     }
 
     /// The faces that hold an interest in the key, and these others, in order of number, each once;
-    /// `None` for a key that has no number at some anchor: any face may hold one. The only error is
-    /// want of memory.
+    /// `None` where an interest is kept at a number, and the key has none at some anchor: any face
+    /// may hold one. The only error is want of memory.
     pub fn holders_and(
         &self,
         alloc: Global,
@@ -208,12 +121,17 @@ impl<K: Key> InterestIndex<K> {
             IsIndexOf K.anchored self.now held →
             AreHoldersAnd K.matching expr.now held others.now faces.items)) }
     {
+        // Where no interest stands at a number, those of the key needn't be worked out.
+        if self.numbered.is_empty() {
+            let mut found = found_in(alloc, &self.any, expr, others)?;
+            put_in_order(&mut found);
+            return Ok(Some(found));
+        }
         let Some(numbers) = anchors_of(expr) else {
             return Ok(None);
         };
-        let mut found = Vec::new(alloc);
-        found.extend_from_slice(others)?;
-        gather_all(&mut found, &self.buckets, &looked_into(numbers), expr)?;
+        let mut found = found_in(alloc, &self.any, expr, others)?;
+        gather_all(&mut found, &self.numbered, &places_of(numbers), expr)?;
         put_in_order(&mut found);
         Ok(Some(found))
     }
@@ -225,17 +143,19 @@ impl<K: Key> InterestIndex<K> {
         ensures { (held : List ((ℕ × ℕ) × Option K)) → IsIndexOf K.anchored self.now held →
             HasAllIn about.now held result.now }
     {
-        rows_in(&self.buckets, bucket_of(about))
+        match bucket_of(about) {
+            Bucket::Any => self.any.as_slice(),
+            Bucket::At(anchor, number) => rows_in(&self.numbered, (anchor, number)),
+        }
     }
 
     /// An equal index. The only error is want of memory.
     pub fn copy(&self, alloc: Global) -> Result<Self, Memory>
         ensures { IfOk result (λ copy. copy ≡ self.now) }
     {
-        let mut buckets = BTreeMap::new(alloc);
-        for (bucket, rows) in &self.buckets {
-            put_copy(alloc, &mut buckets, *bucket, rows)?;
-        }
-        Ok(InterestIndex { buckets })
+        Ok(InterestIndex {
+            any: self.any.copy(alloc)?,
+            numbered: copy_buckets(alloc, &self.numbered)?,
+        })
     }
 }

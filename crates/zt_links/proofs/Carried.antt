@@ -5,33 +5,26 @@ use Rattle.std.specs.Cmp.{IsTotalOrder}
 use Rattle.std.specs.declared.cmp.Ordering.{Ordering}
 use Rattle.zt_protocol.specs.Plain.{PlainCall}
 use Rattle.zt_protocol.specs.declared.entries.Sent.{Sent}
-use Rattle.zt_protocol.specs.declared.messages.Message.{Message}
-use Rattle.zt_model.specs.Fabric.{CallAt, Fabric, Node, Place, after_hearing, after_opening, altered_at, at_nth, call_at, gateways_after_hearing, next_face, opened_at, printed_for, said_at, sorted_by_face, with_place, with_rows, with_waiting}
+use Rattle.zt_model.specs.Fabric.{CallAt, Fabric, Node, Place, after_hearing, after_opening, altered_at, call_at, gateways_after_hearing, next_face, opened_at, printed_for, said_at, sorted_by_face, with_place, with_rows, with_waiting}
 use Rattle.zt_model.specs.Lists.{nth}
-use Rattle.zt_model.specs.Rows.{ById, Rows}
+use Rattle.zt_model.specs.Rows.{Rows}
 use Rattle.zt_model.specs.Says.{altered, said}
 use Rattle.zt_laws.specs.Order.{FabricIsInOrder}
 use Rattle.zt_laws.specs.Sound.{is_placed, opens_face, rows_after_call}
 use Rattle.zt_laws.proofs.CallsOrder.{altered_faces}
 use Rattle.zt_laws.proofs.Gateways.{PrintsSends, after_hearing_nothing, prints_map, prints_sorted}
 use Rattle.zt_laws.proofs.LinesOrder.{after_prints, faces_placed, faces_still_placed, gateway_in_order, opened_faces}
-use Rattle.zt_laws.proofs.Lists.{each_weaker, map-map}
-use Rattle.zt_laws.proofs.Numbered.{at_nth_alike}
+use Rattle.zt_laws.proofs.Lists.{each_weaker}
 use Rattle.zt_laws.proofs.Sorting.{printed}
 use Rattle.zt_laws.proofs.Places.{placed_new, placed_still}
-use Rattle.zt_links.specs.Lines.{carried, made_at, row_after, said_sorted, taken_by, taken_row}
-
-abbrev pub Queues : Type 0 → Type 0
-Queues K = ById (List (Message K))
+use Rattle.zt_fabric_state.specs.Changes.{carried, row_after, said_sorted, taken_by}
+use Rattle.zt_fabric_state.proofs.Carried.{Queues, call_there, rows_put, waiting_after}
+use Rattle.zt_links.specs.Lines.{made_at}
 
 -- two facts of what is answered
 pub ok_both : {A E : Type 0} (P R : A → Type 0) (Q : Type 0) (r : Result A E) → ((x : A) → P x → Q → R x) → IfOk r P → OnOk r Q → IfOk r R
 ok_both P R Q (Ok x) both p q = both x p q
 ok_both P R Q (Err e) both p q = tt
-
-pub on_ok : {A E : Type 0} (r : Result A E) (P Q : Type 0) → (P → Q) → OnOk r P → OnOk r Q
-on_ok (Ok x) P Q f p = f p
-on_ok (Err e) P Q f p = tt
 
 module _ {K : Type 0} where
   -- nothing is added
@@ -43,33 +36,8 @@ module _ {K : Type 0} where
       same [] = refl
       same (row ∷ rows) = ap (λ ms. (row.0, ms) ∷ map (λ row. (row.0, row.1 ++ [])) rows) (append-nil row.1) ∙ ap (λ rest. row ∷ rest) (same rows)
 
-  -- what waits after a message is taken and others are added
-  pub waiting_after : (taken : Option ℕ) (ms : List (Sent K)) (s : Fabric K) → (with_waiting ms (taken_by taken s)).waiting ≡ map (row_after taken ms) s.waiting
-  waiting_after None ms s = refl
-  waiting_after (Some face) ms s = map-map (λ row. (row.0, row.1 ++ printed_for row.0 ms)) (taken_row (Some face)) s.waiting
-
-  -- taking and adding changes no gateway
-  pub rows_elsewhere : (taken : Option ℕ) (ms : List (Sent K)) (s : Fabric K) → (with_waiting ms (taken_by taken s)).gateways ≡ s.gateways
-  rows_elsewhere None ms s = refl
-  rows_elsewhere (Some face) ms s = refl
-
-  pub rows_turned : (taken : Option ℕ) (ms : List (Sent K)) (n : ℕ) (rows : Rows K) (s : Fabric K) → with_rows n (λ _. rows) (with_waiting ms (taken_by taken s)) ≡ record (with_rows n (λ _. rows) s) { waiting = (with_waiting ms (taken_by taken s)).waiting }
-  rows_turned None ms n rows s = refl
-  rows_turned (Some face) ms n rows s = refl
-
-  -- a call at its gateway
-  pub call_there : (s : Fabric K) (n : ℕ) (node : Node K) (c : PlainCall K) → nth n s.gateways ≡ Some node → call_at s n c ≡ Some (record { gateway = n; rows = node.rows; call = c })
-  call_there s n node c at_ = ap (λ (o : Option (Node K)). let at : Option (CallAt K) = elim o [ None ↦ None | Some node ↦ Some (record { gateway = n; rows = node.rows; call = c }) ] in at) at_
-
   pub call_nowhere : (s : Fabric K) (n : ℕ) (c : PlainCall K) → nth n s.gateways ≡ None → call_at s n c ≡ None
   call_nowhere s n c none = ap (λ (o : Option (Node K)). let at : Option (CallAt K) = elim o [ None ↦ None | Some node ↦ Some (record { gateway = n; rows = node.rows; call = c }) ] in at) none
-
-  -- the place of the next face
-  pub placed_next : (n : ℕ) (node : Node K) (s : Fabric K) (face : ℕ) → nth n s.gateways ≡ Some node → face ≡ node.rows.made + 1
-      → record s { faces = s.faces ++ record { gateway = n; face = face } ∷ [] } ≡ with_place n s
-  placed_next n node s face at_ is =
-      let next : face ≡ next_face (nth n s.gateways) = is ∙ sym (ap next_face at_) in
-      ap (λ k. record s { faces = s.faces ++ record { gateway = n; face = k } ∷ [] }) next
 
   -- no gateway has the number
   pub made_nowhere : (s : Fabric K) (gs : List (Node K)) (made : Option (ℕ × PlainCall K)) (m : ℕ × PlainCall K) (n : ℕ) → made ≡ Some m → n ≡ m.0 → gs ≡ s.gateways → nth n gs ≡ None → made_at s made ≡ None
@@ -88,12 +56,6 @@ module _ {K : Type 0} (cmp : K → K → Ordering) where
   nothing_carried taken s t is = is ∙ sym (nothing_waits (after_hearing cmp [] (taken_by taken s)) ∙ after_hearing_nothing cmp (taken_by taken s))
 
   module _ (matching : K → K → Bool) (total : IsTotalOrder cmp) where
-    -- the gateway of a call has the rows after it
-    pub rows_put : (n : ℕ) (node : Node K) (c : PlainCall K) (s : Fabric K) (rows : Rows K) → nth n s.gateways ≡ Some node → rows ≡ rows_after_call cmp matching c node.rows
-        → at_nth n (λ (x : Node K). record x { rows = rows }) s.gateways ≡ (with_rows n (rows_after_call cmp matching c) s).gateways
-    rows_put n node c s rows at_ is =
-        at_nth_alike n (λ (x : Node K). record x { rows = rows }) (λ (x : Node K). record x { rows = rows_after_call cmp matching c x.rows }) s.gateways node at_ (ap (λ (g : Rows K). record node { rows = g }) is)
-
     -- a call that opens no face, where its messages are heard
     called_heard : (n : ℕ) (node : Node K) (c : PlainCall K) (s : Fabric K) → nth n s.gateways ≡ Some node → opens_face c ≡ false → FabricIsInOrder cmp matching s
         → (let ms = sorted_by_face (map (printed s.faces n) (said cmp matching c node.rows)) in after_hearing cmp ms (with_rows n (altered cmp matching c) s) ≡ with_rows n (rows_after_call cmp matching c) s)
@@ -105,14 +67,6 @@ module _ {K : Type 0} (cmp : K → K → Ordering) where
     called_elsewhere : (taken : Option ℕ) (ms : List (Sent K)) (n : ℕ) (change : Rows K → Rows K) (s : Fabric K) → after_hearing cmp ms (with_rows n change (taken_by taken s)) ≡ record (after_hearing cmp ms (with_rows n change s)) { waiting = (taken_by taken s).waiting }
     called_elsewhere None ms n change s = refl
     called_elsewhere (Some face) ms n change s = heard_elsewhere ms (taken_by (Some face) s).waiting (with_rows n change s)
-
-    -- a call is carried out
-    pub carried_put : (taken : Option ℕ) (n : ℕ) (node : Node K) (c : PlainCall K) (s : Fabric K) (rows : Rows K) (ms : List (Sent K)) (ws : Queues K) → nth n s.gateways ≡ Some node
-        → rows ≡ rows_after_call cmp matching c node.rows → ms ≡ said_sorted cmp matching n c s → ws ≡ map (row_after taken ms) s.waiting
-        → record (with_rows n (λ _. rows) s) { waiting = ws } ≡ carried cmp matching taken n c s
-    carried_put taken n node c s rows ms ws at_ rows_is ms_is ws_is =
-        ap (λ (xs : List (Node K)). record s { gateways = xs; waiting = ws }) (rows_put n node c s rows at_ rows_is)
-        ∙ ap (λ (xs : Queues K). record (with_rows n (rows_after_call cmp matching c) s) { waiting = xs }) (ws_is ∙ ap (λ xs. map (row_after taken xs) s.waiting) ms_is)
 
     -- where it opens no face, its messages are heard and wait where they are to
     pub carried_called : (taken : Option ℕ) (n : ℕ) (node : Node K) (c : PlainCall K) (s : Fabric K) (ms : List (Sent K)) → nth n s.gateways ≡ Some node → opens_face c ≡ false → FabricIsInOrder cmp matching s → ms ≡ said_sorted cmp matching n c s
@@ -157,7 +111,7 @@ module _ {K : Type 0} (cmp : K → K → Ordering) where
         → with_rows n (λ _. rows) (with_place n s) ≡ after_opening cmp matching (call_at s n c) s
     end_opened n node c s rows at_ opens fine is =
         let t = with_place n s in
-        ap (λ (gs : List (Node K)). record t { gateways = gs }) (rows_put n node c s rows at_ is)
+        ap (λ (gs : List (Node K)). record t { gateways = gs }) (rows_put cmp matching total n node c s rows at_ is)
         ∙ sym (opened_heard n node c s (map (printed t.faces n) (said cmp matching c node.rows)) at_ opens fine (prints_map t.faces n (said cmp matching c node.rows)))
         ∙ ap (λ at. after_opening cmp matching at s) (sym (call_there s n node c at_))
 

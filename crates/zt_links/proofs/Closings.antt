@@ -21,19 +21,12 @@ use Rattle.zt_laws.proofs.Ends.{after_hearing-append}
 use Rattle.zt_laws.proofs.Gateways.{after_hearing_nothing, prints_map}
 use Rattle.zt_laws.proofs.Interleaving.{hearing_alike}
 use Rattle.zt_laws.proofs.LinesOrder.{after_prints, faces_placed, gateway_in_order}
-use Rattle.zt_laws.proofs.Lists.{by_test}
 use Rattle.zt_laws.proofs.Sorting.{printed, printed_sorted}
 use Rattle.zt_laws.proofs.Unlinking.{all_apart, but_for_alike, closings_commute, ends_apart}
-use Rattle.zt_links.specs.Lines.{row_after}
-use Rattle.zt_links.proofs.Carried.{call_nowhere, call_there, nothing_carried}
-
--- no member has the number
-pub at_nth_none : {A : Type 0} (n : ℕ) (change : A → A) (xs : List A) → nth n xs ≡ None → at_nth n change xs ≡ xs
-at_nth_none n change [] none = refl
-at_nth_none n change (x ∷ xs) none =
-    by_test (n == 1)
-    (λ here. let e : Some x ≡ None = rw here at none in cc)
-    (λ here. rw here (ap (λ rest. x ∷ rest) (at_nth_none (n - 1) change xs (rw here at none))))
+use Rattle.zt_fabric_state.specs.Changes.{row_after}
+use Rattle.zt_fabric_state.proofs.Carried.{call_there}
+use Rattle.zt_fabric_state.proofs.PutBack.{at_nth_none}
+use Rattle.zt_links.proofs.Carried.{call_nowhere, nothing_carried}
 
 -- faces are closed one after another, and each hears what is said then
 abbrev pub closings : {K : Type 0} → (K → K → Ordering) → (K → K → Bool) → List ℕ → Fabric K → Fabric K

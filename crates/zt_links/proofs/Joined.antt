@@ -17,7 +17,8 @@ use Rattle.zt_model.specs.Transcript.{Each}
 use Rattle.zt_laws.specs.Order.{FabricIsInOrder}
 use Rattle.zt_laws.specs.Sound.{opens_face}
 use Rattle.zt_laws.proofs.Ends.{end_in_order}
-use Rattle.zt_links.specs.Lines.{cause_if, cause_of_line, opened_by_call, opening_call, or_cause, row_after, said_by_opening}
+use Rattle.zt_fabric_state.specs.Changes.{row_after}
+use Rattle.zt_links.specs.Lines.{cause_if, cause_of_line, opened_by_call, opening_call, or_cause, said_by_opening}
 use Rattle.zt_links.proofs.Linked.{link_does, openings}
 use Rattle.zt_links.proofs.Refusing.{link_cause}
 

@@ -6,10 +6,6 @@ pub mod Closings
 pub mod Firsts
 pub mod LinkCauses
 pub mod Joined
-pub mod Joints
 pub mod Linked
-pub mod Members
-pub mod Placed
-pub mod Sorts
 pub mod Turned
 pub mod Walks

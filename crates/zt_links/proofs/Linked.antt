@@ -15,7 +15,7 @@ use Rattle.zt_laws.proofs.Ends.{after_hearing-append, end_alone, end_in_order, e
 use Rattle.zt_laws.proofs.Gateways.{after_hearing_nothing}
 use Rattle.zt_laws.proofs.Interleaving.{hearing_alike}
 use Rattle.zt_laws.proofs.Sorting.{printed_sorted}
-use Rattle.zt_links.specs.Lines.{row_after}
+use Rattle.zt_fabric_state.specs.Changes.{row_after}
 
 -- faces are opened one after another, and each hears what is said then
 abbrev pub openings : {K : Type 0} → (K → K → Ordering) → (K → K → Bool) → List (LinkEnd K) → Fabric K → Fabric K

@@ -11,7 +11,7 @@ use Rattle.zt_model.specs.Fabric.{CallAt, Fabric, Link, Node, after_hearing, aft
 use Rattle.zt_model.specs.Linking.{with_link}
 use Rattle.zt_model.specs.Lists.{is_some_and, nth, without_id}
 use Rattle.zt_model.specs.Refusals.{spends_ids}
-use Rattle.zt_model.specs.Rows.{ById, Rows}
+use Rattle.zt_model.specs.Rows.{ById}
 use Rattle.zt_model.specs.Says.{said}
 use Rattle.zt_laws.specs.Order.{FabricIsInOrder}
 use Rattle.zt_laws.specs.Sound.{opens_face, rows_after_call}
@@ -19,25 +19,12 @@ use Rattle.zt_laws.proofs.Gateways.{prints_map}
 use Rattle.zt_laws.proofs.Lists.{by_test}
 use Rattle.zt_laws.proofs.Sorting.{printed}
 use Rattle.zt_queues.specs.Waiting.{with_printed}
-use Rattle.zt_links.specs.Lines.{opened_by_call, opened_end, row_after, said_by_opening}
-use Rattle.zt_links.proofs.Carried.{call_there, end_nowhere, opened_heard}
+use Rattle.zt_fabric_state.specs.Changes.{row_after}
+use Rattle.zt_links.specs.Lines.{opened_by_call, opened_end, said_by_opening}
+use Rattle.zt_fabric_state.proofs.Carried.{call_there}
+use Rattle.zt_links.proofs.Carried.{end_nowhere, opened_heard}
 
--- ---- a gateway's rows are put back
-
-back_nth : {K : Type 0} (n : ℕ) (rows former : Rows K) (xs : List (Node K)) (node : Node K) → nth n xs ≡ Some node → former ≡ node.rows
-    → at_nth n (λ (x : Node K). record x { rows = former }) (at_nth n (λ (x : Node K). record x { rows = rows }) xs) ≡ xs
-back_nth n rows former [] node at_ is = refl
-back_nth n rows former (x ∷ xs) node at_ is =
-    by_test (n == 1)
-    (λ here.
-    let same : Some x ≡ Some node = rw here at at_ in
-    let is_x : x ≡ node = cc in
-    let former_is : former ≡ x.rows = is ∙ ap (λ (y : Node _). y.rows) (sym is_x) in
-    rw (here, here) (ap (λ g. record x { rows = g } ∷ xs) former_is))
-    (λ past. rw (past, past) (ap (λ rest. x ∷ rest) (back_nth (n - 1) rows former xs node (rw past at at_) is)))
-
-pub put_back : {K : Type 0} (n : ℕ) (rows former : Rows K) (s : Fabric K) (node : Node K) → nth n s.gateways ≡ Some node → former ≡ node.rows → with_rows n (λ _. former) (with_rows n (λ _. rows) s) ≡ s
-put_back n rows former s node at_ is = ap (λ (gs : List (Node _)). record s { gateways = gs }) (back_nth n rows former s.gateways node at_ is)
+-- ---- the gateways, where one of them is changed
 
 none_nth : {K : Type 0} (k n : ℕ) (change : Node K → Node K) (xs : List (Node K)) → is_none (nth k (at_nth n change xs)) ≡ is_none (nth k xs)
 none_nth k n change [] = refl

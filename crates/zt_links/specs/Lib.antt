@@ -1,2 +1,1 @@
-pub mod Joints
 pub mod Lines

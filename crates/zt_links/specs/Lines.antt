@@ -1,5 +1,5 @@
 -- The one call of a line, why a line is refused, and what waits after one.
-use Rattle.std.specs.Prelude.{ℕ, Bool, true, false, ◌==◌, ◌+◌, ◌-◌, ◌&&◌, ◌||◌, not, nat_le, if◌then◌else◌, List, [], ◌∷◌, ◌++◌, length, take, Option, Some, None, Ok, Err, map, filter}
+use Rattle.std.specs.Prelude.{ℕ, Bool, true, false, ◌==◌, ◌+◌, ◌&&◌, ◌||◌, not, nat_le, List, [], ◌∷◌, ◌++◌, length, Option, Some, None, Ok, Err, filter}
 use Rattle.std.specs.List.{list_any}
 use Rattle.std.specs.declared.cmp.Ordering.{Ordering}
 use Rattle.zt_region.specs.declared.region.WhatAmI.{WhatAmI}
@@ -11,15 +11,12 @@ use Rattle.zt_protocol.specs.Plain.{PlainCall, PlainLine, NewTransport, Session,
 use Rattle.zt_protocol.specs.declared.entries.Sent.{Sent}
 use Rattle.zt_protocol.specs.declared.errors.Refusal.{Refusal}
 use Rattle.zt_protocol.specs.declared.errors.Refusal.TheVariants as refusal
-use Rattle.zt_protocol.specs.declared.messages.Message.{Message}
-use Rattle.zt_model.specs.Fabric.{CallAt, Fabric, Node, after_opening, at_nth, line_causes, call_at, is_full, is_region_of, line_spends_ids, opened_at, printed_for, said_at, sorted_by_face, with_rows}
+use Rattle.zt_model.specs.Fabric.{CallAt, Fabric, Node, after_opening, at_nth, line_causes, call_at, is_full, is_region_of, line_spends_ids, opened_at, said_at}
 use Rattle.zt_model.specs.Journal.{cause_of}
-use Rattle.zt_model.specs.Linking.{climbs_to, end_region, is_answer, with_taken}
-use Rattle.zt_model.specs.Lists.{rest_of, without_id}
-use Rattle.zt_model.specs.Rows.{Rows}
+use Rattle.zt_model.specs.Linking.{climbs_to, end_region, is_answer}
+use Rattle.zt_model.specs.Lists.{without_id}
 use Rattle.zt_model.specs.Refusals.{GREATEST_NUMBER, first_cause, is_north_taken}
 use Rattle.zt_model.specs.Strategy.{fits}
-use Rattle.zt_laws.specs.Sound.{rows_after_call}
 use Rattle.zt_queues.specs.Waiting.{with_printed}
 
 -- a call by the number of its gateway, where there is one
@@ -47,32 +44,6 @@ joined one two ms s =
       waiting = with_printed ms s.waiting;
     }
 
--- what waits at an end of a link, where the oldest message of a face's is taken
-abbrev pub taken_row : {K : Type 0} → Option ℕ → ℕ × List (Message K) → ℕ × List (Message K)
-taken_row None row = row
-taken_row (Some face) row = if face == row.0 then (row.0, rest_of row.1) else row
-
--- and messages are added behind the others
-abbrev pub row_after : {K : Type 0} → Option ℕ → List (Sent K) → ℕ × List (Message K) → ℕ × List (Message K)
-row_after taken ms row = let left = taken_row taken row in (left.0, left.1 ++ printed_for left.0 ms)
-
--- the last place goes again, with what waits there
-abbrev pub without_last_place : {K : Type 0} → Fabric K → Fabric K
-without_last_place s = record s { faces = take (length s.faces - 1) s.faces; waiting = without_id (length s.faces) s.waiting }
-
--- the last link goes again
-abbrev pub without_last_link : {K : Type 0} → Fabric K → Fabric K
-without_last_link s = record s { links = take (length s.links - 1) s.links }
-
--- a gateway keeps again what it kept before, where it was changed
-abbrev pub undone : {K : Type 0} → Option (Rows K) → ℕ → Fabric K → Fabric K
-undone None n s = s
-undone (Some rows) n s = with_rows n (λ _. rows) s
-
-abbrev pub taken_by : {K : Type 0} → Option ℕ → Fabric K → Fabric K
-taken_by None s = s
-taken_by (Some face) s = with_taken face s
-
 module _ {K : Type 0} (cmp : K → K → Ordering) (matching : K → K → Bool) where
   -- why a call is refused at its gateway
   abbrev pub cause_at : Option (CallAt K) → Option Refusal
@@ -98,17 +69,6 @@ abbrev pub is_opening : {K : Type 0} → PlainLine K → Bool
 is_opening (Session gateway first) = true
 is_opening (FaceLine gateway mode zid region bound first) = true
 is_opening _ = false
-
-module _ {K : Type 0} (cmp : K → K → Ordering) (matching : K → K → Bool) where
-  -- what a gateway's call says, as it is printed
-  abbrev pub said_sorted : ℕ → PlainCall K → Fabric K → List (Sent K)
-  said_sorted n c s = sorted_by_face (said_at cmp matching s (call_at s n c))
-
-  -- the fabric after a gateway's call, where what it says waits for the other ends
-  abbrev pub carried : Option ℕ → ℕ → PlainCall K → Fabric K → Fabric K
-  carried taken n c s =
-      let after = with_rows n (rows_after_call cmp matching c) s in
-      record after { waiting = map (row_after taken (said_sorted n c s)) s.waiting }
 
 -- what the two ends of a link come to for one of them: its peer as the other sees it, the other one, its mode and
 -- configuration, and those of the other

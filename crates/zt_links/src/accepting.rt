@@ -1,27 +1,21 @@
 // What an accepted line does and says.
-ghost use Rattle.std.specs.Prelude.{◌≡◌, None, Ok, IfOk, IfSome, OnOk, OnErr, option_map};
-ghost use Rattle.std.specs.Prelude.{string_bytes};
-ghost use Rattle.zt_region.specs.South.{plain_south};
-ghost use Rattle.zt_model.specs.Fabric.{call_of, fabric_after, new_rows, said_by_line};
-ghost use Rattle.zt_model.specs.Fabric.{sorted_by_face, with_gateway, without_message};
+ghost use Rattle.std.specs.Prelude.{◌≡◌, None, Ok, IfOk, IfSome, OnErr};
+ghost use Rattle.zt_model.specs.Fabric.{call_of, fabric_after, said_by_line};
+ghost use Rattle.zt_model.specs.Fabric.{sorted_by_face, without_message};
 ghost use Rattle.zt_protocol.specs.Plain.{plain_line};
 ghost use Rattle.zt_laws.specs.Order.{FabricIsInOrder};
 ghost use Rattle.zt_laws.specs.Sound.{HasFirstIds, opens_face};
-ghost use Rattle.zt_links.specs.Lines.{cause_of_line, is_opening, made_at, taken_by};
+ghost use Rattle.zt_fabric_state.specs.Changes.{taken_by};
+ghost use Rattle.zt_links.specs.Lines.{cause_of_line, is_opening, made_at};
 
 use crate::calls::CallMade;
-use crate::copying::{copy_name, copy_south};
 use crate::joining::link;
-use crate::links::sending_end;
 use crate::making::{make_call, open_face};
-use crate::state::{FabricState, NodeState};
 use crate::unlinking::unlink;
 use std::alloc::Global;
+use zt_fabric_state::{FabricState, add_gateway, sending_end};
 use zt_keys::{Key, Memory};
 use zt_protocol::{Line, Sent};
-use zt_region::{Admission, Region, SouthConf, WhatAmI, Zid};
-use zt_state::GatewayState;
-use zt_twins::TwinState;
 
 /// The face whose oldest message a delivery takes.
 pub(crate) fn taken_of<K: Key>(s: &FabricState<K>, link: u32, back: bool) -> Option<u32>
@@ -31,36 +25,6 @@ pub(crate) fn taken_of<K: Key>(s: &FabricState<K>, link: u32, back: bool) -> Opt
         Some(link) => Some(sending_end(link, back)),
         None => None,
     }
-}
-
-/// A gateway is made. After want of memory nothing is changed.
-fn add_gateway<K: Key>(
-    alloc: Global,
-    s: &mut FabricState<K>,
-    mode: WhatAmI,
-    zid: Zid,
-    regions: &[Region],
-    south: &SouthConf,
-    name: &Option<String>,
-    timeout: u64,
-    refuse: &Admission,
-) -> Result<(), Memory>
-    ensures ok { OnOk result (s.new ≡ with_gateway (record {
-      rows = new_rows mode zid regions.now timeout refuse.now.refused.items;
-      south = plain_south south.now;
-      name = option_map string_bytes name.now;
-    }) s.old) }
-    ensures err { OnErr result (s.new ≡ s.old) }
-{
-    let admission = Admission {
-        refused: Vec::from_slice(alloc, refuse.refused.as_slice())?,
-    };
-    let listed = Vec::from_slice(alloc, regions)?;
-    s.push_gateway(NodeState {
-        twin: TwinState::new(GatewayState::new(alloc, mode, zid, listed, timeout, admission)),
-        south: copy_south(alloc, south)?,
-        name: copy_name(alloc, name)?,
-    })
 }
 
 /// Carries out a line that no cause refuses, whose call is `made`. After want of memory nothing is

@@ -9,10 +9,9 @@ ghost use Rattle.zt_laws.specs.Sound.{opens_face};
 ghost use Rattle.zt_links.specs.Lines.{is_opening, made_at};
 
 use crate::copying::{copy_keys, copy_queryables};
-use crate::links::{oldest, speaking_end};
-use crate::state::FabricState;
 use std::alloc::Global;
 use std::marker::Model;
+use zt_fabric_state::{FabricState, oldest, speaking_end};
 use zt_keys::{Key, Memory};
 use zt_protocol::{Call, Line, Message, TreeTable, copy_expression};
 

@@ -13,11 +13,9 @@ ghost use Rattle.zt_model.specs.Refusals.{GREATEST_NUMBER};
 ghost use Rattle.zt_links.specs.Lines.{cause_at, cause_if, cause_of_line, made_at, or_cause};
 
 use crate::calls::{CallMade, face_of};
-use crate::links::{is_linked_face, is_open_link, oldest};
-use crate::places::member_at;
-use crate::state::FabricState;
 use std::alloc::Global;
 use zt_causes::cause_of;
+use zt_fabric_state::{FabricState, is_linked_face, is_open_link, member_at, oldest};
 use zt_keys::{Key, Memory};
 use zt_protocol::{Call, Line, Refusal};
 use zt_region::{Admission, Region, WhatAmI};
@@ -32,7 +30,7 @@ pub(crate) fn is_full(count: usize) -> bool
 fn is_unknown_gateway<K: Key>(s: &FabricState<K>, gateway: u32) -> bool
     ensures { result ≡ is_unknown_gateway s.now gateway }
 {
-    member_at(s.gateways.as_slice(), gateway).is_none()
+    member_at(s.gateways(), gateway).is_none()
 }
 
 /// Why a call is refused at its gateway.
@@ -46,7 +44,7 @@ fn cause_of_made<K: Key>(
     let Some(made) = made else {
         return Ok(None);
     };
-    let Some(node) = member_at(s.gateways.as_slice(), made.gateway) else {
+    let Some(node) = member_at(s.gateways(), made.gateway) else {
         return Ok(None);
     };
     cause_of(alloc, node.rows(), &made.call)
@@ -78,7 +76,7 @@ pub(crate) fn session_cause<K: Key>(s: &FabricState<K>, gateway: u32) -> Option<
     if is_unknown_gateway(s, gateway) {
         return Some(Refusal::UnknownGateway);
     }
-    if is_full(s.places.len()) {
+    if is_full(s.places().len()) {
         return Some(Refusal::NumbersSpent);
     }
     None
@@ -102,7 +100,7 @@ pub(crate) fn face_cause<K: Key>(
     if let Some(cause) = cause_of_made(alloc, s, made)? {
         return Ok(Some(cause));
     }
-    if is_full(s.places.len()) {
+    if is_full(s.places().len()) {
         return Ok(Some(Refusal::NumbersSpent));
     }
     Ok(None)
@@ -218,6 +216,13 @@ fn has_south_router(regions: &[Region]) -> bool
     regions.iter().any(|region| is_south_router(region))
 }
 
+/// Whether all numbers of gateways are given out.
+fn has_every_number<K: Key>(s: &FabricState<K>) -> bool
+    ensures { result ≡ is_full s.now.gateways }
+{
+    is_full(s.gateways().len())
+}
+
 /// Why a gateway isn't made.
 pub(crate) fn gateway_cause<K: Key>(
     s: &FabricState<K>,
@@ -239,7 +244,7 @@ pub(crate) fn gateway_cause<K: Key>(
     if has_south_router(regions) && mode != WhatAmI::Router {
         return Some(Refusal::RegionConflict);
     }
-    if is_full(s.gateways.len()) {
+    if has_every_number(s) {
         return Some(Refusal::NumbersSpent);
     }
     None

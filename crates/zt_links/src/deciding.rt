@@ -10,9 +10,8 @@ use crate::causes::{
     cause_at_gateway, face_cause, gateway_cause, session_cause, speak_cause, step_cause,
 };
 use crate::link_causes::link_cause;
-use crate::links::is_open_link;
-use crate::state::FabricState;
 use std::alloc::Global;
+use zt_fabric_state::{FabricState, is_open_link};
 use zt_keys::{Key, Memory};
 use zt_protocol::{Line, Refusal};
 

@@ -10,7 +10,7 @@ ghost use Rattle.zt_model.specs.Strategy.{fits};
 
 use crate::causes::has_region;
 use crate::linking::climbs_to;
-use crate::state::{FabricState, NodeState};
+use zt_fabric_state::{FabricState, NodeState};
 use zt_keys::Key;
 use zt_region::{Bound, Region, RegionError, WhatAmI};
 use zt_state::GatewayState;

@@ -10,10 +10,9 @@ ghost use Rattle.zt_links.specs.Lines.{is_opening, made_at};
 use crate::accepting::{accept, taken_of};
 use crate::calls::{CallMade, call_of_line};
 use crate::deciding::cause_of_line;
-use crate::making::take_message;
-use crate::state::FabricState;
 use std::alloc::Global;
 use std::marker::Model;
+use zt_fabric_state::{FabricState, take_message};
 use zt_keys::{Key, Memory};
 use zt_protocol::{Entry, Line, Refusal};
 

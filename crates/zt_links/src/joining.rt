@@ -7,9 +7,8 @@ ghost use Rattle.zt_laws.specs.Order.{FabricIsInOrder};
 ghost use Rattle.zt_links.specs.Lines.{cause_of_line, opening_call};
 
 use crate::linking::{end_call, end_region, make_link};
-use crate::places::member_at;
-use crate::state::FabricState;
 use std::alloc::Global;
+use zt_fabric_state::{FabricState, member_at};
 use zt_keys::{Key, Memory};
 use zt_protocol::{Call, Sent};
 

@@ -12,13 +12,7 @@ mod fabric;
 mod joining;
 mod link_causes;
 mod linking;
-mod links;
 mod making;
-mod places;
-mod printing;
-mod sorting;
-mod state;
-mod turning;
 mod unlinking;
 
 pub use fabric::Fabric;

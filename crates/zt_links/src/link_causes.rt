@@ -11,9 +11,8 @@ ghost use Rattle.zt_links.specs.Lines.{cause_of_line, closes_loop_at, later_caus
 use crate::causes::is_full;
 use crate::ends::{closes_loop, misfits, names_no_region, takes_north};
 use crate::linking::{end_call, end_region, spends_for_link};
-use crate::places::member_at;
-use crate::state::{FabricState, NodeState};
 use std::alloc::Global;
+use zt_fabric_state::{FabricState, NodeState, member_at};
 use zt_keys::{Key, Memory};
 use zt_protocol::Refusal;
 use zt_region::{Bound, Region, RegionError};

@@ -8,22 +8,21 @@ ghost use Rattle.zt_region.specs.Region.{is_north};
 ghost use Rattle.zt_protocol.specs.Plain.{NewTransport, plain_call};
 ghost use Rattle.zt_region.specs.South.{plain_peer, plain_south, subregion_count};
 ghost use Rattle.zt_places.specs.Found.{AreBelow};
-ghost use Rattle.zt_links.specs.Lines.{agreed, joined, opened_by_call, opened_end, row_after};
-ghost use Rattle.zt_links.specs.Lines.{said_by_opening, undone, without_last_place};
+ghost use Rattle.zt_fabric_state.specs.Changes.{row_after, undone, without_last_place};
+ghost use Rattle.zt_links.specs.Lines.{agreed, joined, opened_by_call, opened_end};
+ghost use Rattle.zt_links.specs.Lines.{said_by_opening};
 ghost use Rattle.zt_model.specs.Linking.{climbs_to, with_link, end_region, gateway_above};
-ghost use Rattle.zt_model.specs.Linking.{gateway_beyond, peer_of};
+ghost use Rattle.zt_model.specs.Linking.{gateway_beyond};
 ghost use Rattle.zt_model.specs.Lists.{first_where, is_some_and, nth};
 ghost use Rattle.zt_model.specs.Refusals.{spends_ids};
 
-use crate::copying::copy_name;
-use crate::making::next_face;
-use crate::places::{member_at, place_of_number};
-use crate::sorting::sort_by_face;
-use crate::state::{FabricState, NodeState};
-use crate::turning::{Turned, hear_call, undo_opening};
 use std::alloc::Global;
 use zt_calls::carry_out;
 use zt_causes::spends_ids;
+use zt_fabric_state::{
+    FabricState, NodeState, Turned, hear_call, member_at, next_face, peer_of, place_of_number,
+    sort_by_face, undo_opening,
+};
 use zt_keys::{Key, Memory};
 use zt_protocol::{Call, Sent};
 use zt_region::{
@@ -31,18 +30,6 @@ use zt_region::{
     compute_transient_bound_of,
 };
 use zt_state::GatewayState;
-
-/// A gateway as the other end of a link sees it. The only error is want of memory.
-fn peer_of<K: Key>(alloc: Global, node: &NodeState<K>) -> Result<TransportPeer, Memory>
-    ensures { IfOk result (λ peer. plain_peer peer ≡ peer_of node.now) }
-{
-    Ok(TransportPeer {
-        zid: node.rows().zid(),
-        whatami: node.rows().mode(),
-        links: Vec::new(alloc),
-        region_name: copy_name(alloc, &node.name)?,
-    })
-}
 
 /// Whether the positions of the subregions are ids of regions.
 fn has_few_subregions(south: &SouthConf) -> bool

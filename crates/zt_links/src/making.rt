@@ -1,96 +1,17 @@
-// Calls that are carried out at their gateways.
-ghost use Rattle.std.specs.Prelude.{◌≡◌, ◌+◌, ◌<◌, true, false, [], ◌∷◌, Some, length, None, IfOk};
-ghost use Rattle.std.specs.Prelude.{IfSome, OnOk, OnErr};
-ghost use Rattle.zt_model.specs.Fabric.{after_hearing, altered_at, call_at, opened_at, said_at};
-ghost use Rattle.zt_model.specs.Fabric.{sorted_by_face, with_place, with_waiting};
-ghost use Rattle.zt_model.specs.Lists.{nth};
-ghost use Rattle.zt_model.specs.Places.{Node};
-ghost use Rattle.zt_model.specs.Says.{said};
-ghost use Rattle.zt_protocol.specs.Plain.{plain_call};
+// The calls of lines that make one.
+ghost use Rattle.std.specs.Prelude.{◌≡◌, true, false, IfOk, IfSome, OnErr};
+ghost use Rattle.zt_model.specs.Fabric.{after_hearing, altered_at, opened_at, said_at};
+ghost use Rattle.zt_model.specs.Fabric.{sorted_by_face, with_waiting};
 ghost use Rattle.zt_laws.specs.Order.{FabricIsInOrder};
-ghost use Rattle.zt_laws.specs.Sound.{opens_face, rows_after_call};
-ghost use Rattle.zt_links.specs.Lines.{carried, made_at, said_sorted, taken_by};
+ghost use Rattle.zt_laws.specs.Sound.{opens_face};
+ghost use Rattle.zt_fabric_state.specs.Changes.{taken_by};
+ghost use Rattle.zt_links.specs.Lines.{made_at};
 
 use crate::calls::CallMade;
-use crate::places::place_of_number;
-use crate::printing::print_all;
-use crate::sorting::sort_by_face;
-use crate::state::FabricState;
 use std::alloc::Global;
+use zt_fabric_state::{FabricState, carry_at, open_at, place_of_number, take_message};
 use zt_keys::{Key, Memory};
-use zt_protocol::{Call, Message, Sent};
-use zt_state::GatewayState;
-use zt_twins::BoxedState;
-
-/// A gateway after a call, and what the call says, as the gateway's faces hear it and as it is
-/// printed.
-#[derive(Drop)]
-pub(crate) struct Prepared<K: Key> {
-    pub(crate) rows: BoxedState<K>,
-    pub(crate) said: Vec<(u32, Message<K>)>,
-    pub(crate) printed: Vec<Sent<K>>,
-}
-
-/// The oldest message of a face's link is taken, where one is named.
-pub(crate) fn take_message<K: Key>(s: &mut FabricState<K>, taken: Option<u32>)
-    ensures { s.new ≡ taken_by taken s.old }
-{
-    if let Some(face) = taken {
-        s.take_waiting(face);
-    }
-}
-
-/// Carries out a call beside the gateway of a number, and nothing is changed.
-pub(crate) fn prepare<K: Key>(
-    alloc: Global,
-    s: &mut FabricState<K>,
-    at: usize,
-    gateway: u32,
-    call: &Call<K>,
-) -> Result<Prepared<K>, Memory>
-    requires within { at < length s.old.gateways }
-    requires counted { gateway ≡ at + 1 }
-    ensures rows { IfOk result (λ prepared. (node : Node K) → nth gateway s.old.gateways ≡ Some node
-        → prepared.rows ≡ rows_after_call K.cmp K.matching (plain_call call.now) node.rows) }
-    ensures said { IfOk result (λ prepared. (node : Node K) → nth gateway s.old.gateways ≡ Some node
-        → prepared.said.items ≡ said K.cmp K.matching (plain_call call.now) node.rows) }
-    ensures printed { IfOk result (λ prepared. prepared.printed.items
-        ≡ said_at K.cmp K.matching s.old (call_at s.old gateway (plain_call call.now))) }
-    ensures same { s.new ≡ s.old }
-{
-    let ahead = s.prepare_at(alloc, at, call)?;
-    let printed = print_all(alloc, s.places(), gateway, ahead.said.as_slice())?;
-    Ok(Prepared {
-        rows: ahead.state,
-        said: ahead.said,
-        printed,
-    })
-}
-
-/// Carries out a call at its gateway, where the oldest message of a face's link may be taken. After
-/// want of memory nothing is changed.
-pub(crate) fn carry_at<K: Key>(
-    alloc: Global,
-    s: &mut FabricState<K>,
-    taken: Option<u32>,
-    at: usize,
-    gateway: u32,
-    call: &Call<K>,
-) -> Result<Vec<Sent<K>>, Memory>
-    requires within { at < length s.old.gateways }
-    requires counted { gateway ≡ at + 1 }
-    ensures says { IfOk result (λ sent. sent.items
-        ≡ said_sorted K.cmp K.matching gateway (plain_call call.now) s.old) }
-    ensures does { OnOk result
-        (s.new ≡ carried K.cmp K.matching taken gateway (plain_call call.now) s.old) }
-    ensures err { OnErr result (s.new ≡ s.old) }
-{
-    let prepared = prepare(alloc, s, at, gateway, call)?;
-    let sent = sort_by_face(prepared.printed)?;
-    s.turn_waiting(alloc, taken, sent.as_slice())?;
-    s.commit_at(alloc, at, prepared.rows, call, &prepared.said);
-    Ok(sent)
-}
+use zt_protocol::Sent;
 
 /// Makes the one call of a line that opens no face, where its gateway or face exists. The oldest
 /// message of a face's link may be taken. After want of memory nothing is changed.
@@ -119,42 +40,6 @@ pub(crate) fn make_call<K: Key>(
             Ok(Vec::new(alloc))
         }
         Some(at) => carry_at(alloc, s, taken, at, made.gateway, &made.call),
-    }
-}
-
-/// The number of the face that a gateway makes next. That it has none counts as want of memory;
-/// there are fewer places than numbers, so this is never so.
-pub(crate) fn next_face<K: Key>(g: &GatewayState<K>) -> Result<u32, Memory>
-    ensures { IfOk result (λ face. face ≡ g.now.made + 1) }
-{
-    g.made().checked_add(1).ok_or(Memory)
-}
-
-/// Opens a face at its gateway, where its place stands last. After want of memory nothing is
-/// changed.
-fn open_at<K: Key>(
-    alloc: Global,
-    s: &mut FabricState<K>,
-    at: usize,
-    gateway: u32,
-    call: &Call<K>,
-) -> Result<Vec<Sent<K>>, Memory>
-    requires within { at < length s.old.gateways }
-    requires counted { gateway ≡ at + 1 }
-    ensures says { IfOk result (λ sent. sent.items
-        ≡ said_sorted K.cmp K.matching gateway (plain_call call.now) (with_place gateway s.old)) }
-    ensures does { OnOk result (s.new
-        ≡ carried K.cmp K.matching None gateway (plain_call call.now) (with_place gateway s.old)) }
-    ensures err { OnErr result (s.new ≡ s.old) }
-{
-    let face = next_face(s.gateways()[at].rows())?;
-    s.push_place(alloc, gateway, face)?;
-    match carry_at(alloc, s, None, at, gateway, call) {
-        Ok(sent) => Ok(sent),
-        Err(error) => {
-            s.pop_place();
-            Err(error)
-        }
     }
 }
 

@@ -5,14 +5,12 @@ ghost use Rattle.std.specs.List.{list_any};
 ghost use Rattle.zt_model.specs.Fabric.{after_closing, both_ends, closing_call, fabric_after};
 ghost use Rattle.zt_model.specs.Fabric.{said_at, said_by_line, sorted_by_face};
 ghost use Rattle.zt_protocol.specs.Plain.{Unlink};
-ghost use Rattle.zt_links.specs.Lines.{for_others, parted, undone};
+ghost use Rattle.zt_fabric_state.specs.Changes.{undone};
+ghost use Rattle.zt_links.specs.Lines.{for_others, parted};
 ghost use Rattle.zt_laws.specs.Order.{FabricIsInOrder};
 
-use crate::places::place_of_number;
-use crate::sorting::sort_by_face;
-use crate::state::FabricState;
-use crate::turning::{Turned, hear_call, undo};
 use std::alloc::Global;
+use zt_fabric_state::{FabricState, Turned, hear_call, place_of_number, sort_by_face, undo};
 use zt_keys::{Key, Memory};
 use zt_places::LinkState;
 use zt_protocol::{Call, Sent};

@@ -5,8 +5,7 @@ ghost use Rattle.std.specs.BTreeSet.{insert_key};
 ghost use Rattle.std.specs.List.{list_any};
 ghost use Rattle.std.specs.List.Sorted.{IsStrictlySortedBy};
 ghost use Rattle.zt_model.specs.Lists.{in_key_order, with_key};
-ghost use Rattle.zt_model.specs.Trees.{is_routed_row, routed_order};
-ghost use Rattle.zt_protocol.specs.Plain.{trees_of};
+ghost use Rattle.zt_model.specs.Trees.{counted_table, is_routed_row, routed_order};
 ghost use Rattle.zt_routed.specs.More.{IsMoreBy};
 ghost use Rattle.zt_routed.specs.Routed.{AreInOrder, is_left_out, is_row_of, keys_at, origin_cmp};
 ghost use Rattle.zt_routed.specs.Routed.{row_of, rows_in};
@@ -15,8 +14,8 @@ use crate::origin::{Origin, is_left_out};
 use std::alloc::Global;
 use std::collections::{BTreeMap, BTreeSet};
 use zt_keys::{Key, Memory};
-use zt_protocol::TreeTable;
 use zt_region::Region;
+use zt_tables::KeptTable;
 
 // Puts a token in its place: whether it is new. The only error is want of memory.
 pub(crate) fn insert_in<K: Key>(
@@ -105,11 +104,11 @@ pub(crate) fn contains_in<K: Key>(
 pub(crate) fn drop_left_out_in<K: Key>(
     sources: &mut BTreeMap<Origin, BTreeSet<K>>,
     region: Region,
-    table: &TreeTable,
+    table: &KeptTable,
 )
     requires { AreInOrder K.cmp sources.old.entries }
     ensures entries { sources.new.entries
-        ≡ filter (λ entry. not (is_left_out region (trees_of table.now) entry.0))
+        ≡ filter (λ entry. not (is_left_out region (counted_table table.now) entry.0))
         sources.old.entries }
     ensures in_order { AreInOrder K.cmp sources.new.entries }
 {

@@ -2,8 +2,8 @@
 ghost use Rattle.std.specs.Prelude.{◌≡◌, [], filter, map, not, IfOk, OnOk};
 ghost use Rattle.std.specs.List.{list_any};
 ghost use Rattle.zt_model.specs.Lists.{in_key_order, with_key};
-ghost use Rattle.zt_model.specs.Trees.{is_left_out, is_routed_row, routed_order, row_at};
-ghost use Rattle.zt_protocol.specs.Plain.{trees_of};
+ghost use Rattle.zt_model.specs.Trees.{counted_table, is_left_out, is_routed_row, routed_order};
+ghost use Rattle.zt_model.specs.Trees.{row_at};
 ghost use Rattle.zt_routed.specs.More.{IsMoreBy};
 ghost use Rattle.zt_routed.specs.Routed.{AreInOrder, is_row_of, rows_in};
 
@@ -15,8 +15,8 @@ use std::alloc::Global;
 use std::collections::{BTreeMap, BTreeSet};
 use std::marker::Model;
 use zt_keys::{Key, Memory};
-use zt_protocol::TreeTable;
 use zt_region::{Region, Zid};
+use zt_tables::KeptTable;
 
 /// The tokens of a gateway's router regions, each once. Contracts see their rows, in order of
 /// region, source and expression.
@@ -87,9 +87,9 @@ impl<K: Key> RoutedTokens<K> {
     }
 
     /// The tokens of a region go whose router the table doesn't list.
-    pub fn drop_left_out(&mut self, region: Region, table: &TreeTable)
+    pub fn drop_left_out(&mut self, region: Region, table: &KeptTable)
         ensures { self.new
-            ≡ filter (λ row. not (is_left_out K.cmp region (trees_of table.now) row)) self.old }
+            ≡ filter (λ row. not (is_left_out K.cmp region (counted_table table.now) row)) self.old }
     {
         drop_left_out_in(&mut self.sources, region, table);
     }

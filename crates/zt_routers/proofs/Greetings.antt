@@ -1,19 +1,17 @@
 -- What a face is told by the routers in order, and by the children that are looked up, is what the definition says.
-use Rattle.std.proofs.Common.{◌≡◌, ◌&&◌, ◌++◌, ◌∷◌, ℕ, Bool, true, false, not, List, [], ap, ap₂, cond, map, refl, ◌∙◌}
-use Rattle.std.specs.List.{flat_map, list_any}
+use Rattle.std.proofs.Common.{◌≡◌, ◌&&◌, ◌++◌, ◌∷◌, ℕ, Bool, true, false, not, List, [], ap, ap₂, cond, map, refl, sym, ◌∙◌}
+use Rattle.std.specs.List.{flat_map}
 use Rattle.std.specs.declared.cmp.Ordering.{Ordering}
 use Rattle.zt_region.specs.declared.region.Region.{Region}
 use Rattle.zt_region.specs.declared.region.Zid.{Zid}
-use Rattle.zt_region.specs.Region.{region_eq, zid_eq}
+use Rattle.zt_region.specs.Region.{region_eq}
 use Rattle.zt_protocol.specs.Plain.{Trees}
 use Rattle.zt_protocol.specs.declared.messages.Message.{Message}
 use Rattle.zt_model.specs.Parts.{to_each}
 use Rattle.zt_model.specs.Rows.{Face, Rows}
 use Rattle.zt_model.specs.Trees.{greet_to, is_child, is_face_of_router, routed_expressions, routers_in_order, table_of}
-use Rattle.zt_routers.specs.Greeting.{declared, greeted, greeted_by}
-use Rattle.zt_routers.specs.KeysOf.{AreKeysOf}
-use Rattle.zt_routers.specs.Listed.{child_cmp}
-use Rattle.zt_routers.proofs.Looked.{child_by}
+use Rattle.zt_routers.specs.Greeting.{declared, greeted, greeted_by, has_child}
+use Rattle.zt_routers.proofs.Treeless.{none_each}
 
 -- whether a face stands for its router may be asked once, before the children are looked up
 asked_first : {A : Type 0} (here stands now before : Bool) (xs : List A)
@@ -40,34 +38,30 @@ module _ {K : Type 0} (rule other : Face K → List (Message K)) (alike : (f : F
   to_each_alike (f ∷ fs) = ap₂ (λ ms sends. map (λ m. (f.number, m)) ms ++ sends) (alike f) (to_each_alike fs)
 
 module _ {K : Type 0} (cmp : K → K → Ordering) (g : Rows K) (region : Region) (before : Trees) where
-  abbrev lists : Trees → Zid → Face K → Bool
-  lists t source f = list_any (λ c. zid_eq source c.0 && zid_eq f.zid c.1) t.children
-
   abbrev told : Trees → Face K → ℕ × Zid → List (Message K)
   told t f r = cond (region_eq f.region region && (is_child g t r.1 f && not (is_child g before r.1 f))) (declared r.0 (routed_expressions cmp g region r.1)) []
 
-  module _ (t : Trees) (children earlier : List (Zid × Zid)) (now : AreKeysOf child_cmp (λ (x : Zid × Zid). x) children t.children) (was : AreKeysOf child_cmp (λ (x : Zid × Zid). x) earlier before.children) where
-    told_one : (f : Face K) (r : ℕ × Zid) → cond (region_eq f.region region && is_face_of_router g f) (greeted cmp g region children earlier f r) [] ≡ told t f r
+  module _ (t : Trees) where
+    told_one : (f : Face K) (r : ℕ × Zid) → cond (region_eq f.region region && is_face_of_router g f) (greeted cmp g region t before f r) [] ≡ told t f r
     unfolding is_child
     told_one f r =
-        let here = region_eq f.region region in
-        let stands = is_face_of_router g f in
-        let tokens = declared r.0 (routed_expressions cmp g region r.1) in
-        ap₂ (λ (a b : Bool). cond (here && stands) (cond (a && not b) tokens []) []) (child_by children t.children r.1 f.zid now) (child_by earlier before.children r.1 f.zid was)
-        ∙ asked_first here stands (lists t r.1 f) (lists before r.1 f) tokens
+        asked_first (region_eq f.region region) (is_face_of_router g f) (has_child t r.1 f.zid) (has_child before r.1 f.zid) (declared r.0 (routed_expressions cmp g region r.1))
 
-    told_all : (f : Face K) (rs : List (ℕ × Zid)) → greeted_by cmp g region rs children earlier f ≡ flat_map (told t f) rs
+    told_all : (f : Face K) (rs : List (ℕ × Zid)) → cond (region_eq f.region region && is_face_of_router g f) (flat_map (greeted cmp g region t before f) rs) [] ≡ flat_map (told t f) rs
     told_all f [] = no_more (region_eq f.region region && is_face_of_router g f)
     told_all f (r ∷ rs) =
-        one_more (region_eq f.region region && is_face_of_router g f) (greeted cmp g region children earlier f r) (flat_map (greeted cmp g region children earlier f) rs)
+        one_more (region_eq f.region region && is_face_of_router g f) (greeted cmp g region t before f r) (flat_map (greeted cmp g region t before f) rs)
         ∙ ap₂ (λ ms more. ms ++ more) (told_one f r) (told_all f rs)
 
-  -- by the table of the region and its routers in order a face is told what the definition says
-  pub greeted_all : (t : Trees) (routers : List (ℕ × Zid)) (children earlier : List (Zid × Zid)) → t ≡ table_of g region → routers ≡ routers_in_order cmp t
-      → AreKeysOf child_cmp (λ (x : Zid × Zid). x) children t.children → AreKeysOf child_cmp (λ (x : Zid × Zid). x) earlier before.children
-      → (f : Face K) → greeted_by cmp g region routers children earlier f ≡ greet_to cmp g region before f
+  -- by the table of the region a face is told what the definition says
+  pub greeted_all : (t : Trees) → t ≡ table_of g region → (f : Face K) → greeted_by cmp g region t before f ≡ greet_to cmp g region before f
   unfolding greet_to
-  greeted_all t routers children earlier counted in_order now was f =
-      told_all t children earlier now was f routers
-      ∙ ap (flat_map (told t f)) in_order
+  greeted_all t counted f =
+      told_all t f (routers_in_order cmp t)
       ∙ ap (λ (table : Trees). flat_map (told table f) (routers_in_order cmp table)) counted
+
+  -- where a region has no table nobody is told anything
+  pub greets_none : table_of g region ≡ record { routers = []; links = []; children = [] } → (fs : List (Face K)) → to_each (greet_to cmp g region before) fs ≡ []
+  greets_none none fs =
+      none_each (greet_to cmp g region before)
+      (λ f. sym (greeted_all (record { routers = []; links = []; children = [] }) (sym none) f) ∙ no_more (region_eq f.region region && is_face_of_router g f)) fs

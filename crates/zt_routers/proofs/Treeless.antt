@@ -33,7 +33,7 @@ empty_of (x ∷ xs) ys same_ is = absurd (omega (arith, eqb-true (length (x ∷ 
 
 module _ {K : Type 0} where
   -- nothing for each is nothing
-  none_each : (rule : Face K → List (Message K)) → ((f : Face K) → rule f ≡ []) → (fs : List (Face K)) → to_each rule fs ≡ []
+  pub none_each : (rule : Face K → List (Message K)) → ((f : Face K) → rule f ≡ []) → (fs : List (Face K)) → to_each rule fs ≡ []
   unfolding to_each
   none_each rule none [] = refl
   none_each rule none (f ∷ fs) = ap (λ ms. map (λ m. (f.number, m)) ms ++ to_each rule fs) (none f) ∙ none_each rule none fs

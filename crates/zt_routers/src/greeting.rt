@@ -2,20 +2,18 @@
 ghost use Rattle.std.specs.Prelude.{◌≡◌, ◌++◌, IfOk, OnOk, map};
 ghost use Rattle.std.specs.List.{flat_map};
 ghost use Rattle.zt_model.specs.Parts.{to_each};
-ghost use Rattle.zt_model.specs.Trees.{greet_to, routed_expressions};
-ghost use Rattle.zt_protocol.specs.Plain.{trees_of};
-ghost use Rattle.zt_routers.specs.Greeting.{declared, greeted, greeted_by, is_new_among};
+ghost use Rattle.zt_model.specs.Trees.{counted_table, greet_to, routers_in_order};
+ghost use Rattle.zt_routers.specs.Greeting.{declared, greeted, greeted_by, is_new_child};
 
-use crate::listed::children_listed;
-use crate::ordering::{routed_expressions, routers_in_order};
+use crate::ordering::routed_expressions;
 use crate::passing::is_face_of_router;
-use crate::tables::table_of;
+use crate::tables::table_in;
 use std::alloc::Global;
-use std::collections::BTreeSet;
 use zt_keys::{Key, Memory};
-use zt_protocol::{Message, TreeTable};
+use zt_protocol::Message;
 use zt_region::{NodeId, Region, Zid};
 use zt_state::{FaceState, GatewayState};
+use zt_tables::KeptTable;
 
 // Adds that the tokens are declared to the face, under the node id.
 fn declare<K: Key>(
@@ -40,15 +38,13 @@ fn declare<K: Key>(
     Ok(())
 }
 
-// Whether a child is new among the children of its source.
-fn is_new_child(
-    child: (Zid, Zid),
-    children: &BTreeSet<(Zid, Zid)>,
-    before: &BTreeSet<(Zid, Zid)>,
-) -> bool
-    ensures { result ≡ is_new_among child children.now.keys before.now.keys }
+// Whether the router is new among the source's children, by the table that counts now and the one
+// that counted before.
+fn is_new_child(source: Zid, router: Zid, table: &KeptTable, before: &KeptTable) -> bool
+    ensures { result
+        ≡ is_new_child source router (counted_table table.now) (counted_table before.now) }
 {
-    children.contains(&child) && !before.contains(&child)
+    table.has_child(source, router) && !before.has_child(source, router)
 }
 
 // Adds what the face is told of the tokens of one router.
@@ -56,17 +52,17 @@ fn greet_from<K: Key>(
     alloc: Global,
     g: &GatewayState<K>,
     region: Region,
-    children: &BTreeSet<(Zid, Zid)>,
-    before: &BTreeSet<(Zid, Zid)>,
+    table: &KeptTable,
+    before: &KeptTable,
     router: &(NodeId, Zid),
     f: &FaceState<K>,
     sends: &mut Vec<(u32, Message<K>)>,
 ) -> Result<(), Memory>
     ensures { OnOk result (sends.new.items ≡ sends.old.items
-        ++ map (λ m. (f.now.number, m))
-        (greeted K.cmp g.now region children.now.keys before.now.keys f.now router.now)) }
+        ++ map (λ m. (f.now.number, m)) (greeted K.cmp g.now region
+        (counted_table table.now) (counted_table before.now) f.now router.now)) }
 {
-    if is_new_child((router.1, f.zid()), children, before) {
+    if is_new_child(router.1, f.zid(), table, before) {
         let exprs = routed_expressions(alloc, g, region, router.1)?;
         declare(alloc, &exprs, router.0, f, sends)?;
     }
@@ -78,39 +74,38 @@ fn greet_from_each<K: Key>(
     alloc: Global,
     g: &GatewayState<K>,
     region: Region,
-    routers: &[(NodeId, Zid)],
-    children: &BTreeSet<(Zid, Zid)>,
-    before: &BTreeSet<(Zid, Zid)>,
+    table: &KeptTable,
+    before: &KeptTable,
     f: &FaceState<K>,
     sends: &mut Vec<(u32, Message<K>)>,
 ) -> Result<(), Memory>
     ensures { OnOk result (sends.new.items ≡ sends.old.items
-        ++ map (λ m. (f.now.number, m)) (flat_map
-        (greeted K.cmp g.now region children.now.keys before.now.keys f.now) routers.now)) }
+        ++ map (λ m. (f.now.number, m)) (flat_map (greeted K.cmp g.now region
+        (counted_table table.now) (counted_table before.now) f.now)
+        (routers_in_order K.cmp (counted_table table.now)))) }
 {
-    for router in routers {
-        greet_from(alloc, g, region, children, before, router, f, sends)?;
+    for router in table.routers_in_order() {
+        greet_from(alloc, g, region, table, before, router, f, sends)?;
     }
     Ok(())
 }
 
-// Adds what the face is told, by the routers of the region in order and its children.
+// Adds what the face is told, by the table of the region and the one that counted before.
 fn greet_to<K: Key>(
     alloc: Global,
     g: &GatewayState<K>,
     region: Region,
-    routers: &[(NodeId, Zid)],
-    children: &BTreeSet<(Zid, Zid)>,
-    before: &BTreeSet<(Zid, Zid)>,
+    table: &KeptTable,
+    before: &KeptTable,
     f: &FaceState<K>,
     sends: &mut Vec<(u32, Message<K>)>,
 ) -> Result<(), Memory>
     ensures { OnOk result (sends.new.items ≡ sends.old.items
         ++ map (λ m. (f.now.number, m)) (greeted_by
-        K.cmp g.now region routers.now children.now.keys before.now.keys f.now)) }
+        K.cmp g.now region (counted_table table.now) (counted_table before.now) f.now)) }
 {
     if f.region() == region && is_face_of_router(g, f) {
-        greet_from_each(alloc, g, region, routers, children, before, f, sends)?;
+        greet_from_each(alloc, g, region, table, before, f, sends)?;
     }
     Ok(())
 }
@@ -121,20 +116,17 @@ pub fn greet<K: Key>(
     alloc: Global,
     g: &GatewayState<K>,
     region: Region,
-    before: &TreeTable,
+    before: &KeptTable,
 ) -> Result<Vec<(u32, Message<K>)>, Memory>
     ensures { IfOk result (λ sends. sends.items
-        ≡ to_each (greet_to K.cmp g.now region (trees_of before.now)) g.now.faces) }
+        ≡ to_each (greet_to K.cmp g.now region (counted_table before.now)) g.now.faces) }
 {
-    let table = table_of(alloc, g, region)?;
-    let routers = routers_in_order(alloc, &table)?;
-    let children = children_listed(alloc, &table.children)?;
-    let earlier = children_listed(alloc, &before.children)?;
     let mut sends = Vec::new(alloc);
+    let Some(table) = table_in(g, region) else {
+        return Ok(sends);
+    };
     for f in g.faces() {
-        greet_to(
-            alloc, g, region, &routers, &children, &earlier, f, &mut sends,
-        )?;
+        greet_to(alloc, g, region, table, before, f, &mut sends)?;
     }
     Ok(sends)
 }

@@ -11,7 +11,6 @@ ghost use Rattle.zt_model.specs.Trees.{hide_to, is_hidden, is_newly_shown, is_ow
 ghost use Rattle.zt_model.specs.Trees.{router_regions, show_to};
 
 use crate::passing::{pass_to, unpass_to};
-use crate::tables::{children_in, node_in};
 use std::alloc::Global;
 use std::collections::BTreeSet;
 use zt_keys::{Key, Memory};
@@ -61,19 +60,7 @@ fn show_to<K: Key>(
         ++ map (λ m. (f.now.number, m)) (show_to K.cmp g.now source expr.now f.now)) }
 {
     if is_newly_shown(g, source, expr, f.region()) {
-        let children = children_in(g, f.region());
-        let node_id = node_in(alloc, g, f.region(), g.zid())?;
-        pass_to(
-            alloc,
-            g,
-            children,
-            node_id,
-            f.region(),
-            g.zid(),
-            expr,
-            f,
-            sends,
-        )?;
+        pass_to(alloc, g, f.region(), g.zid(), expr, f, sends)?;
     }
     Ok(())
 }
@@ -204,19 +191,7 @@ fn hide_to<K: Key>(
         ++ map (λ m. (f.now.number, m)) (hide_to K.cmp g.now source expr.now f.now)) }
 {
     if is_hidden(g, source, expr, f.region()) {
-        let children = children_in(g, f.region());
-        let node_id = node_in(alloc, g, f.region(), g.zid())?;
-        unpass_to(
-            alloc,
-            g,
-            children,
-            node_id,
-            f.region(),
-            g.zid(),
-            expr,
-            f,
-            sends,
-        )?;
+        unpass_to(alloc, g, f.region(), g.zid(), expr, f, sends)?;
     }
     Ok(())
 }

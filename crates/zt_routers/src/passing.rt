@@ -1,18 +1,16 @@
 // Tokens on their way along the trees.
 ghost use Rattle.std.specs.Prelude.{◌≡◌, ◌&&◌, ◌++◌, IfOk, OnOk, map};
-ghost use Rattle.std.specs.List.{list_any};
 ghost use Rattle.std.specs.Option.{option_copied};
 ghost use Rattle.zt_model.specs.Lists.{first_where};
-ghost use Rattle.zt_model.specs.Trees.{is_face_of_router, node_of, pass_on, pass_to, table_of};
+ghost use Rattle.zt_model.specs.Trees.{is_child, is_face_of_router, pass_on, pass_to, table_of};
 ghost use Rattle.zt_model.specs.Trees.{unpass, unpass_to};
 ghost use Rattle.zt_region.specs.Region.{region_eq, zid_eq};
-ghost use Rattle.zt_routers.specs.Children.{is_child_by};
 
-use crate::tables::{children_in, node_in};
+use crate::tables::{has_child, node_in};
 use std::alloc::Global;
 use zt_keys::{Key, Memory};
 use zt_protocol::Message;
-use zt_region::{NodeId, Region, Zid};
+use zt_region::{Region, Zid};
 use zt_state::{FaceState, GatewayState};
 
 // The lowest open face of a region behind which the router stands.
@@ -38,82 +36,59 @@ pub(crate) fn is_face_of_router<K: Key>(g: &GatewayState<K>, f: &FaceState<K>) -
     }
 }
 
-// Whether the source's tokens go on to the router, by these children.
-fn lists_child(children: &[(Zid, Zid)], source: Zid, router: Zid) -> bool
-    ensures { result ≡ list_any (λ c. zid_eq source c.0 && zid_eq router c.1) children.now }
+// Whether in a region the source's tokens go on to the face.
+#[tactic(auto, unfolding(zt_model::specs::Trees::is_child))]
+fn is_child<K: Key>(g: &GatewayState<K>, region: Region, source: Zid, f: &FaceState<K>) -> bool
+    ensures { result ≡ is_child g.now (table_of g.now region) source f.now }
 {
-    children
-        .iter()
-        .any(|child| source == child.0 && router == child.1)
+    has_child(g, region, source, f.zid()) && is_face_of_router(g, f)
 }
 
-// Whether by the children of a table the source's tokens go on to the face.
-fn is_child<K: Key>(
-    g: &GatewayState<K>,
-    children: &[(Zid, Zid)],
-    source: Zid,
-    f: &FaceState<K>,
-) -> bool
-    ensures { result ≡ is_child_by g.now children.now source f.now }
-{
-    lists_child(children, source, f.zid()) && is_face_of_router(g, f)
-}
-
-// Adds what a face is told of a token of the source, by the children and
-// the node id of the region.
-#[tactic(auto, unfolding(zt_model::specs::Trees::pass_to, zt_model::specs::Trees::is_child))]
+// Adds what a face is told of a token of the source.
+#[tactic(auto, unfolding(zt_model::specs::Trees::pass_to))]
 pub(crate) fn pass_to<K: Key>(
     alloc: Global,
     g: &GatewayState<K>,
-    children: &[(Zid, Zid)],
-    node_id: NodeId,
     region: Region,
     source: Zid,
     expr: &K,
     f: &FaceState<K>,
     sends: &mut Vec<(u32, Message<K>)>,
 ) -> Result<(), Memory>
-    requires children { children.now ≡ (table_of g.now region).children }
-    requires node { node_id ≡ node_of source (table_of g.now region) }
     ensures { OnOk result (sends.new.items ≡ sends.old.items
         ++ map (λ m. (f.now.number, m)) (pass_to K.cmp g.now region source expr.now f.now)) }
 {
-    if f.region() == region && is_child(g, children, source, f) {
+    if f.region() == region && is_child(g, region, source, f) {
         let message = Message::DeclareToken {
             id: 0,
             expr: expr.copy(alloc)?,
             interest_id: None,
-            node_id,
+            node_id: node_in(g, region, source),
         };
         sends.push((f.number(), message))?;
     }
     Ok(())
 }
 
-// Adds what a face is told where a token of the source is gone, by the
-// children and the node id of the region.
-#[tactic(auto, unfolding(zt_model::specs::Trees::unpass_to, zt_model::specs::Trees::is_child))]
+// Adds what a face is told where a token of the source is gone.
+#[tactic(auto, unfolding(zt_model::specs::Trees::unpass_to))]
 pub(crate) fn unpass_to<K: Key>(
     alloc: Global,
     g: &GatewayState<K>,
-    children: &[(Zid, Zid)],
-    node_id: NodeId,
     region: Region,
     source: Zid,
     expr: &K,
     f: &FaceState<K>,
     sends: &mut Vec<(u32, Message<K>)>,
 ) -> Result<(), Memory>
-    requires children { children.now ≡ (table_of g.now region).children }
-    requires node { node_id ≡ node_of source (table_of g.now region) }
     ensures { OnOk result (sends.new.items ≡ sends.old.items
         ++ map (λ m. (f.now.number, m)) (unpass_to K.cmp g.now region source expr.now f.now)) }
 {
-    if f.region() == region && is_child(g, children, source, f) {
+    if f.region() == region && is_child(g, region, source, f) {
         let message = Message::UndeclareToken {
             id: 0,
             expr: Some(expr.copy(alloc)?),
-            node_id,
+            node_id: node_in(g, region, source),
         };
         sends.push((f.number(), message))?;
     }
@@ -130,13 +105,9 @@ pub fn pass_on<K: Key>(
 ) -> Result<Vec<(u32, Message<K>)>, Memory>
     ensures { IfOk result (λ sends. sends.items ≡ pass_on K.cmp region source expr.now g.now) }
 {
-    let children = children_in(g, region);
-    let node_id = node_in(alloc, g, region, source)?;
     let mut sends = Vec::new(alloc);
     for f in g.faces() {
-        pass_to(
-            alloc, g, children, node_id, region, source, expr, f, &mut sends,
-        )?;
+        pass_to(alloc, g, region, source, expr, f, &mut sends)?;
     }
     Ok(sends)
 }
@@ -151,13 +122,9 @@ pub fn unpass<K: Key>(
 ) -> Result<Vec<(u32, Message<K>)>, Memory>
     ensures { IfOk result (λ sends. sends.items ≡ unpass K.cmp region source expr.now g.now) }
 {
-    let children = children_in(g, region);
-    let node_id = node_in(alloc, g, region, source)?;
     let mut sends = Vec::new(alloc);
     for f in g.faces() {
-        unpass_to(
-            alloc, g, children, node_id, region, source, expr, f, &mut sends,
-        )?;
+        unpass_to(alloc, g, region, source, expr, f, &mut sends)?;
     }
     Ok(sends)
 }

@@ -1,16 +1,25 @@
 // Copies of what a gateway keeps.
 ghost use Rattle.std.specs.Prelude.{◌≡◌, IfOk};
 
-use crate::gateway::{GatewayState, KeptTable};
+use crate::gateway::GatewayState;
 use std::alloc::Global;
-use zt_face::{Duplicate, copy_all, copy_keys};
+use zt_face::copy_keys;
 use zt_keys::{Key, Memory};
-use zt_region::Admission;
+use zt_region::{Admission, Region};
+use zt_tables::KeptTable;
 
-impl Duplicate for KeptTable {
-    fn duplicate(&self, alloc: Global) -> Result<Self, Memory> {
-        self.copy(alloc)
+// The same tables. The only error is want of memory.
+fn copy_trees(
+    alloc: Global,
+    trees: &[(Region, KeptTable)],
+) -> Result<Vec<(Region, KeptTable)>, Memory>
+    ensures { IfOk result (λ copies. copies.items ≡ trees.now) }
+{
+    let mut copies = Vec::new(alloc);
+    for tree in trees {
+        copies.push((tree.0, tree.1.copy(alloc)?))?;
     }
+    Ok(copies)
 }
 
 // The same pairs that are refused. The only error is want of memory.
@@ -35,7 +44,7 @@ impl<K: Key> GatewayState<K> {
             timeout: self.timeout,
             moment: self.moment,
             made: self.made,
-            trees: copy_all(alloc, self.trees.as_slice())?,
+            trees: copy_trees(alloc, &self.trees)?,
             routed: self.routed.copy(alloc)?,
             dictionary: copy_keys(alloc, self.dictionary.as_slice())?,
             faces: self.faces.copy(alloc)?,

@@ -10,7 +10,6 @@ ghost use Rattle.zt_indexes.specs.Rows.{AreCountsOf};
 ghost use Rattle.zt_interest_index.specs.Holders.{HasAllIn};
 ghost use Rattle.zt_seekers.specs.Seekers.{token_rows};
 ghost use Rattle.zt_region.specs.Region.{is_north};
-ghost use Rattle.zt_protocol.specs.Plain.{trees_of};
 ghost use Rattle.zt_state.specs.Rising.{AreUpTo, IsRising};
 
 use crate::by_number::Faces;
@@ -19,49 +18,10 @@ use std::marker::Model;
 use zt_face::FaceState;
 use zt_indexes::LiveCounts;
 use zt_keys::{Key, Memory};
-use zt_protocol::TreeTable;
 use zt_region::{Admission, Region, WhatAmI, Zid};
 use zt_routed::RoutedTokens;
 use zt_seekers::Seekers;
-
-/// The trees of a router region as they were handed in.
-#[derive(Drop)]
-pub struct KeptTable {
-    table: TreeTable,
-}
-
-impl Model for KeptTable {
-    ghost use Rattle.zt_protocol.specs.Plain.{Trees, trees_of};
-
-    ghost Value = { Trees };
-
-    ghost view = { λ t. trees_of t.table };
-}
-
-impl KeptTable {
-    /// A table that is kept.
-    pub fn new(table: TreeTable) -> Self
-        ensures { result ≡ trees_of table }
-    {
-        KeptTable { table }
-    }
-
-    /// The table.
-    pub fn table(&self) -> &TreeTable
-        ensures { trees_of result.now ≡ self.now }
-    {
-        &self.table
-    }
-
-    /// An equal table. The only error is want of memory.
-    pub fn copy(&self, alloc: Global) -> Result<Self, Memory>
-        ensures { IfOk result (λ copy. copy ≡ self.now) }
-    {
-        Ok(KeptTable {
-            table: self.table.copy(alloc)?,
-        })
-    }
-}
+use zt_tables::KeptTable;
 
 /// A gateway: its settings, its open faces in order of number, the tokens of its router regions,
 /// the tables of these, and the numbers of expressions. A change that lacked memory may be half

@@ -15,7 +15,7 @@ mod routed;
 mod rows;
 mod walk;
 
-pub use gateway::{GatewayState, KeptTable};
+pub use gateway::GatewayState;
 pub use zt_face::{
     AskState, FaceState, LocalInterests, LocalTokens, PendingInterest, RemoteInterest, RowsById,
     is_among,

@@ -1,9 +1,9 @@
 // The tokens of router regions, and the tables of these.
 ghost use Rattle.std.specs.Prelude.{◌≡◌, ◌∷◌, [], not, filter, map, OnOk};
 ghost use Rattle.std.specs.FinMap.Entries.{put};
-ghost use Rattle.zt_protocol.specs.Plain.{trees_of};
 ghost use Rattle.zt_model.specs.Lists.{with_key};
-ghost use Rattle.zt_model.specs.Trees.{is_routed_row, region_order, routed_order, row_at};
+ghost use Rattle.zt_model.specs.Trees.{counted_table, is_routed_row, region_order};
+ghost use Rattle.zt_model.specs.Trees.{routed_order, row_at};
 ghost use Rattle.zt_model.specs.Trees.{with_own_rows, with_routed, with_table, without_left_out};
 ghost use Rattle.zt_model.specs.Trees.{without_routed};
 ghost use Rattle.zt_indexes.specs.Recounts.{Recounts};
@@ -11,16 +11,16 @@ ghost use Rattle.zt_routed.specs.Routed.{rows_of};
 ghost use Rattle.zt_state.specs.Indexed.{routed_live};
 ghost use Rattle.zt_state.specs.OwnRows.{listed_rows, without_own_in};
 
-use crate::gateway::{GatewayState, KeptTable};
+use crate::gateway::GatewayState;
 use crate::rows::put_row;
 use crate::walk::empty;
 use std::alloc::Global;
 use std::collections::BTreeSet;
 use zt_indexes::LiveCounts;
 use zt_keys::{Key, Memory};
-use zt_protocol::TreeTable;
 use zt_region::{Region, Zid};
 use zt_routed::{Origin, RoutedTokens, is_left_out};
+use zt_tables::KeptTable;
 
 // Counts a router's token, where it is another router's. The only error is want of memory.
 fn count_token<K: Key>(
@@ -115,12 +115,12 @@ fn uncount_if_left_out<K: Key>(
     live: &mut LiveCounts<K>,
     zid: Zid,
     region: Region,
-    table: &TreeTable,
+    table: &KeptTable,
     origin: Origin,
     keys: &BTreeSet<K>,
 )
     ensures { Recounts K.cmp (routed_live zid (rows_of (origin, keys.now)))
-        (routed_live zid (listed_rows K.cmp region (trees_of table.now)
+        (routed_live zid (listed_rows K.cmp region (counted_table table.now)
         (rows_of (origin, keys.now))))
         live.old live.new }
 {
@@ -135,10 +135,10 @@ fn uncount_left_out<K: Key>(
     zid: Zid,
     routed: &RoutedTokens<K>,
     region: Region,
-    table: &TreeTable,
+    table: &KeptTable,
 )
     ensures { Recounts K.cmp (routed_live zid routed.now)
-        (routed_live zid (listed_rows K.cmp region (trees_of table.now) routed.now)) live.old
+        (routed_live zid (listed_rows K.cmp region (counted_table table.now) routed.now)) live.old
         live.new }
 {
     for (origin, keys) in routed.by_origin() {
@@ -152,9 +152,9 @@ fn drop_rows_left_out<K: Key>(
     live: &mut LiveCounts<K>,
     zid: Zid,
     region: Region,
-    table: &TreeTable,
+    table: &KeptTable,
 )
-    ensures rows { routed.new ≡ listed_rows K.cmp region (trees_of table.now) routed.old }
+    ensures rows { routed.new ≡ listed_rows K.cmp region (counted_table table.now) routed.old }
     ensures counts { Recounts K.cmp (routed_live zid routed.old)
         (routed_live zid routed.new) live.old live.new }
 {
@@ -190,8 +190,8 @@ impl<K: Key> GatewayState<K> {
     }
 
     /// The rows of a region go whose source its new table doesn't list.
-    pub fn drop_left_out(&mut self, region: Region, table: &TreeTable)
-        ensures { self.new ≡ without_left_out K.cmp region (trees_of table.now) self.old }
+    pub fn drop_left_out(&mut self, region: Region, table: &KeptTable)
+        ensures { self.new ≡ without_left_out K.cmp region (counted_table table.now) self.old }
     {
         drop_rows_left_out(&mut self.routed, &mut self.live, self.zid, region, table);
     }
@@ -258,14 +258,9 @@ impl<K: Key> GatewayState<K> {
     }
 
     /// The table of a router region is kept as it was handed in. The only error is want of memory.
-    pub fn keep_table(
-        &mut self,
-        alloc: Global,
-        region: Region,
-        table: TreeTable,
-    ) -> Result<(), Memory>
-        ensures { OnOk result (self.new ≡ with_table K.cmp region (trees_of table) self.old) }
+    pub fn keep_table(&mut self, region: Region, table: KeptTable) -> Result<(), Memory>
+        ensures { OnOk result (self.new ≡ with_table K.cmp region table self.old) }
     {
-        put_table(&mut self.trees, region, KeptTable::new(table))
+        put_table(&mut self.trees, region, table)
     }
 }

@@ -10,9 +10,11 @@ use Rattle.std.specs.Map.{lookup}
 use Rattle.std.specs.Ordering.{is_eq, nat_cmp}
 use Rattle.zt_region.specs.declared.region.Zid.{Zid}
 use Rattle.zt_region.specs.Region.{zid_cmp, zid_eq}
+use Rattle.zt_protocol.specs.Plain.{Trees}
 use Rattle.zt_model.specs.Lists.{first_where}
 use Rattle.zt_model.specs.Trees.{counted_table}
 use Rattle.zt_tables.specs.KeysOf.{child_cmp, node_key_cmp}
+use Rattle.zt_tables.specs.Listed.{AreListed}
 use Rattle.zt_tables.specs.Lookups.{AreLookups, FindsBehind, FindsChildren, FindsNodes}
 use Rattle.zt_tables.proofs.Clashes.{both_are, nat_is}
 
@@ -80,3 +82,7 @@ none_found = record {
   finds_behind = record { at = λ face node. refl };
   finds_children = record { at = λ source router. refl };
 }
+
+-- a router is found by its number where a table lists it
+pub listed_by : (nodes : List (Zid × ℕ)) (t : Trees) → FindsNodes nodes t.routers → AreListed nodes t
+listed_by nodes t finds = record { finds = λ zid. ap is_some (finds.at zid) ∙ is_found (λ r. r.0) _ t.routers }

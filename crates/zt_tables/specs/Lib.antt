@@ -1,2 +1,3 @@
 pub mod KeysOf
+pub mod Listed
 pub mod Lookups

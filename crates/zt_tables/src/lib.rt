@@ -4,7 +4,9 @@
 
 mod counting;
 mod kept;
+mod listed;
 mod lookups;
 
 pub use counting::counted_table;
 pub use kept::KeptTable;
+pub use listed::{is_listed, routers_listed};

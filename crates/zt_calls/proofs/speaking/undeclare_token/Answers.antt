@@ -29,8 +29,8 @@ returns-then-is_routed g c =
     let is = sym c.find_face.ensures ∙ ap option_copied c.in-Some.is in
     let routed = sym c.is_routed.ensures ∙ c.if-is_routed.true in
     let comes = λ (parts : List (Part g.row.K.Denot)). OnOk c.undeclare_from.result (Does cmp matching parts rows c.undeclare_from.new.g c.args.speech.now c.undeclare_from.new.speech) in
-    let at_region = subst (λ (r : Region). comes (undeclaring_from cmp matching n r c.in_ok-source.source e)) c.region-region.ensures c.undeclare_from.ensures in
-    let at_source = subst (λ (source : Option Zid). comes (undeclaring_from cmp matching n f.region source e)) c.in_ok-source.ensures at_region in
+    let at_region = subst (λ (r : Region). comes (undeclaring_from cmp matching n r c.source_of-source.result e)) c.region-region.ensures c.undeclare_from.ensures in
+    let at_source = subst (λ (source : Option Zid). comes (undeclaring_from cmp matching n f.region source e)) c.source_of-source.ensures at_region in
     subst comes (sym (undeclare_at_face cmp matching n id node e rows f is ∙ undeclare_routed_at cmp matching n id node e rows f routed)) at_source
 
 pub returns : goal.returns

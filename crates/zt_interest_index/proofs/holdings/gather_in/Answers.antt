@@ -1,8 +1,8 @@
-use Rattle.std.proofs.Common.{◌≡◌, ◌&&◌, ◌==◌, ◌||◌, ap, sym, take, ◌∙◌}
+use Rattle.std.proofs.Common.{◌&&◌, ◌==◌, ◌||◌, ap, sym, take, ◌∙◌}
 use Rattle.std.proofs.lemmas.List.{take_all}
 use Rattle.std.specs.List.{list_any}
 use Rattle.std.proofs.lemmas.List.Folds.{list_any_more}
-use Rattle.zt_interest_index.specs.Holdings.{asks_from, is_about, is_among}
+use Rattle.zt_interest_index.specs.Holdings.{asks_from, is_among}
 use Rattle.zt_interest_index.proofs.InOrder.{or_rest}
 use Rattle.zt_interest_index.proofs.holdings.gather_in.Goals as goal
 

@@ -3,7 +3,8 @@ use Rattle.std.proofs.lemmas.Result.{IfOk-weaker}
 use Rattle.zt_region.specs.South.{plain_south}
 use Rattle.zt_protocol.specs.Plain.{plain_call, plain_line, trees_of}
 use Rattle.zt_model.specs.Fabric.{call_of, fabric_after, new_rows, said_by_line, sorted_by_face, with_gateway}
-use Rattle.zt_links.specs.Lines.{cause_of_line, made_at, taken_by}
+use Rattle.zt_fabric_state.specs.Changes.{taken_by}
+use Rattle.zt_links.specs.Lines.{cause_of_line, made_at}
 use Rattle.zt_links.proofs.Accepted.{face_does, face_says, gateway_does, gateway_says, moment_does, moment_says, session_does, session_says, speak_does, speak_says, step_does, step_says, trees_does, trees_says}
 use Rattle.zt_links.proofs.accepting.accept.Goals as goal
 

@@ -3,7 +3,8 @@ use Rattle.zt_protocol.specs.Plain.{plain_call}
 use Rattle.zt_model.specs.Fabric.{Fabric, call_at, sorted_by_face}
 use Rattle.zt_laws.specs.Order.{FabricIsInOrder}
 use Rattle.zt_places.specs.Found.{AreBelow}
-use Rattle.zt_links.specs.Lines.{joined, opened_by_call, opened_end, said_by_opening, undone, without_last_place}
+use Rattle.zt_fabric_state.specs.Changes.{undone, without_last_place}
+use Rattle.zt_links.specs.Lines.{joined, opened_by_call, opened_end, said_by_opening}
 use Rattle.zt_links.proofs.Linked.{opening_links}
 use Rattle.zt_links.proofs.Turned.{known_after, link_joined, opening_faces, opening_waits_does, opening_waits_says, order_waits, some_known}
 use Rattle.zt_links.proofs.linking.make_link.Goals as goal

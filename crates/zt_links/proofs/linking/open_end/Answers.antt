@@ -6,9 +6,10 @@ use Rattle.zt_model.specs.Fabric.{Fabric, call_at, said_at, with_place, with_row
 use Rattle.zt_model.specs.Lists.{nth}
 use Rattle.zt_laws.specs.Sound.{rows_after_call}
 use Rattle.zt_places.specs.Found.{AreBelow}
-use Rattle.zt_links.specs.Lines.{without_last_place}
-use Rattle.zt_links.proofs.Carried.{placed_next, said_opened}
-use Rattle.zt_links.proofs.Members.{member_there}
+use Rattle.zt_fabric_state.specs.Changes.{without_last_place}
+use Rattle.zt_fabric_state.proofs.Carried.{placed_next}
+use Rattle.zt_links.proofs.Carried.{said_opened}
+use Rattle.zt_fabric_state.proofs.Members.{member_there}
 use Rattle.zt_links.proofs.Turned.{end_turned}
 use Rattle.zt_links.proofs.linking.open_end.Goals as goal
 

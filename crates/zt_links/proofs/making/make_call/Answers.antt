@@ -1,9 +1,9 @@
 use Rattle.std.proofs.Common.{◌≡◌, Some, ap, refl, subst, ◌∙◌}
 use Rattle.zt_model.specs.Fabric.{sorted_by_face}
 use Rattle.zt_model.specs.Lists.{nth}
-use Rattle.zt_links.specs.Lines.{carried, said_sorted}
+use Rattle.zt_fabric_state.specs.Changes.{carried, said_sorted}
 use Rattle.zt_links.proofs.Carried.{made_called, made_nowhere, nothing_carried, ok_both}
-use Rattle.zt_links.proofs.Members.{some_member}
+use Rattle.zt_fabric_state.proofs.Members.{some_member}
 use Rattle.zt_links.proofs.making.make_call.Goals as goal
 
 pub returns-in_default-clause-says : goal.returns-in_default-clause-says

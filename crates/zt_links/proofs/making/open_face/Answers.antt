@@ -2,9 +2,9 @@ use Rattle.std.proofs.Common.{◌≡◌, None, Some, ap, refl, subst, ◌∙◌}
 use Rattle.std.proofs.lemmas.Result.{IfOk-weaker}
 use Rattle.zt_model.specs.Fabric.{sorted_by_face, with_place}
 use Rattle.zt_model.specs.Lists.{nth}
-use Rattle.zt_links.specs.Lines.{carried, said_sorted}
+use Rattle.zt_fabric_state.specs.Changes.{carried, said_sorted}
 use Rattle.zt_links.proofs.Carried.{made_nowhere, nothing_carried, ok_both, opened_made, opening_says}
-use Rattle.zt_links.proofs.Members.{some_member}
+use Rattle.zt_fabric_state.proofs.Members.{some_member}
 use Rattle.zt_links.proofs.making.open_face.Goals as goal
 
 pub returns-in_default-clause-says : goal.returns-in_default-clause-says

@@ -3,7 +3,7 @@ use Rattle.zt_protocol.specs.Plain.{CloseFace}
 use Rattle.zt_model.specs.Fabric.{with_rows}
 use Rattle.zt_model.specs.Lists.{nth}
 use Rattle.zt_laws.specs.Sound.{rows_after_call}
-use Rattle.zt_links.proofs.Carried.{on_ok}
+use Rattle.zt_fabric_state.proofs.Carried.{on_ok}
 use Rattle.zt_links.proofs.Closings.{closed_nowhere, face_closed}
 use Rattle.zt_links.proofs.unlinking.close_face.Goals as goal
 

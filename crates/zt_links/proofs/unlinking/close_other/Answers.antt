@@ -1,6 +1,7 @@
 use Rattle.std.proofs.Common.{◌≡◌, ◌++◌, ap, ◌∙◌}
 use Rattle.zt_model.specs.Fabric.{Fabric, sorted_by_face}
-use Rattle.zt_links.specs.Lines.{for_others, parted, undone}
+use Rattle.zt_fabric_state.specs.Changes.{undone}
+use Rattle.zt_links.specs.Lines.{for_others, parted}
 use Rattle.zt_links.proofs.Closings.{closing_links}
 use Rattle.zt_links.proofs.unlinking.close_other.Goals as goal
 

@@ -1,7 +1,7 @@
 use Rattle.std.proofs.Common.{List, ap, sym, ◌∙◌}
 use Rattle.std.proofs.lemmas.Result.{IfOk-weaker}
 use Rattle.std.specs.BTreeSet.{BTreeSet}
-use Rattle.zt_protocol.specs.Plain.{trees_of}
+use Rattle.zt_model.specs.Trees.{counted_table}
 use Rattle.zt_routed.specs.Routed.{rows_in}
 use Rattle.zt_routed.specs.declared.origin.Origin.{Origin}
 use Rattle.zt_routers.specs.LeftOut.{exprs_left_out}
@@ -14,12 +14,12 @@ pub loop-origin-preserved : goal.loop-origin-preserved
 loop-origin-preserved g c =
     let x : Origin × BTreeSet g.row.K.Denot = (c.in-Some.origin.now, c.in-Some.keys.now) in
     rw c.in_ok-add_left_out.ensures
-    (left_out-last g.K.Ord.cmp c.args.region (trees_of c.args.table.now) c.loop-origin.origin-iterator.iter c.next.new.self.iter x c.loop-origin.exprs c.in-Some.ensures.steps ∙ c.loop-origin.invariant)
+    (left_out-last g.K.Ord.cmp c.args.region (counted_table c.args.table.now) c.loop-origin.origin-iterator.iter c.next.new.self.iter x c.loop-origin.exprs c.in-Some.ensures.steps ∙ c.loop-origin.invariant)
 
 pub returns : goal.returns
 returns g c =
     let cmp = g.K.Ord.cmp in
-    let t = trees_of c.args.table.now in
+    let t = counted_table c.args.table.now in
     IfOk-weaker c.into_vec.result _ _
     (λ keys is.
     is

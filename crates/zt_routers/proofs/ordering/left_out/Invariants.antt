@@ -1,5 +1,5 @@
 use Rattle.std.proofs.Common.{◌≡◌, []}
-use Rattle.zt_protocol.specs.Plain.{trees_of}
+use Rattle.zt_model.specs.Trees.{counted_table}
 use Rattle.zt_routed.specs.Routed.{rows_in}
 use Rattle.zt_routers.specs.LeftOut.{exprs_left_out}
 use Rattle.zt_tokens.specs.Gathered.{with_keys}
@@ -9,5 +9,5 @@ use Rattle.zt_routers.proofs.ordering.left_out.Given as goal
 abbrev pub invariant-loop-origin : goal.invariant-loop-origin
 invariant-loop-origin g l =
     let cmp = g.K.Ord.cmp in
-    let t = trees_of l.table in
+    let t = counted_table l.table in
     with_keys cmp (exprs_left_out cmp l.region t (rows_in l.origin-iterator.iter)) l.exprs ≡ with_keys cmp (exprs_left_out cmp l.region t l.g.routed) []

@@ -1,6 +1,6 @@
 use Rattle.std.proofs.Common.{List, ap, ◌∙◌}
 use Rattle.std.specs.BTreeSet.{BTreeSet}
-use Rattle.zt_protocol.specs.Plain.{trees_of}
+use Rattle.zt_model.specs.Trees.{counted_table}
 use Rattle.zt_routed.specs.Routed.{rows_in, rows_of}
 use Rattle.zt_routed.specs.declared.origin.Origin.{Origin}
 use Rattle.zt_state.specs.Indexed.{routed_live}
@@ -13,7 +13,7 @@ loop-origin-preserved g c =
     let cmp = g.K.Ord.cmp in
     let zid = c.args.zid in
     let region = c.args.region in
-    let t = trees_of c.args.table.now in
+    let t = counted_table c.args.table.now in
     let x : Origin × BTreeSet g.row.K.Denot = (c.in-Some.origin.now, c.in-Some.keys.now) in
     let next = c.next.new.self in
     leads-on cmp _ _ _ _ (routed_live zid (rows_of x)) (routed_live zid (listed_rows cmp region t (rows_of x))) _ _ _ _ _

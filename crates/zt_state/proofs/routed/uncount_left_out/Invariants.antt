@@ -1,4 +1,4 @@
-use Rattle.zt_protocol.specs.Plain.{trees_of}
+use Rattle.zt_model.specs.Trees.{counted_table}
 use Rattle.zt_routed.specs.Routed.{rows_in}
 use Rattle.zt_state.specs.Indexed.{routed_live}
 use Rattle.zt_state.specs.OwnRows.{listed_rows}
@@ -9,6 +9,6 @@ use Rattle.zt_state.proofs.routed.uncount_left_out.Given as goal
 abbrev pub invariant-loop-origin : goal.invariant-loop-origin
 invariant-loop-origin g l =
     let cmp = g.K.Ord.cmp in
-    let t = trees_of l.table in
+    let t = counted_table l.table in
     Leads cmp (routed_live l.zid l.routed) (routed_live l.zid (listed_rows cmp l.region t l.routed))
     (routed_live l.zid (rows_in l.origin-iterator)) (routed_live l.zid (listed_rows cmp l.region t (rows_in l.origin-iterator))) l.fn.live l.live

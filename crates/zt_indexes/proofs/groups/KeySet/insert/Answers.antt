@@ -1,6 +1,4 @@
-use Rattle.std.proofs.lemmas.Result.{on_err_weaker, on_ok_weaker}
-use Rattle.std.proofs.Common.{◌++◌, ap}
-use Rattle.zt_indexes.specs.Grouped.{as_list}
+use Rattle.std.proofs.lemmas.Result.{on_ok_weaker}
 use Rattle.zt_indexes.proofs.Sets.{put-more}
 use Rattle.zt_indexes.proofs.groups.KeySet.insert.Goals as goal
 

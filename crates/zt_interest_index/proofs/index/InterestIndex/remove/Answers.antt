@@ -1,12 +1,16 @@
 use Rattle.std.proofs.Common.{filter, not}
 use Rattle.zt_interest_index.specs.Holdings.{is_of}
-use Rattle.zt_interest_index.proofs.Changed.{changes-released}
+use Rattle.zt_interest_index.proofs.Places.{changes-any, changes-number}
 use Rattle.zt_interest_index.proofs.index.InterestIndex.remove.Goals as goal
 
-pub returns-then-drop_from : goal.returns-then-drop_from
-returns-then-drop_from g c =
-    rw (← c.self.view_is, ← c.bucket_of-bucket.ensures)
-    (changes-released c.bucket_of-bucket.result (filter (λ row. not (is_of c.args.face c.args.id row))) c.self.inside.buckets.entries c.drop_from.new.buckets.entries c.drop_bucket.new.buckets.entries c.drop_from.ensures.drops (c.drop_from.ensures.last c.if-drop_from.true) c.drop_bucket.ensures)
+pub returns-in-Any : goal.returns-in-Any
+returns-in-Any g c =
+    let less = filter (λ row. not (is_of c.args.face c.args.id row)) in
+    rw (← c.self.view_is, ← c.in-Any.ensures)
+    (changes-any less c.self.inside.any c.remove.new.self c.self.inside.numbered.entries c.remove.ensures)
 
-pub returns-else-drop_from : goal.returns-else-drop_from
-returns-else-drop_from g c = rw (← c.self.view_is, ← c.bucket_of-bucket.ensures) c.drop_from.ensures.drops
+pub returns-in-At : goal.returns-in-At
+returns-in-At g c =
+    let less = filter (λ row. not (is_of c.args.face c.args.id row)) in
+    rw (← c.self.view_is, ← c.in-At.ensures)
+    (changes-number (c.in-At.anchor, c.in-At.number) less c.self.inside.any c.self.inside.numbered.entries c.remove_from.new.buckets.entries c.remove_from.ensures)

@@ -1,0 +1,93 @@
+// Calls that are carried out at a gateway for a line that makes two, and undone where the line
+// fails.
+ghost use Rattle.std.specs.Prelude.{◌≡◌, length, IfOk, OnErr, OnOk};
+ghost use Rattle.zt_model.specs.Fabric.{call_at, said_at, with_rows};
+ghost use Rattle.zt_protocol.specs.Plain.{plain_call};
+ghost use Rattle.zt_laws.specs.Sound.{rows_after_call};
+ghost use Rattle.zt_places.specs.Found.{AreBelow};
+ghost use Rattle.zt_fabric_state.specs.Changes.{undone, without_last_place};
+
+use crate::carrying::prepare;
+use crate::places::place_of_number;
+use crate::state::FabricState;
+use std::alloc::Global;
+use zt_keys::{Key, Memory};
+use zt_protocol::{Call, Sent};
+use zt_twins::BoxedState;
+
+/// A gateway where a call was carried out, what it kept before, and what the call says. Where there
+/// is no such gateway nothing was kept, and nothing is said.
+#[derive(Drop)]
+pub struct Turned<K: Key> {
+    /// The number of the gateway.
+    pub gateway: u32,
+    /// What it kept before, by which the call is undone.
+    pub former: Option<BoxedState<K>>,
+    /// What the call says, as it is printed.
+    pub printed: Vec<Sent<K>>,
+}
+
+/// Carries out a call at its gateway, where it exists, for a line that may fail yet: the answer has
+/// what undoes it. After want of memory nothing is changed.
+pub fn hear_call<K: Key>(
+    alloc: Global,
+    s: &mut FabricState<K>,
+    gateway: u32,
+    call: &Call<K>,
+) -> Result<Turned<K>, Memory>
+    ensures says { IfOk result (λ turned. turned.printed.items
+        ≡ said_at K.cmp K.matching s.old (call_at s.old gateway (plain_call call.now))) }
+    ensures does { OnOk result
+        (s.new ≡ with_rows gateway (rows_after_call K.cmp K.matching (plain_call call.now)) s.old) }
+    ensures back { IfOk result (λ turned. undone turned.former turned.gateway s.new ≡ s.old) }
+    ensures err { OnErr result (s.new ≡ s.old) }
+{
+    match place_of_number(s.gateways(), gateway) {
+        None => Ok(Turned {
+            gateway,
+            former: None,
+            printed: Vec::new(alloc),
+        }),
+        Some(at) => {
+            let prepared = prepare(alloc, s, at, gateway, call)?;
+            let former = s.put_rows(at, prepared.rows);
+            Ok(Turned {
+                gateway,
+                former: Some(former),
+                printed: prepared.printed,
+            })
+        }
+    }
+}
+
+/// A gateway keeps again what it kept before a call; where nothing was kept, nothing is changed.
+pub fn undo<K: Key>(s: &mut FabricState<K>, gateway: u32, former: Option<BoxedState<K>>)
+    ensures { s.new ≡ undone former gateway s.old }
+{
+    match former {
+        None => {}
+        Some(rows) => put_back(s, gateway, rows),
+    }
+}
+
+fn put_back<K: Key>(s: &mut FabricState<K>, gateway: u32, rows: BoxedState<K>)
+    ensures { s.new ≡ with_rows gateway (λ _. rows) s.old }
+{
+    match place_of_number(s.gateways(), gateway) {
+        None => {}
+        Some(at) => {
+            let former = s.put_rows(at, rows);
+            drop(former);
+        }
+    }
+}
+
+/// A face that was opened for a link, which isn't made yet, is taken away again, and its gateway
+/// keeps what it kept before.
+pub fn undo_opening<K: Key>(s: &mut FabricState<K>, gateway: u32, former: Option<BoxedState<K>>)
+    requires { AreBelow (length s.old.faces) s.old.links }
+    ensures { s.new ≡ without_last_place (undone former gateway s.old) }
+{
+    undo(s, gateway, former);
+    s.pop_place();
+}

@@ -1,5 +1,0 @@
-use Rattle.std.proofs.Common.{◌∙◌}
-use Rattle.zt_links.proofs.state.FabricState.take_waiting.Goals as goal
-
-pub invariant_of-self : goal.invariant_of-self
-invariant_of-self g c = record { beside = c.drop_first.ensures.places ∙ c.self.invariant.beside; placed = c.self.invariant.placed }
