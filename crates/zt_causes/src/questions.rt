@@ -1,5 +1,5 @@
 // Tests of single causes, at a face that is open.
-ghost use Rattle.std.specs.Prelude.{◌≡◌, IfOk};
+ghost use Rattle.std.specs.Prelude.{◌≡◌};
 ghost use Rattle.zt_model.specs.Refusals.{adds_row, answers_nothing, asks_from_north};
 ghost use Rattle.zt_model.specs.Refusals.{is_illegal_current, is_interest_id_in_use};
 ghost use Rattle.zt_model.specs.Refusals.{is_token_id_in_use, is_unknown_ask, is_unknown_router};
@@ -8,8 +8,7 @@ ghost use Rattle.zt_model.specs.Telling.{registers};
 ghost use Rattle.zt_region.specs.Region.{is_north};
 
 use bitflags::Flags;
-use std::alloc::Global;
-use zt_keys::{Key, Memory};
+use zt_keys::Key;
 use zt_protocol::{InterestId, InterestMode, InterestOptions, TokenId};
 use zt_region::{NodeId, Region, WhatAmI};
 use zt_routers::source_of;

@@ -1,11 +1,10 @@
 // Why a face's undeclaration, the end of an interest, a final or a closing is refused.
-ghost use Rattle.std.specs.Prelude.{◌≡◌, IfOk};
+ghost use Rattle.std.specs.Prelude.{◌≡◌};
 ghost use Rattle.zt_model.specs.Journal.{cause_of};
 ghost use Rattle.zt_protocol.specs.Plain.{CloseFace, DeclareFinal, InterestFinal, UndeclareToken};
 
 use crate::questions::{is_north, is_unknown_router, is_unknown_token, names_nothing};
-use std::alloc::Global;
-use zt_keys::{Key, Memory};
+use zt_keys::Key;
 use zt_protocol::{InterestId, Refusal, TokenId};
 use zt_region::NodeId;
 use zt_state::GatewayState;

@@ -4,7 +4,7 @@ use Rattle.zt_model.specs.Places.{Link, Place}
 use Rattle.zt_places.specs.Found.{AreBelow}
 use Rattle.zt_queues.specs.Waiting.{Queued}
 
--- each place has its queue, or none, and links join places
+-- there are as many queues as places, and links join places
 pub record StandTogether {K : Type 0} (queues : Queued K) (places : List Place) (links : List Link) : Type 0 where
   pub beside : length queues ≡ length places
   pub placed : AreBelow (length places + 1) links

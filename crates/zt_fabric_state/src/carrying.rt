@@ -3,7 +3,6 @@ ghost use Rattle.std.specs.Prelude.{◌≡◌, ◌+◌, ◌<◌, Some, length, N
 ghost use Rattle.zt_model.specs.Fabric.{call_at, said_at, with_place};
 ghost use Rattle.zt_model.specs.Lists.{nth};
 ghost use Rattle.zt_model.specs.Places.{Node};
-ghost use Rattle.zt_model.specs.Says.{said};
 ghost use Rattle.zt_protocol.specs.Plain.{plain_call};
 ghost use Rattle.zt_laws.specs.Sound.{rows_after_call};
 ghost use Rattle.zt_fabric_state.specs.Changes.{carried, said_sorted, taken_by};
@@ -13,17 +12,15 @@ use crate::sorting::sort_by_face;
 use crate::state::FabricState;
 use std::alloc::Global;
 use zt_keys::{Key, Memory};
-use zt_protocol::{Call, Message, Sent};
+use zt_protocol::{Call, Sent};
+use zt_restorable::BoxedState;
 use zt_state::GatewayState;
-use zt_twins::BoxedState;
 
-/// A gateway after a call, and what the call says, as the gateway's faces hear it and as it is
-/// printed.
+/// A gateway after a call, and what the call says, as it is printed.
 #[derive(Drop)]
-pub(crate) struct Prepared<K: Key> {
-    pub(crate) rows: BoxedState<K>,
-    pub(crate) said: Vec<(u32, Message<K>)>,
-    pub(crate) printed: Vec<Sent<K>>,
+struct Prepared<K: Key> {
+    rows: BoxedState<K>,
+    printed: Vec<Sent<K>>,
 }
 
 /// The oldest message of a face's link is taken, where one is named.
@@ -35,8 +32,8 @@ pub fn take_message<K: Key>(s: &mut FabricState<K>, taken: Option<u32>)
     }
 }
 
-/// Carries out a call beside the gateway of a number, and nothing is changed.
-pub(crate) fn prepare<K: Key>(
+/// Carries out a call at the gateway of a number, which is as before until the call is committed.
+fn prepare<K: Key>(
     alloc: Global,
     s: &mut FabricState<K>,
     at: usize,
@@ -47,8 +44,6 @@ pub(crate) fn prepare<K: Key>(
     requires counted { gateway ≡ at + 1 }
     ensures rows { IfOk result (λ prepared. (node : Node K) → nth gateway s.old.gateways ≡ Some node
         → prepared.rows ≡ rows_after_call K.cmp K.matching (plain_call call.now) node.rows) }
-    ensures said { IfOk result (λ prepared. (node : Node K) → nth gateway s.old.gateways ≡ Some node
-        → prepared.said.items ≡ said K.cmp K.matching (plain_call call.now) node.rows) }
     ensures printed { IfOk result (λ prepared. prepared.printed.items
         ≡ said_at K.cmp K.matching s.old (call_at s.old gateway (plain_call call.now))) }
     ensures same { s.new ≡ s.old }
@@ -57,7 +52,6 @@ pub(crate) fn prepare<K: Key>(
     let printed = print_all(alloc, s.places(), gateway, ahead.said.as_slice())?;
     Ok(Prepared {
         rows: ahead.state,
-        said: ahead.said,
         printed,
     })
 }
@@ -83,7 +77,7 @@ pub fn carry_at<K: Key>(
     let prepared = prepare(alloc, s, at, gateway, call)?;
     let sent = sort_by_face(prepared.printed)?;
     s.turn_waiting(alloc, taken, sent.as_slice())?;
-    s.commit_at(alloc, at, prepared.rows, call, &prepared.said);
+    s.commit_at(alloc, at, prepared.rows, call);
     Ok(sent)
 }
 
@@ -112,7 +106,7 @@ pub fn open_at<K: Key>(
         ≡ carried K.cmp K.matching None gateway (plain_call call.now) (with_place gateway s.old)) }
     ensures err { OnErr result (s.new ≡ s.old) }
 {
-    let face = next_face(s.gateways()[at].rows())?;
+    let face = next_face(s.gateways()[at].rows()?)?;
     s.push_place(alloc, gateway, face)?;
     match carry_at(alloc, s, None, at, gateway, call) {
         Ok(sent) => Ok(sent),

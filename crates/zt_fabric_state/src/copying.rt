@@ -3,7 +3,7 @@ ghost use Rattle.std.specs.Prelude.{◌≡◌, IfOk, map, option_map, string_byt
 ghost use Rattle.zt_region.specs.South.{plain_filter, plain_south, plain_subregion};
 
 use std::alloc::Global;
-use zt_keys::{Key, Memory};
+use zt_keys::Memory;
 use zt_region::{Filter, SouthConf, Subregion};
 
 /// An equal text. The only error is want of memory.

@@ -9,8 +9,8 @@ use crate::state::{FabricState, NodeState};
 use std::alloc::Global;
 use zt_keys::{Key, Memory};
 use zt_region::{Admission, Region, SouthConf, TransportPeer, WhatAmI, Zid};
+use zt_restorable::RestorableState;
 use zt_state::GatewayState;
-use zt_twins::TwinState;
 
 /// A gateway is made, behind the others. After want of memory nothing is changed.
 pub fn add_gateway<K: Key>(
@@ -35,8 +35,9 @@ pub fn add_gateway<K: Key>(
         refused: Vec::from_slice(alloc, refuse.refused.as_slice())?,
     };
     let listed = Vec::from_slice(alloc, regions)?;
+    let state = GatewayState::new(alloc, mode, zid, listed, timeout, admission);
     s.push_gateway(NodeState {
-        twin: TwinState::new(GatewayState::new(alloc, mode, zid, listed, timeout, admission)),
+        kept: RestorableState::new(alloc, state),
         south: copy_south(alloc, south)?,
         name: copy_name(alloc, name)?,
     })
@@ -46,9 +47,10 @@ pub fn add_gateway<K: Key>(
 pub fn peer_of<K: Key>(alloc: Global, node: &NodeState<K>) -> Result<TransportPeer, Memory>
     ensures { IfOk result (λ peer. plain_peer peer ≡ peer_of node.now) }
 {
+    let rows = node.rows()?;
     Ok(TransportPeer {
-        zid: node.rows().zid(),
-        whatami: node.rows().mode(),
+        zid: rows.zid(),
+        whatami: rows.mode(),
         links: Vec::new(alloc),
         region_name: copy_name(alloc, &node.name)?,
     })

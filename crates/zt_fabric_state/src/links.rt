@@ -16,7 +16,7 @@ pub fn sending_end(link: &LinkState, back: bool) -> u32
     if back { link.two() } else { link.one() }
 }
 
-/// The face at the other end, which speaks them.
+/// The face at the other end of a direction of a link, which speaks the messages that it takes.
 pub fn speaking_end(link: &LinkState, back: bool) -> u32
     ensures { result ≡ speaking_end link.now back }
 {

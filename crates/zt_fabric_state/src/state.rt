@@ -25,13 +25,13 @@ use zt_places::{LinkState, Links, PlaceState, Places};
 use zt_protocol::{Call, Message, Sent};
 use zt_queues::Queues;
 use zt_region::SouthConf;
+use zt_restorable::{Ahead, BoxedState, RestorableState};
 use zt_state::GatewayState;
-use zt_twins::{Ahead, BoxedState, TwinState};
 
 /// A gateway with what its links are made by: its configuration of the south, and its name.
 #[derive(Drop)]
 pub struct NodeState<K: Key> {
-    pub(crate) twin: TwinState<K>,
+    pub(crate) kept: RestorableState<K>,
     pub(crate) south: SouthConf,
     pub(crate) name: Option<String>,
 }
@@ -44,18 +44,19 @@ impl<K: Key> Model for NodeState<K> {
     ghost Value = { Node K };
 
     ghost view = { λ n. record {
-      rows = n.twin;
+      rows = n.kept;
       south = plain_south n.south;
       name = option_map string_bytes n.name;
     } };
 }
 
 impl<K: Key> NodeState<K> {
-    /// What the gateway keeps.
-    pub fn rows(&self) -> &GatewayState<K>
-        ensures { result.now ≡ self.now.rows }
+    /// What the gateway keeps. The only error is want of memory: after a call that lacked it, until
+    /// `FabricState::restore` brought it back.
+    pub fn rows(&self) -> Result<&GatewayState<K>, Memory>
+        ensures { IfOk result (λ rows. rows.now ≡ self.now.rows) }
     {
-        self.twin.state()
+        self.kept.state().ok_or(Memory)
     }
 
     /// The configuration of the south.
@@ -75,6 +76,9 @@ pub struct FabricState<K: Key> {
     links: Links,
     // What waits at each place.
     queues: Queues<K>,
+    // How many calls were begun at gateways, and not done, since all of these were last restored:
+    // one for each gateway, at least, that has lost what it keeps.
+    unfinished: usize,
 }
 
 impl<K: Key> Model for FabricState<K> {
@@ -104,6 +108,7 @@ impl<K: Key> FabricState<K> {
             places: Places::new(alloc),
             links: Links::new(alloc),
             queues: Queues::new(alloc),
+            unfinished: 0,
         }
     }
 
@@ -157,7 +162,19 @@ impl<K: Key> FabricState<K> {
         self.queues.first(face)
     }
 
-    /// Carries a call out beside a gateway, which is unchanged.
+    /// What calls that lacked memory lost is brought back, so that `NodeState::rows` answers again.
+    /// Gateways are gone over only where a call wasn't done. The only error is want of memory.
+    pub fn restore(&mut self, alloc: Global) -> Result<(), Memory>
+        ensures { self.new ≡ self.old }
+    {
+        if self.unfinished > 0 {
+            restore_all(alloc, &mut self.gateways)?;
+            self.unfinished = 0;
+        }
+        Ok(())
+    }
+
+    /// Carries a call out at a gateway, which is as before it until the call is committed.
     pub(crate) fn prepare_at(
         &mut self,
         alloc: Global,
@@ -173,36 +190,58 @@ impl<K: Key> FabricState<K> {
             → ahead.said.items ≡ said K.cmp K.matching (plain_call call.now) node.rows) }
         ensures same { self.new ≡ self.old }
     {
+        self.unfinished = self.unfinished.saturating_add(1);
         prepare_in(alloc, &mut self.gateways, at, call)
     }
 
-    /// A gateway keeps the rows that a call leaves which was carried out beside it.
+    /// A gateway keeps the rows that a call leaves which was prepared there.
     pub(crate) fn commit_at(
         &mut self,
         alloc: Global,
         at: usize,
         rows: BoxedState<K>,
         call: &Call<K>,
-        sends: &[(u32, Message<K>)],
     )
         requires within { at < length self.old.gateways }
         requires after { (node : Node K) → nth (at + 1) self.old.gateways ≡ Some node
             → rows ≡ rows_after_call K.cmp K.matching (plain_call call.now) node.rows }
-        requires said { (node : Node K) → nth (at + 1) self.old.gateways ≡ Some node
-            → sends.now ≡ said K.cmp K.matching (plain_call call.now) node.rows }
         ensures { self.new ≡ with_rows (at + 1) (λ _. rows) self.old }
     {
-        commit_in(alloc, &mut self.gateways, at, rows, call, sends);
+        commit_in(alloc, &mut self.gateways, at, rows, call);
+        self.unfinished = self.unfinished.saturating_sub(1);
     }
 
-    /// A gateway's rows are replaced; answers the former ones.
-    pub(crate) fn put_rows(&mut self, at: usize, rows: BoxedState<K>) -> BoxedState<K>
+    /// Carries a call out at a gateway for a line that may fail yet, and answers the former rows
+    /// and what the call says. After want of memory nothing is changed.
+    pub(crate) fn turn_at(
+        &mut self,
+        alloc: Global,
+        at: usize,
+        call: &Call<K>,
+    ) -> Result<(BoxedState<K>, Vec<(u32, Message<K>)>), Memory>
         requires { at < length self.old.gateways }
-        ensures put { self.new ≡ with_rows (at + 1) (λ _. rows) self.old }
-        ensures former { (node : Node K) → nth (at + 1) self.old.gateways ≡ Some node
-            → result ≡ node.rows }
+        ensures state { OnOk result (self.new ≡ with_rows (at + 1)
+            (rows_after_call K.cmp K.matching (plain_call call.now)) self.old) }
+        ensures former { IfOk result
+            (λ turn. (node : Node K) → nth (at + 1) self.old.gateways ≡ Some node
+            → turn.0 ≡ node.rows) }
+        ensures said { IfOk result
+            (λ turn. (node : Node K) → nth (at + 1) self.old.gateways ≡ Some node
+            → turn.1.items ≡ said K.cmp K.matching (plain_call call.now) node.rows) }
+        ensures err { OnErr result (self.new ≡ self.old) }
     {
-        put_rows_at(&mut self.gateways, at, rows)
+        self.unfinished = self.unfinished.saturating_add(1);
+        let turn = turn_in(alloc, &mut self.gateways, at, call)?;
+        self.unfinished = self.unfinished.saturating_sub(1);
+        Ok(turn)
+    }
+
+    /// A gateway's rows are replaced.
+    pub(crate) fn put_rows(&mut self, at: usize, rows: BoxedState<K>)
+        requires { at < length self.old.gateways }
+        ensures { self.new ≡ with_rows (at + 1) (λ _. rows) self.old }
+    {
+        put_rows_at(&mut self.gateways, at, rows);
     }
 
     /// A gateway is put behind the others. After want of memory nothing is changed.
@@ -367,6 +406,16 @@ fn pop_both<K: Key>(places: &mut Places, queues: &mut Queues<K>)
     queues.pop();
 }
 
+/// What each gateway keeps is there. The only error is want of memory.
+fn restore_all<K: Key>(alloc: Global, gateways: &mut Vec<NodeState<K>>) -> Result<(), Memory>
+    ensures { gateways.new.items ≡ gateways.old.items }
+{
+    for node in gateways.iter_mut() {
+        node.kept.restore(alloc)?;
+    }
+    Ok(())
+}
+
 fn prepare_in<K: Key>(
     alloc: Global,
     gateways: &mut Vec<NodeState<K>>,
@@ -383,7 +432,7 @@ fn prepare_in<K: Key>(
     ensures same { gateways.new.items ≡ gateways.old.items }
 {
     let node = &mut gateways[at];
-    node.twin.prepare(alloc, call)
+    node.kept.prepare(alloc, call)
 }
 
 fn commit_in<K: Key>(
@@ -392,31 +441,46 @@ fn commit_in<K: Key>(
     at: usize,
     rows: BoxedState<K>,
     call: &Call<K>,
-    sends: &[(u32, Message<K>)],
 )
     requires within { at < vec_len gateways.old }
     requires after { (node : Node K) → nth (at + 1) gateways.old.items ≡ Some node
         → rows ≡ rows_after_call K.cmp K.matching (plain_call call.now) node.rows }
-    requires said { (node : Node K) → nth (at + 1) gateways.old.items ≡ Some node
-        → sends.now ≡ said K.cmp K.matching (plain_call call.now) node.rows }
     ensures { gateways.new.items
         ≡ at_nth (at + 1) (λ node. record node { rows = rows }) gateways.old.items }
 {
     let node = &mut gateways[at];
-    node.twin.commit(alloc, rows, call, sends);
+    node.kept.commit(alloc, rows, call);
 }
 
-fn put_rows_at<K: Key>(
+fn turn_in<K: Key>(
+    alloc: Global,
     gateways: &mut Vec<NodeState<K>>,
     at: usize,
-    rows: BoxedState<K>,
-) -> BoxedState<K>
+    call: &Call<K>,
+) -> Result<(BoxedState<K>, Vec<(u32, Message<K>)>), Memory>
     requires { at < vec_len gateways.old }
-    ensures put { gateways.new.items
-        ≡ at_nth (at + 1) (λ node. record node { rows = rows }) gateways.old.items }
-    ensures former { (node : Node K) → nth (at + 1) gateways.old.items ≡ Some node
-        → result ≡ node.rows }
+    ensures state { OnOk result (gateways.new.items
+        ≡ at_nth (at + 1) (λ node. record node {
+          rows = rows_after_call K.cmp K.matching (plain_call call.now) node.rows;
+        }) gateways.old.items) }
+    ensures former { IfOk result
+        (λ turn. (node : Node K) → nth (at + 1) gateways.old.items ≡ Some node
+        → turn.0 ≡ node.rows) }
+    ensures said { IfOk result
+        (λ turn. (node : Node K) → nth (at + 1) gateways.old.items ≡ Some node
+        → turn.1.items ≡ said K.cmp K.matching (plain_call call.now) node.rows) }
+    ensures err { OnErr result (gateways.new.items ≡ gateways.old.items) }
 {
     let node = &mut gateways[at];
-    node.twin.put(rows)
+    let turn = node.kept.turn(alloc, call)?;
+    Ok((turn.former, turn.said))
+}
+
+fn put_rows_at<K: Key>(gateways: &mut Vec<NodeState<K>>, at: usize, rows: BoxedState<K>)
+    requires { at < vec_len gateways.old }
+    ensures { gateways.new.items
+        ≡ at_nth (at + 1) (λ node. record node { rows = rows }) gateways.old.items }
+{
+    let node = &mut gateways[at];
+    node.kept.put(rows);
 }

@@ -7,13 +7,13 @@ ghost use Rattle.zt_laws.specs.Sound.{rows_after_call};
 ghost use Rattle.zt_places.specs.Found.{AreBelow};
 ghost use Rattle.zt_fabric_state.specs.Changes.{undone, without_last_place};
 
-use crate::carrying::prepare;
 use crate::places::place_of_number;
+use crate::printing::print_all;
 use crate::state::FabricState;
 use std::alloc::Global;
 use zt_keys::{Key, Memory};
 use zt_protocol::{Call, Sent};
-use zt_twins::BoxedState;
+use zt_restorable::BoxedState;
 
 /// A gateway where a call was carried out, what it kept before, and what the call says. Where there
 /// is no such gateway nothing was kept, and nothing is said.
@@ -49,13 +49,18 @@ pub fn hear_call<K: Key>(
             printed: Vec::new(alloc),
         }),
         Some(at) => {
-            let prepared = prepare(alloc, s, at, gateway, call)?;
-            let former = s.put_rows(at, prepared.rows);
-            Ok(Turned {
-                gateway,
-                former: Some(former),
-                printed: prepared.printed,
-            })
+            let (former, said) = s.turn_at(alloc, at, call)?;
+            match print_all(alloc, s.places(), gateway, said.as_slice()) {
+                Ok(printed) => Ok(Turned {
+                    gateway,
+                    former: Some(former),
+                    printed,
+                }),
+                Err(error) => {
+                    s.put_rows(at, former);
+                    Err(error)
+                }
+            }
         }
     }
 }
@@ -75,10 +80,7 @@ fn put_back<K: Key>(s: &mut FabricState<K>, gateway: u32, rows: BoxedState<K>)
 {
     match place_of_number(s.gateways(), gateway) {
         None => {}
-        Some(at) => {
-            let former = s.put_rows(at, rows);
-            drop(former);
-        }
+        Some(at) => s.put_rows(at, rows),
     }
 }
 

@@ -75,12 +75,6 @@ fn copy_rows<T: Duplicate>(alloc: Global, rows: &RowsById<T>) -> Result<RowsById
     Ok(copies)
 }
 
-impl<Q: Copy + Drop, T: Duplicate> Duplicate for (Q, T) {
-    fn duplicate(&self, alloc: Global) -> Result<Self, Memory> {
-        Ok((self.0, self.1.duplicate(alloc)?))
-    }
-}
-
 impl<K: Key> Duplicate for RemoteInterest<K> {
     fn duplicate(&self, alloc: Global) -> Result<Self, Memory> {
         self.copy(alloc)

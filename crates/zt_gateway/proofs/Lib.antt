@@ -1,6 +1,5 @@
 mod Accepted
 mod ByFace
-mod LastSaid
 mod Listed
 mod Making
 mod Oldest

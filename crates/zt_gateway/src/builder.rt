@@ -15,8 +15,8 @@ use std::marker::Model;
 use zt_keys::Key;
 use zt_protocol::{CallError, Refusal};
 use zt_region::{Admission, Region, SouthConf, WhatAmI, Zid};
+use zt_restorable::RestorableState;
 use zt_state::GatewayState;
-use zt_twins::TwinState;
 
 /// The settings of a gateway that is to be made. Those that aren't set are: no south regions, no
 /// south configuration, no name, the timeout 10000, and no pair of regions refused.
@@ -204,14 +204,17 @@ impl GatewayBuilder {
             Some(refusal) => Err(CallError::Refused(refusal)),
             None => Ok(Gateway {
                 alloc: self.alloc,
-                twin: TwinState::new(GatewayState::new(
+                kept: RestorableState::new(
                     self.alloc,
-                    self.mode,
-                    self.zid,
-                    self.regions,
-                    self.timeout,
-                    self.admission,
-                )),
+                    GatewayState::new(
+                        self.alloc,
+                        self.mode,
+                        self.zid,
+                        self.regions,
+                        self.timeout,
+                        self.admission,
+                    ),
+                ),
                 outbox: Vec::new(self.alloc),
             }),
         }

@@ -12,8 +12,8 @@ use std::alloc::Global;
 use zt_causes::cause_of;
 use zt_keys::{Key, Memory};
 use zt_protocol::{Call, CallError, Message};
+use zt_restorable::{BoxedState, RestorableState};
 use zt_state::GatewayState;
-use zt_twins::{BoxedState, TwinState};
 
 // The number of the face that a call makes, where it makes one.
 fn face_of<K: Key>(state: &GatewayState<K>, call: &Call<K>) -> Option<u32>
@@ -27,35 +27,42 @@ fn face_of<K: Key>(state: &GatewayState<K>, call: &Call<K>) -> Option<u32>
 }
 
 // What a call leaves of what a gateway keeps, what it says and the face that it makes, where
-// nothing refuses it. The gateway keeps what it did.
+// nothing refuses it. The gateway keeps what it did; it is got back first, where a call before
+// lacked memory or was prepared alone.
 pub(crate) fn carried<K: Key>(
     alloc: Global,
-    twin: &mut TwinState<K>,
+    kept: &mut RestorableState<K>,
     call: &Call<K>,
 ) -> Result<(BoxedState<K>, Vec<(u32, Message<K>)>, Option<u32>), CallError>
     requires first { CallHasFirstIds (plain_call call.now) }
-    requires sound { IsSound K.cmp K.matching twin.old }
-    ensures same { twin.new ≡ twin.old }
-    ensures refused { IfErr result (IsRefusedBy K.cmp K.matching (plain_call call.now) twin.old) }
+    requires sound { IsSound K.cmp K.matching kept.old }
+    ensures same { kept.new ≡ kept.old }
+    ensures refused { IfErr result (IsRefusedBy K.cmp K.matching (plain_call call.now) kept.old) }
     ensures accepted { OnOk result
-        (cause_of K.cmp K.matching (plain_call call.now) twin.old ≡ None) }
+        (cause_of K.cmp K.matching (plain_call call.now) kept.old ≡ None) }
     ensures rows { IfOk result
-        (λ r. r.0 ≡ rows_after K.cmp K.matching (plain_call call.now) twin.old) }
+        (λ r. r.0 ≡ rows_after K.cmp K.matching (plain_call call.now) kept.old) }
     ensures said { IfOk result
-        (λ r. r.1.items ≡ said K.cmp K.matching (plain_call call.now) twin.old) }
+        (λ r. r.1.items ≡ said K.cmp K.matching (plain_call call.now) kept.old) }
     ensures made { IfOk result
-        (λ r. r.2 ≡ made_by K.cmp K.matching (plain_call call.now) twin.old) }
+        (λ r. r.2 ≡ made_by K.cmp K.matching (plain_call call.now) kept.old) }
     ensures sound { IfOk result (λ r. IsSound K.cmp K.matching r.0) }
-    ensures outcome { OnOk result (outcome_of K.cmp K.matching (plain_call call.now) twin.old
-        ≡ Ok (map sent_alone (by_face (said K.cmp K.matching (plain_call call.now) twin.old)))) }
+    ensures outcome { OnOk result (outcome_of K.cmp K.matching (plain_call call.now) kept.old
+        ≡ Ok (map sent_alone (by_face (said K.cmp K.matching (plain_call call.now) kept.old)))) }
 {
-    match cause_of(alloc, twin.state(), call) {
+    if kept.restore(alloc).is_err() {
+        return Err(CallError::Memory);
+    }
+    let Some(state) = kept.state() else {
+        return Err(CallError::Memory);
+    };
+    match cause_of(alloc, state, call) {
         Err(Memory) => return Err(CallError::Memory),
         Ok(Some(refusal)) => return Err(CallError::Refused(refusal)),
         Ok(None) => {}
     }
-    let made = face_of(twin.state(), call);
-    match twin.prepare(alloc, call) {
+    let made = face_of(state, call);
+    match kept.prepare(alloc, call) {
         Ok(ahead) => Ok((ahead.state, ahead.said, made)),
         Err(Memory) => Err(CallError::Memory),
     }

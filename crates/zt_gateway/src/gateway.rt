@@ -1,10 +1,10 @@
 // A gateway, and the calls on it.
-ghost use Rattle.std.specs.Prelude.{◌≡◌, ◌≤◌, ◌-◌, [], Ok, drop, length, map, IfErr, IfOk, None};
-ghost use Rattle.std.specs.Prelude.{OnErr, OnOk};
+ghost use Rattle.std.specs.Prelude.{◌≡◌, ◌+◌, ◌≤◌, ◌++◌, [], Ok, length, map, vec_capacity, IfErr};
+ghost use Rattle.std.specs.Prelude.{IfOk, None, OnErr, OnOk};
 ghost use Rattle.zt_gateway.specs.Running.{IsRefusedBy, by_face, called, next_waiting, oldest_for};
-ghost use Rattle.zt_gateway.specs.Running.{planned, without_oldest, sent_alone};
+ghost use Rattle.zt_gateway.specs.Running.{planned, sent_alone, without_closed, without_oldest};
 ghost use Rattle.zt_kept.specs.Sound.{IsSound};
-ghost use Rattle.zt_laws.specs.Sound.{CallHasFirstIds, rows_after_call};
+ghost use Rattle.zt_laws.specs.Sound.{CallHasFirstIds};
 ghost use Rattle.zt_model.specs.Journal.{cause_of, made_by, outcome_of};
 ghost use Rattle.zt_model.specs.Says.{said};
 ghost use Rattle.zt_model.specs.Transcript.{FacesKeepWhatTheyShould};
@@ -21,14 +21,14 @@ use std::mem;
 use std::snapshot::Snapshot;
 use zt_keys::{Key, Memory};
 use zt_protocol::{Call, CallError, Message};
-use zt_twins::{BoxedState, TwinState};
+use zt_restorable::RestorableState;
 
 /// A gateway: what it keeps, and the messages that it has for its faces until they are taken. Its
 /// faces are numbered from 1 in order of making.
 #[derive(Drop)]
 pub struct Gateway<K: Key> {
     pub(crate) alloc: Global,
-    pub(crate) twin: TwinState<K>,
+    pub(crate) kept: RestorableState<K>,
     // Each with the number of its face, the oldest first.
     pub(crate) outbox: Vec<(u32, Message<K>)>,
 }
@@ -39,9 +39,9 @@ impl<K: Key> Model for Gateway<K> {
 
     ghost Value = { Running K };
 
-    ghost view = { λ g. record { rows = g.twin; waiting = g.outbox.items } };
+    ghost view = { λ g. record { rows = g.kept; waiting = g.outbox.items } };
 
-    ghost invariant = { λ g. IsSound K.cmp K.matching g.twin };
+    ghost invariant = { λ g. IsSound K.cmp K.matching g.kept };
 }
 
 // What a call comes to at a gateway, where nothing refuses it.
@@ -61,7 +61,7 @@ fn plan<K: Key>(gateway: &mut Gateway<K>, call: &Call<K>) -> Result<Prepared<K>,
 {
     let before = Snapshot::of(gateway);
     let alloc = gateway.alloc;
-    let (state, said, made) = carried(alloc, &mut gateway.twin, call)?;
+    let (state, said, made) = carried(alloc, &mut gateway.kept, call)?;
     let Ok(order) = places_by_face(alloc, said.as_slice()) else {
         return Err(CallError::Memory);
     };
@@ -82,7 +82,8 @@ fn plan<K: Key>(gateway: &mut Gateway<K>, call: &Call<K>) -> Result<Prepared<K>,
 impl<K: Key> Gateway<K> {
     /// Accepts a call without carrying it out, and takes all memory that it needs; a first id is at
     /// least 1. The refusals are those of `call`, and the gateway is as before. In order of face
-    /// its messages are the outcome of the call.
+    /// its messages are the outcome of the call. Where the call isn't carried out, the next one
+    /// first copies what the gateway kept earlier, and carries out on it the calls since.
     pub fn prepare(&mut self, call: &Call<K>) -> Result<Prepared<K>, CallError>
         requires { CallHasFirstIds (plain_call call.now) }
         ensures same { self.new ≡ self.old }
@@ -100,59 +101,48 @@ impl<K: Key> Gateway<K> {
         plan(self, call)
     }
 
+    // Puts what a call says behind what waits, without what waits for a face that closes.
+    fn enqueue(
+        &mut self,
+        room: Vec<(u32, Message<K>)>,
+        said: Vec<(u32, Message<K>)>,
+        closed: Option<u32>,
+    )
+        requires empty { room.items ≡ [] }
+        requires fits { length self.old.waiting + length said.items ≤ vec_capacity room }
+        ensures { self.new ≡ record self.old {
+          waiting = without_closed closed self.old.waiting ++ said.items;
+        } }
+    {
+        let waiting = mem::replace(&mut self.outbox, Vec::new(self.alloc));
+        self.outbox = moved(room, waiting, said, closed);
+    }
+
     /// Carries out a call that this gateway prepared and since which it didn't change. This takes
-    /// no memory. The answer is the number of the face that the call makes, if it makes one.
+    /// no memory; the next call copies what the gateway keeps. The answer is the number of the face
+    /// that the call makes, if it makes one.
     pub fn commit(&mut self, prepared: Prepared<K>) -> Option<u32>
         requires { prepared.before ≡ self.old }
         ensures done { self.new ≡ prepared.after }
         ensures made { result ≡ prepared.made }
         ensures sound { FacesKeepWhatTheyShould K.cmp K.matching self.new.rows }
     {
-        self.exchange(prepared).0
-    }
-
-    // Carries out a call that this gateway prepared, and answers besides what it kept before.
-    fn exchange(&mut self, prepared: Prepared<K>) -> (Option<u32>, BoxedState<K>)
-        requires { prepared.before ≡ self.old }
-        ensures done { self.new ≡ prepared.after }
-        ensures made { result.0 ≡ prepared.made }
-        ensures former { result.1 ≡ self.old.rows }
-        ensures sound { FacesKeepWhatTheyShould K.cmp K.matching self.new.rows }
-    {
         let Prepared {
-            before: _,
             state,
             closed,
             made,
             said,
-            order: _,
             room,
+            ..
         } = prepared;
-        let waiting = mem::replace(&mut self.outbox, Vec::new(self.alloc));
-        self.outbox = moved(room, waiting, said, closed);
-        let former = self.twin.put(state);
-        (made, former)
+        self.enqueue(room, said, closed);
+        self.kept.put(state);
+        made
     }
 
-    // What it kept before a call that was carried out last is brought up to date by the same call,
-    // whose messages are the last ones that wait.
-    fn catch_up(&mut self, former: BoxedState<K>, call: &Call<K>, messages: usize)
-        requires after { self.old.rows
-            ≡ rows_after_call K.cmp K.matching (plain_call call.now) former }
-        requires within { messages ≤ length self.old.waiting }
-        requires said { drop (length self.old.waiting - messages) self.old.waiting
-            ≡ said K.cmp K.matching (plain_call call.now) former }
-        ensures { self.new ≡ self.old }
-    {
-        let waiting = self.outbox.as_slice();
-        let first = waiting.len() - messages;
-        self.twin
-            .catch_up(self.alloc, former, call, &waiting[first..]);
-    }
-
-    /// Carries out a call as `commit` does, one that `prepare` accepted, and brings the gateway's
-    /// second state up to date by it, where memory is there for that: so the next call copies
-    /// nothing.
+    /// Carries out a call as `commit` does, one that `prepare` accepted, and keeps a copy of the
+    /// call, where memory is there for that. Then the next call copies nothing, unless such calls
+    /// have become as many as what the gateway keeps.
     pub fn commit_call(&mut self, prepared: Prepared<K>, call: &Call<K>) -> Option<u32>
         requires accepted { cause_of K.cmp K.matching (plain_call call.now) self.old.rows ≡ None }
         requires planned { prepared ≡ planned K.cmp K.matching (plain_call call.now) self.old }
@@ -160,9 +150,16 @@ impl<K: Key> Gateway<K> {
         ensures made { result ≡ prepared.made }
         ensures sound { FacesKeepWhatTheyShould K.cmp K.matching self.new.rows }
     {
-        let messages = prepared.said.as_slice().len();
-        let (made, former) = self.exchange(prepared);
-        self.catch_up(former, call, messages);
+        let Prepared {
+            state,
+            closed,
+            made,
+            said,
+            room,
+            ..
+        } = prepared;
+        self.enqueue(room, said, closed);
+        self.kept.commit(self.alloc, state, call);
         made
     }
 
@@ -194,11 +191,11 @@ impl<K: Key> Gateway<K> {
     pub fn copy(&self, alloc: Global) -> Result<Self, Memory>
         ensures { IfOk result (λ copy. copy ≡ self.now) }
     {
-        let state = self.twin.state().copy(alloc)?;
+        let kept = self.kept.copy(alloc)?;
         let outbox = copy_messages(alloc, self.outbox.as_slice())?;
         Ok(Gateway {
             alloc,
-            twin: TwinState::new(state),
+            kept,
             outbox,
         })
     }

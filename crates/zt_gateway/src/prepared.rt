@@ -8,7 +8,7 @@ use std::marker::Model;
 use std::snapshot::Snapshot;
 use zt_keys::Key;
 use zt_protocol::Message;
-use zt_twins::BoxedState;
+use zt_restorable::BoxedState;
 
 /// A call that a gateway has accepted and not carried out: all that it takes memory for is there.
 /// It is for the gateway that prepared it, as that stood then.

@@ -127,6 +127,27 @@ fn find_sources<K: Key>(
     list_sources(alloc, exprs.as_slice(), rows.as_slice())
 }
 
+// Who declares each expression of a region, keys in order. Refused is a region that the gateway
+// doesn't have.
+fn sources_in<K: Key>(
+    alloc: Global,
+    state: &GatewayState<K>,
+    region: Region,
+) -> Result<Vec<(K, Sources)>, CallError>
+    ensures refused { IfErr result (IsUnknownRegion state.now.regions region) }
+    ensures known { OnOk result (is_region_of state.now.regions region ≡ true) }
+    ensures sourced { IfOk result
+        (λ found. plain_found found.items ≡ sourced K.cmp state.now region) }
+{
+    if !is_region_of(state.regions(), region) {
+        return Err(CallError::Refused(Refusal::NoSuchRegion));
+    }
+    match find_sources(alloc, state, region) {
+        Ok(found) => Ok(found),
+        Err(Memory) => Err(CallError::Memory),
+    }
+}
+
 impl<K: Key> Gateway<K> {
     /// Who declares each expression of the region, keys in order: in a region of sessions or
     /// clients clients, in one of peers peers, in one of routers the routers that the tokens come
@@ -142,11 +163,12 @@ impl<K: Key> Gateway<K> {
         ensures sourced { IfOk result
             (λ found. plain_found found.items ≡ sourced K.cmp self.now.rows region) }
     {
-        if !is_region_of(self.twin.state().regions(), region) {
-            return Err(CallError::Refused(Refusal::NoSuchRegion));
+        if let Some(state) = self.kept.state() {
+            return sources_in(alloc, state, region);
         }
-        match find_sources(alloc, self.twin.state(), region) {
-            Ok(found) => Ok(found),
+        // A call was prepared and not carried out, or lacked memory.
+        match self.kept.restored(alloc) {
+            Ok(restored) => sources_in(alloc, restored.state(), region),
             Err(Memory) => Err(CallError::Memory),
         }
     }

@@ -1,13 +1,14 @@
 -- A row more, counted where that can be.
-use Rattle.std.proofs.Common.{◌≡◌, ℕ, ◌+◌, Bool, true, false, ◌==◌, if◌then◌else◌, List, Some, get_or, set, refl, arith}
+use Rattle.std.proofs.Common.{◌≡◌, ℕ, ◌+◌, ◌<◌, ◌||◌, Bool, true, false, ◌==◌, if◌then◌else◌, List, Option, None, Some, get_or, length, nat_eq, set, refl, arith, ◌∙◌}
 use Rattle.std.proofs.lemmas.Bool.Decides.{nat_tests}
 use Rattle.std.proofs.lemmas.List.Quantifiers.{position-Some}
 use Rattle.std.proofs.lemmas.List.Sums.{sum_by-set}
 use Rattle.std.specs.List.{position}
+use Rattle.std.specs.Option.{option_or}
 use Rattle.zt_keys.specs.Test.{by_test}
 use Rattle.zt_region.specs.Region.{region_eq, region_eq-same}
 use Rattle.zt_region.specs.declared.region.Region.{Region}
-use Rattle.zt_indexes.specs.Counted.{can_count, count_in, one_in}
+use Rattle.zt_indexes.specs.Counted.{can_count, count_in, one_in, place_for}
 
 abbrev counted_there : Region → Region × ℕ → ℕ
 counted_there r row = if region_eq r row.0 then row.1 else 0
@@ -34,12 +35,35 @@ one-more r region row can =
     (λ t. rw (region_eq-same region row.0 t) (same-region r row.0 row.1))
     (λ t. first-there r region row.0 row.1 (none-there row.1 (rw t at can)))
 
--- in the first place where it can be
+or_second : (a b : Bool) → b ≡ true → (a || b) ≡ true
+or_second true b is = refl
+or_second false b is = is
+
+or_first : (a b : Bool) → a ≡ true → (a || b) ≡ true
+or_first a b is = rw is refl
+
+-- a place that is found is there, and the row can be counted at it
+place-there : (region : Region) (rows : List (Region × ℕ)) (place : ℕ) (row : Region × ℕ) → place_for region rows ≡ Some place
+    → (place < length rows) × (can_count region (get_or rows place row) ≡ true)
+place-there region rows place row found = there (position own rows) refl found
+  where
+    own : Region × ℕ → Bool
+    own x = region_eq region x.0
+
+    free : Region × ℕ → Bool
+    free x = nat_eq x.1 0
+
+    there : (spot : Option ℕ) → position own rows ≡ spot → option_or spot (position free rows) ≡ Some place
+        → (place < length rows) × (can_count region (get_or rows place row) ≡ true)
+    there (Some p) is same = let spot = position-Some own rows place row (is ∙ same) in (spot.0, or_first _ _ spot.1)
+    there None is same = let spot = position-Some free rows place row same in (spot.0, or_second _ _ spot.1)
+
+-- where it can be
 pub one-more-at : (region : Region) (rows : List (Region × ℕ)) (place : ℕ) (row new : Region × ℕ)
-    → position (can_count region) rows ≡ Some place → row ≡ get_or rows place row → new ≡ (region, row.1 + 1)
+    → place_for region rows ≡ Some place → row ≡ get_or rows place row → new ≡ (region, row.1 + 1)
     → (r : Region) → count_in r (set rows place new) ≡ count_in r rows + one_in r region
 one-more-at region rows place row new found is more r =
-    let spot = position-Some (can_count region) rows place row found in
+    let spot = place-there region rows place row found in
     let can : can_count region row ≡ true = rw (← is) at spot.1 in
     let here : counted_there r new ≡ counted_there r row + one_in r region = rw more (one-more r region row can) in
     let whole : count_in r (set rows place new) + counted_there r row ≡ count_in r rows + counted_there r new = rw (← is) at (sum_by-set (counted_there r) rows place new row spot.0) in

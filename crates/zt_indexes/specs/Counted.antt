@@ -3,8 +3,12 @@
 --     is_shown_in shown counts         whether some stand in a region that passes a test
 --     one_in region other              1 where it is the same region, else 0
 --     can_count region row             a count that a row of the region may be added to
-use Rattle.std.specs.Prelude.{ℕ, Bool, ◌&&◌, ◌||◌, if◌then◌else◌, nat_eq, nat_lt, List}
-use Rattle.std.specs.List.{list_any, sum_by}
+--     own_place region counts          where the count of the region stands
+--     free_place counts                where a count of no rows stands
+--     place_for region counts          where a row of the region is counted: at its own count, or else at one of no rows
+use Rattle.std.specs.Prelude.{ℕ, Bool, ◌&&◌, ◌||◌, if◌then◌else◌, nat_eq, nat_lt, List, Option}
+use Rattle.std.specs.List.{list_any, position, sum_by}
+use Rattle.std.specs.Option.{option_or}
 use Rattle.zt_region.specs.Region.{region_eq}
 use Rattle.zt_region.specs.declared.region.Region.{Region}
 
@@ -24,3 +28,13 @@ one_in region other = if region_eq region other then 1 else 0
 -- it is of that region, or of no rows
 abbrev pub can_count : Region → Region × ℕ → Bool
 can_count region row = region_eq region row.0 || nat_eq row.1 0
+
+-- the count of that region, and one of no rows
+abbrev pub own_place : Region → List (Region × ℕ) → Option ℕ
+own_place region counts = position (λ row. region_eq region row.0) counts
+
+abbrev pub free_place : List (Region × ℕ) → Option ℕ
+free_place counts = position (λ row. nat_eq row.1 0) counts
+
+abbrev pub place_for : Region → List (Region × ℕ) → Option ℕ
+place_for region counts = option_or (own_place region counts) (free_place counts)

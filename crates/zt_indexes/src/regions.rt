@@ -1,9 +1,10 @@
 // How many rows stand in each region.
 ghost use Rattle.std.specs.Prelude.{◌≡◌, ℕ, ◌+◌, ◌-◌, ◌<◌, ◌&&◌, ◌∷◌, ◌++◌, [], true, nat_lt};
-ghost use Rattle.std.specs.Prelude.{get_or, length, not, position};
+ghost use Rattle.std.specs.Prelude.{get_or, length, not};
 ghost use Rattle.std.specs.Prelude.{IfNone, IfOk, IfSome, OnErr, OnOk};
 ghost use Rattle.zt_region.specs.declared.region.Region.{Region};
 ghost use Rattle.zt_indexes.specs.Counted.{can_count, count_in, is_counted, is_shown_in, one_in};
+ghost use Rattle.zt_indexes.specs.Counted.{free_place, own_place, place_for};
 ghost use Rattle.zt_indexes.specs.Held.{counts_of};
 
 use crate::live::RegionTest;
@@ -61,15 +62,29 @@ fn place_of(rows: &[(Region, u32)], region: Region) -> Option<usize>
     None
 }
 
-// Where a row of the region may be counted, if there is such a place.
-fn place_for(rows: &[(Region, u32)], region: Region) -> Option<usize>
-    ensures { result ≡ position (can_count region) rows.now }
+// Where the count of the region stands, if it has one.
+fn own_place(rows: &[(Region, u32)], region: Region) -> Option<usize>
+    ensures { result ≡ own_place region rows.now }
 {
-    rows.iter().position(|row| can_count(row, region))
+    rows.iter().position(|row| region == row.0)
 }
 
-// One row more in the region. A count of no rows is used again, so that regions that come and go
-// take no more memory. The only error is want of memory, or of numbers, and then the counts stay.
+// Where a count of no rows stands, if there is one.
+fn free_place(rows: &[(Region, u32)]) -> Option<usize>
+    ensures { result ≡ free_place rows.now }
+{
+    rows.iter().position(|row| row.1 == 0)
+}
+
+// Where a row of the region is counted, if it can be at a count that is there.
+fn place_for(rows: &[(Region, u32)], region: Region) -> Option<usize>
+    ensures { result ≡ place_for region rows.now }
+{
+    own_place(rows, region).or(free_place(rows))
+}
+
+// One row more in the region. Counts are used again, so that there are never more of them than
+// regions. The only error is want of memory, or of numbers, and then the counts stay.
 fn add_in(rows: &mut Vec<(Region, u32)>, region: Region) -> Result<(), Memory>
     ensures ok { OnOk result ((r : Region) →
         count_in r rows.new.items ≡ count_in r rows.old.items + one_in r region) }
@@ -124,7 +139,8 @@ impl RegionTest for Anywhere {
     }
 }
 
-// Counts of rows: none yet, those of one region, or those of more in a box.
+// Counts of rows: none yet, those of one region, or those of more in a box, which keeps counts
+// small where there is one region alone.
 #[derive(Drop)]
 enum Counts {
     Empty,

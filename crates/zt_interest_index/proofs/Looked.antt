@@ -4,7 +4,7 @@ use Rattle.std.specs.List.{list_any}
 use Rattle.zt_keys.specs.declared.anchor.Anchor.{Anchor}
 use Rattle.zt_keys.specs.declared.anchor.Anchor.TheVariants.{Whole, First, FirstTwo, Last}
 use Rattle.zt_interest_index.specs.Buckets.{bucket_of, looked_into, places_of}
-use Rattle.zt_interest_index.specs.Held.{belongs-own}
+use Rattle.zt_interest_index.specs.Held.{belongs-own, or_first_false, or_second_false}
 use Rattle.zt_interest_index.specs.Holders.{IsIndexOf, asks_at, asks_in, belongs}
 use Rattle.zt_interest_index.specs.Holdings.{asks_from}
 use Rattle.zt_interest_index.specs.Index.{at_numbers, rows_at, with_any}
@@ -12,14 +12,6 @@ use Rattle.zt_interest_index.specs.declared.bucket.Anchors.{Anchors}
 use Rattle.zt_interest_index.specs.declared.bucket.Bucket.{Bucket}
 use Rattle.zt_interest_index.specs.declared.bucket.Bucket.TheVariants.{Any, At}
 use Rattle.zt_interest_index.proofs.Places.{Place, rows-any, rows-number}
-
-or_first_false : (a b : Bool) → (a || b) ≡ false → a ≡ false
-or_first_false true b h = h
-or_first_false false b h = refl
-
-or_second_false : (a b : Bool) → (a || b) ≡ false → b ≡ false
-or_second_false true b h = cc
-or_second_false false b h = h
 
 and_false : (b : Bool) → (b && false) ≡ false
 and_false true = refl

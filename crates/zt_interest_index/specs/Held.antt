@@ -43,11 +43,11 @@ not_false : (a : Bool) → not a ≡ false → a ≡ true
 not_false true h = refl
 not_false false h = cc
 
-or_first_false : (a b : Bool) → (a || b) ≡ false → a ≡ false
+pub or_first_false : (a b : Bool) → (a || b) ≡ false → a ≡ false
 or_first_false true b h = h
 or_first_false false b h = refl
 
-or_second_false : (a b : Bool) → (a || b) ≡ false → b ≡ false
+pub or_second_false : (a b : Bool) → (a || b) ≡ false → b ≡ false
 or_second_false true b h = cc
 or_second_false false b h = h
 

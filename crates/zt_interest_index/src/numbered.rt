@@ -11,7 +11,7 @@ use std::alloc::Global;
 use std::collections::HashMap;
 use zt_keys::{Anchor, Key, Memory};
 
-/// An interest more at a number. The only error is want of memory, and then the interests stay.
+/// An interest more at a number. The only error is want of memory.
 pub(crate) fn put_in<K: Key>(
     alloc: Global,
     buckets: &mut HashMap<(Anchor, u64), Holdings<K>>,

@@ -1,5 +1,5 @@
 -- The faces at the ends of a link: each is opened or closed, and what is said then is heard.
-use Rattle.std.proofs.Common.{◌≡◌, ℕ, ◌-◌, Bool, false, true, ◌==◌, not, List, [], ◌∷◌, ◌++◌, map, filter, Option, Some, None, Ok, refl, sym, ap, ◌∙◌}
+use Rattle.std.proofs.Common.{◌≡◌, ℕ, Bool, false, true, ◌==◌, not, List, [], ◌∷◌, ◌++◌, map, filter, Option, Some, None, Ok, refl, sym, ap, ◌∙◌}
 use Rattle.std.proofs.lemmas.List.{append-nil}
 use Rattle.std.proofs.lemmas.List.Elements.{filter-append}
 use Rattle.std.specs.Cmp.{IsTotalOrder}

@@ -1,4 +1,4 @@
--- A line that makes two calls: each is carried out at its gateway, and undone where the line fails.
+-- A line that makes two calls: each is carried out at its gateway.
 use Rattle.std.proofs.Common.{◌≡◌, ℕ, ◌+◌, ◌-◌, ◌==◌, ◌≢◌, Bool, false, true, List, [], ◌∷◌, ◌++◌, map, length, Option, Some, None, is_none, option_map, refl, sym, ap, ◌∙◌, append_assoc, arith, eqb-true, ne_eqb}
 use Rattle.std.proofs.lemmas.Bool.{eqb-false}
 use Rattle.std.proofs.lemmas.List.{length-append}

@@ -47,7 +47,7 @@ fn cause_of_made<K: Key>(
     let Some(node) = member_at(s.gateways(), made.gateway) else {
         return Ok(None);
     };
-    cause_of(alloc, node.rows(), &made.call)
+    cause_of(alloc, node.rows()?, &made.call)
 }
 
 /// Why a call is refused that is made on a gateway by its number.

@@ -1,5 +1,5 @@
 // Tests of the two ends of a link that is to be.
-ghost use Rattle.std.specs.Prelude.{◌≡◌, ◌&&◌, Ok, Err, not, length};
+ghost use Rattle.std.specs.Prelude.{◌≡◌, ◌&&◌, Ok, Err, IfOk, not, length};
 ghost use Rattle.std.specs.List.{list_any};
 ghost use Rattle.zt_region.specs.Region.{is_north, whatami_eq};
 ghost use Rattle.zt_region.specs.declared.region.WhatAmI.TheVariants.{Client};
@@ -11,7 +11,7 @@ ghost use Rattle.zt_model.specs.Strategy.{fits};
 use crate::causes::has_region;
 use crate::linking::climbs_to;
 use zt_fabric_state::{FabricState, NodeState};
-use zt_keys::Key;
+use zt_keys::{Key, Memory};
 use zt_region::{Bound, Region, RegionError, WhatAmI};
 use zt_state::GatewayState;
 
@@ -28,32 +28,35 @@ fn fits(own: WhatAmI, region: Region, remote: WhatAmI, bound: Bound) -> bool
     }
 }
 
-/// Whether the region of an end isn't one of its gateway.
+/// Whether the region of an end isn't one of its gateway. The only error is want of memory.
 pub(crate) fn names_no_region<K: Key>(
     node: &NodeState<K>,
     answer: &Result<(Region, Bound), RegionError>,
-) -> bool
-    ensures { result ≡ is_answer answer.now
-        (λ region bound. not (is_region_of node.now.rows.regions region)) }
+) -> Result<bool, Memory>
+    ensures { IfOk result (λ names. names ≡ is_answer answer.now
+        (λ region bound. not (is_region_of node.now.rows.regions region))) }
 {
+    let rows = node.rows()?;
     match answer {
-        Ok((region, _)) => !has_region(node.rows().regions(), *region),
-        Err(_) => false,
+        Ok((region, _)) => Ok(!has_region(rows.regions(), *region)),
+        Err(_) => Ok(false),
     }
 }
 
-/// Whether the face of an end doesn't fit its region.
+/// Whether the face of an end doesn't fit its region. The only error is want of memory.
 pub(crate) fn misfits<K: Key>(
     node: &NodeState<K>,
     answer: &Result<(Region, Bound), RegionError>,
     other: &NodeState<K>,
-) -> bool
-    ensures { result ≡ is_answer answer.now
-        (λ region bound. not (fits node.now.rows.mode region other.now.rows.mode bound)) }
+) -> Result<bool, Memory>
+    ensures { IfOk result (λ misfits. misfits ≡ is_answer answer.now
+        (λ region bound. not (fits node.now.rows.mode region other.now.rows.mode bound))) }
 {
+    let own = node.rows()?;
+    let remote = other.rows()?;
     match answer {
-        Ok((region, bound)) => !fits(node.rows().mode(), *region, other.rows().mode(), *bound),
-        Err(_) => false,
+        Ok((region, bound)) => Ok(!fits(own.mode(), *region, remote.mode(), *bound)),
+        Err(_) => Ok(false),
     }
 }
 
@@ -63,41 +66,44 @@ fn has_north_face<K: Key>(rows: &GatewayState<K>) -> bool
     !rows.north().is_empty()
 }
 
-/// Whether the gateway of an end is a client's that has a face to the north already.
+/// Whether the gateway of an end is a client's that has a face to the north already. The only error
+/// is want of memory.
 pub(crate) fn takes_north<K: Key>(
     node: &NodeState<K>,
     answer: &Result<(Region, Bound), RegionError>,
-) -> bool
-    ensures { result ≡ is_answer answer.now (λ region bound. is_north_taken region node.now.rows) }
+) -> Result<bool, Memory>
+    ensures { IfOk result (λ takes. takes
+        ≡ is_answer answer.now (λ region bound. is_north_taken region node.now.rows)) }
 {
+    let rows = node.rows()?;
     match answer {
-        Ok((region, _)) => {
-            node.rows().mode() == WhatAmI::Client
-                && *region == Region::North
-                && has_north_face(node.rows())
-        }
-        Err(_) => false,
+        Ok((region, _)) => Ok(
+            rows.mode() == WhatAmI::Client && *region == Region::North && has_north_face(rows),
+        ),
+        Err(_) => Ok(false),
     }
 }
 
-/// Whether an end would close a loop of client gateways.
+/// Whether an end would close a loop of client gateways. The only error is want of memory.
 pub(crate) fn closes_loop<K: Key>(
     s: &FabricState<K>,
     node: &NodeState<K>,
     answer: &Result<(Region, Bound), RegionError>,
     beyond: u32,
     gateway: u32,
-) -> bool
-    ensures { result ≡ is_answer answer.now (λ region bound.
+) -> Result<bool, Memory>
+    ensures { IfOk result (λ closes. closes ≡ is_answer answer.now (λ region bound.
         whatami_eq node.now.rows.mode Client
-        && (is_north region && climbs_to (length s.now.gateways) s.now beyond gateway)) }
+        && (is_north region && climbs_to (length s.now.gateways) s.now beyond gateway))) }
 {
+    let rows = node.rows()?;
     match answer {
         Ok((region, _)) => {
-            node.rows().mode() == WhatAmI::Client
-                && *region == Region::North
-                && climbs_to(s, s.gateways().len(), beyond, gateway)
+            if rows.mode() != WhatAmI::Client || *region != Region::North {
+                return Ok(false);
+            }
+            climbs_to(s, s.gateways().len(), beyond, gateway)
         }
-        Err(_) => false,
+        Err(_) => Ok(false),
     }
 }

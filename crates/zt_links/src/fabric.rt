@@ -75,7 +75,8 @@ fn refuse<K: Key>(s: &mut FabricState<K>, line: &Line<K>, refusal: Refusal)
     }
 }
 
-/// Carries out a line. After want of memory nothing is changed.
+/// Carries out a line. After want of memory nothing is changed, and what a gateway lost by it is
+/// brought back before the next line.
 fn carry_out<K: Key>(
     alloc: Global,
     s: &mut FabricState<K>,
@@ -89,6 +90,7 @@ fn carry_out<K: Key>(
         ≡ fabric_after K.cmp K.matching (plain_line line.now) (plain_entry entry) s.old) }
     ensures err { OnErr result (s.new ≡ s.old) }
 {
+    s.restore(alloc)?;
     let made = call_of_line(alloc, s, line)?;
     carry_made(alloc, s, line, &made)
 }

@@ -30,7 +30,7 @@ fn opening_call<K: Key>(
         return Ok(None);
     };
     let answer = end_region(alloc, node, beyond)?;
-    Ok(end_call(&answer, beyond, first))
+    end_call(&answer, beyond, first)
 }
 
 /// Opens the faces of an accepted link, and makes the link. After want of memory nothing is

@@ -17,25 +17,26 @@ use zt_keys::{Key, Memory};
 use zt_protocol::Refusal;
 use zt_region::{Bound, Region, RegionError};
 
-/// Why the faces of a link's two ends are refused, by the regions that the ends come to.
+/// Why the faces of a link's two ends are refused, by the regions that the ends come to. The only
+/// error is want of memory.
 fn regions_cause<K: Key>(
     a: &NodeState<K>,
     near: &Result<(Region, Bound), RegionError>,
     b: &NodeState<K>,
     far: &Result<(Region, Bound), RegionError>,
-) -> Option<Refusal>
-    ensures { result ≡ regions_cause a.now near.now b.now far.now }
+) -> Result<Option<Refusal>, Memory>
+    ensures { IfOk result (λ cause. cause ≡ regions_cause a.now near.now b.now far.now) }
 {
-    if names_no_region(a, near) || names_no_region(b, far) {
-        return Some(Refusal::NoSuchRegion);
+    if names_no_region(a, near)? || names_no_region(b, far)? {
+        return Ok(Some(Refusal::NoSuchRegion));
     }
-    if near.is_err() || far.is_err() || misfits(a, near, b) || misfits(b, far, a) {
-        return Some(Refusal::RegionConflict);
+    if near.is_err() || far.is_err() || misfits(a, near, b)? || misfits(b, far, a)? {
+        return Ok(Some(Refusal::RegionConflict));
     }
-    if takes_north(a, near) || takes_north(b, far) {
-        return Some(Refusal::NorthTaken);
+    if takes_north(a, near)? || takes_north(b, far)? {
+        return Ok(Some(Refusal::NorthTaken));
     }
-    None
+    Ok(None)
 }
 
 /// Whether all numbers of faces or links are given out, so that a link can't be made.
@@ -45,7 +46,7 @@ fn lacks_numbers<K: Key>(s: &FabricState<K>) -> bool
     s.places().len() >= u32::MAX as usize - 1 || is_full(s.links().len())
 }
 
-/// Whether one of the ends closes a loop of client gateways.
+/// Whether one of the ends closes a loop of client gateways. The only error is want of memory.
 fn closes_loops<K: Key>(
     s: &FabricState<K>,
     one: u32,
@@ -54,12 +55,12 @@ fn closes_loops<K: Key>(
     two: u32,
     b: &NodeState<K>,
     far: &Result<(Region, Bound), RegionError>,
-) -> bool
-    ensures { result
+) -> Result<bool, Memory>
+    ensures { IfOk result (λ closes. closes
         ≡ (closes_loop_at s.now a.now near.now two one
-        || closes_loop_at s.now b.now far.now one two) }
+        || closes_loop_at s.now b.now far.now one two)) }
 {
-    closes_loop(s, a, near, two, one) || closes_loop(s, b, far, one, two)
+    Ok(closes_loop(s, a, near, two, one)? || closes_loop(s, b, far, one, two)?)
 }
 
 /// Whether the calls that open the faces of a link need more ids than are left.
@@ -83,7 +84,9 @@ fn spends_at_ends<K: Key>(
     ensures { IfOk result (λ spends. spends
         ≡ line_spends_ids K.cmp K.matching (LinkLine one two first back) s.now) }
 {
-    match (end_call(near, b, first), end_call(far, a, back)) {
+    let forth = end_call(near, b, first)?;
+    let answer = end_call(far, a, back)?;
+    match (forth, answer) {
         (Some(forth), Some(answer)) => spends_for_link(alloc, s, one, &forth, two, &answer),
         _ => Err(Memory),
     }
@@ -110,7 +113,7 @@ fn later_cause<K: Key>(
     ensures { IfOk result (λ cause. cause
         ≡ later_cause K.cmp K.matching one two first back s.now a.now near.now b.now far.now) }
 {
-    if closes_loops(s, one, a, near, two, b, far) {
+    if closes_loops(s, one, a, near, two, b, far)? {
         return Ok(Some(Refusal::WouldLoop));
     }
     if spends_at_ends(alloc, s, one, a, near, first, two, b, far, back)? {
@@ -141,7 +144,7 @@ fn ends_cause<K: Key>(
 {
     let near = end_region(alloc, a, b)?;
     let far = end_region(alloc, b, a)?;
-    if let Some(cause) = regions_cause(a, &near, b, &far) {
+    if let Some(cause) = regions_cause(a, &near, b, &far)? {
         return Ok(Some(cause));
     }
     later_cause(alloc, s, one, a, &near, first, two, b, &far, back)

@@ -78,32 +78,33 @@ pub(crate) fn end_region<K: Key>(
     if !has_few_subregions(south) || !has_few_subregions(other_south) {
         return Err(Memory);
     }
-    let mode = own.rows().mode();
-    let other_mode = other.rows().mode();
+    let mode = own.rows()?.mode();
+    let other_mode = other.rows()?.mode();
     let answer = agree(&peer, &beyond, mode, south, other_mode, other_south);
     Ok(answer)
 }
 
-/// The call that opens the face at an end.
+/// The call that opens the face at an end. The only error is want of memory.
 pub(crate) fn end_call<K: Key>(
     answer: &Result<(Region, Bound), RegionError>,
     other: &NodeState<K>,
     first: u32,
-) -> Option<Call<K>>
-    ensures { option_map plain_call result ≡ elim answer.now [
+) -> Result<Option<Call<K>>, Memory>
+    ensures { IfOk result (λ call. option_map plain_call call ≡ elim answer.now [
       | Ok given ↦ Some (NewTransport other.now.rows.zid other.now.rows.mode given.0 given.1 first)
       | Err e ↦ None
-    ] }
+    ]) }
 {
+    let rows = other.rows()?;
     match answer {
-        Ok((region, remote_bound)) => Some(Call::NewTransport {
-            zid: other.rows().zid(),
-            whatami: other.rows().mode(),
+        Ok((region, remote_bound)) => Ok(Some(Call::NewTransport {
+            zid: rows.zid(),
+            whatami: rows.mode(),
             region: *region,
             remote_bound: *remote_bound,
             first,
-        }),
-        Err(_) => None,
+        })),
+        Err(_) => Ok(None),
     }
 }
 
@@ -131,37 +132,46 @@ fn north_face<K: Key>(rows: &GatewayState<K>) -> Option<u32>
     rows.north().first().copied()
 }
 
-/// The gateway above a client gateway, by its north link.
-fn gateway_above<K: Key>(s: &FabricState<K>, gateway: u32) -> Option<u32>
-    ensures { result ≡ gateway_above s.now gateway }
+/// The gateway above a client gateway, by its north link. The only error is want of memory.
+fn gateway_above<K: Key>(s: &FabricState<K>, gateway: u32) -> Result<Option<u32>, Memory>
+    ensures { IfOk result (λ above. above ≡ gateway_above s.now gateway) }
 {
-    let node = member_at(s.gateways(), gateway)?;
-    if node.rows().mode() != WhatAmI::Client {
-        return None;
+    let Some(node) = member_at(s.gateways(), gateway) else {
+        return Ok(None);
+    };
+    let rows = node.rows()?;
+    if rows.mode() != WhatAmI::Client {
+        return Ok(None);
     }
-    match north_face(node.rows()) {
-        None => None,
-        Some(face) => gateway_beyond(s, s.places().number(gateway, face)),
+    match north_face(rows) {
+        None => Ok(None),
+        Some(face) => Ok(gateway_beyond(s, s.places().number(gateway, face))),
     }
 }
 
-/// Whether a gateway is another or lies above it, at most so many links away.
-pub(crate) fn climbs_to<K: Key>(s: &FabricState<K>, most: usize, from: u32, to: u32) -> bool
-    ensures { result ≡ climbs_to most s.now from to }
+/// Whether a gateway is another or lies above it, at most so many links away. The only error is
+/// want of memory.
+pub(crate) fn climbs_to<K: Key>(
+    s: &FabricState<K>,
+    most: usize,
+    from: u32,
+    to: u32,
+) -> Result<bool, Memory>
+    ensures { IfOk result (λ climbs. climbs ≡ climbs_to most s.now from to) }
 {
     let mut left = most;
     let mut at = from;
     while left > 0 {
         if at == to {
-            return true;
+            return Ok(true);
         }
-        match gateway_above(s, at) {
-            None => return false,
+        match gateway_above(s, at)? {
+            None => return Ok(false),
             Some(above) => at = above,
         }
         left -= 1;
     }
-    at == to
+    Ok(at == to)
 }
 
 /// Opens the face at an end of a link, whose gateway exists. After want of memory nothing is
@@ -189,7 +199,7 @@ fn open_end<K: Key>(
     let Some(at) = place_of_number(s.gateways(), gateway) else {
         unreachable!();
     };
-    let face = next_face(s.gateways()[at].rows())?;
+    let face = next_face(s.gateways()[at].rows()?)?;
     s.push_end(alloc, gateway, face)?;
     match hear_call(alloc, s, gateway, call) {
         Ok(turned) => Ok(turned),
@@ -326,12 +336,12 @@ fn spends_at<K: Key>(
 {
     match member_at(s.gateways(), gateway) {
         None => Ok(false),
-        Some(node) => spends_ids(alloc, node.rows(), call),
+        Some(node) => spends_ids(alloc, node.rows()?, call),
     }
 }
 
-/// A gateway's rows after a call that opens a face, in a box. The only error is want of memory; that
-/// the face has no number counts as such.
+/// A gateway's rows after a call that opens a face, in a box. The only error is want of memory;
+/// that the face has no number counts as such.
 fn rows_behind<K: Key>(
     alloc: Global,
     rows: &GatewayState<K>,
@@ -364,7 +374,7 @@ fn spends_behind<K: Key>(
     match member_at(s.gateways(), gateway) {
         None => Ok(false),
         Some(node) => {
-            let rows = rows_behind(alloc, node.rows(), forth)?;
+            let rows = rows_behind(alloc, node.rows()?, forth)?;
             spends_ids(alloc, &*rows, back)
         }
     }

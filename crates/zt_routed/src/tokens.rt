@@ -89,7 +89,8 @@ impl<K: Key> RoutedTokens<K> {
     /// The tokens of a region go whose router the table doesn't list.
     pub fn drop_left_out(&mut self, region: Region, table: &KeptTable)
         ensures { self.new
-            ≡ filter (λ row. not (is_left_out K.cmp region (counted_table table.now) row)) self.old }
+            ≡ filter (λ row. not (is_left_out K.cmp region (counted_table table.now) row))
+            self.old }
     {
         drop_left_out_in(&mut self.sources, region, table);
     }

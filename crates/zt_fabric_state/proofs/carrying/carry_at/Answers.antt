@@ -17,13 +17,6 @@ commit_at-requires-clause-after g c node at_ =
     ap (λ (t : Fabric _). t.gateways) (c.in_ok-turn_waiting.ensures.ok) ∙ rows_elsewhere c.args.taken c.as_slice.result.now c.prepare.new.s ∙ ap (λ (t : Fabric _). t.gateways) c.in_ok-prepared.ensures.same in
     c.in_ok-prepared.ensures.rows node (ap (λ k. nth k c.args.s.now.gateways) c.requires.counted ∙ ap (nth (c.args.at + 1)) (sym same) ∙ at_)
 
-pub commit_at-requires-clause-said : goal.commit_at-requires-clause-said
-commit_at-requires-clause-said g c node at_ =
-    let same : c.turn_waiting.new.self.gateways ≡ c.args.s.now.gateways =
-    ap (λ (t : Fabric _). t.gateways) (c.in_ok-turn_waiting.ensures.ok) ∙ rows_elsewhere c.args.taken c.as_slice.result.now c.prepare.new.s ∙ ap (λ (t : Fabric _). t.gateways) c.in_ok-prepared.ensures.same in
-    c.deref.ensures.value
-    ∙ c.in_ok-prepared.ensures.said node (ap (λ k. nth k c.args.s.now.gateways) c.requires.counted ∙ ap (nth (c.args.at + 1)) (sym same) ∙ at_)
-
 pub returns-clause-does : goal.returns-clause-does
 returns-clause-does g c =
     let s = c.args.s.now in

@@ -12,7 +12,7 @@ returns-in-Ok-clause-says g c =
     let s = c.args.s.now in
     let item = c.index-gateways-at in
     let there = member_there c.args.gateway c.args.at s.gateways c.gateways.result.now item.result c.requires.counted c.gateways.ensures c.requires.within item.is in
-    let placed = placed_next c.args.gateway item.result s c.in_ok-face.face there (c.in_ok-face.ensures ∙ ap (λ rows. rows.made + 1) c.rows.ensures) in
+    let placed = placed_next c.args.gateway item.result s c.in_ok-face.face there (c.in_ok-face.ensures ∙ ap (λ rows. rows.made + 1) c.in_ok-rows.ensures) in
     c.in-Ok.ensures.says ∙ ap (said_sorted g.K.Ord.cmp g.K.Key.matching c.args.gateway (plain_call c.args.call.now)) (c.in_ok-push_place.ensures.ok ∙ placed)
 
 pub returns-in-Ok-clause-does : goal.returns-in-Ok-clause-does
@@ -20,7 +20,7 @@ returns-in-Ok-clause-does g c =
     let s = c.args.s.now in
     let item = c.index-gateways-at in
     let there = member_there c.args.gateway c.args.at s.gateways c.gateways.result.now item.result c.requires.counted c.gateways.ensures c.requires.within item.is in
-    let placed = placed_next c.args.gateway item.result s c.in_ok-face.face there (c.in_ok-face.ensures ∙ ap (λ rows. rows.made + 1) c.rows.ensures) in
+    let placed = placed_next c.args.gateway item.result s c.in_ok-face.face there (c.in_ok-face.ensures ∙ ap (λ rows. rows.made + 1) c.in_ok-rows.ensures) in
     c.in-Ok.ensures.does ∙ ap (carried g.K.Ord.cmp g.K.Key.matching None c.args.gateway (plain_call c.args.call.now)) (c.in_ok-push_place.ensures.ok ∙ placed)
 
 pub pop_place-requires : goal.pop_place-requires

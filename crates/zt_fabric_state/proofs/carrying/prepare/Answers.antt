@@ -10,9 +10,6 @@ use Rattle.zt_fabric_state.proofs.carrying.prepare.Goals as goal
 pub returns-clause-rows : goal.returns-clause-rows
 returns-clause-rows g c node at_ = c.in_ok-ahead.ensures.state node (rw c.requires.counted at at_)
 
-pub returns-clause-said : goal.returns-clause-said
-returns-clause-said g c node at_ = c.in_ok-ahead.ensures.said node (rw c.requires.counted at at_)
-
 pub returns-clause-printed : goal.returns-clause-printed
 returns-clause-printed g c =
     let s = c.args.s.now in

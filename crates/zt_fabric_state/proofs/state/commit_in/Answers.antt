@@ -2,24 +2,16 @@ use Rattle.std.proofs.Common.{◌<◌, Some, length, arith, ap, sym, ◌∙◌}
 use Rattle.zt_protocol.specs.Plain.{plain_call}
 use Rattle.zt_model.specs.Fabric.{Node}
 use Rattle.zt_laws.specs.Sound.{rows_after_call}
-use Rattle.zt_model.specs.Says.{said}
 use Rattle.zt_places.proofs.Members.{set_at}
 use Rattle.zt_fabric_state.proofs.Members.{nth_at}
 use Rattle.zt_fabric_state.proofs.state.commit_in.Goals as goal
 
-pub commit-requires-clause-after : goal.commit-requires-clause-after
-commit-requires-clause-after g c =
+pub commit-requires : goal.commit-requires
+commit-requires g c =
     let x = c.index_mut-node.result.now in
     let within : c.args.at < length c.args.gateways.now.items = omega arith in
     c.requires.after x (nth_at c.args.at c.args.gateways.now.items x within ∙ ap (λ (y : Node _). Some y) (sym c.index_mut-node.ensures.value))
     ∙ ap (λ (y : Node _). rows_after_call g.K.Ord.cmp g.K.Key.matching (plain_call c.args.call.now) y.rows) (sym c.node.view_is)
-
-pub commit-requires-clause-said : goal.commit-requires-clause-said
-commit-requires-clause-said g c =
-    let x = c.index_mut-node.result.now in
-    let within : c.args.at < length c.args.gateways.now.items = omega arith in
-    c.requires.said x (nth_at c.args.at c.args.gateways.now.items x within ∙ ap (λ (y : Node _). Some y) (sym c.index_mut-node.ensures.value))
-    ∙ ap (λ (y : Node _). said g.K.Ord.cmp g.K.Key.matching (plain_call c.args.call.now) y.rows) (sym c.node.view_is)
 
 pub returns : goal.returns
 returns g c =

@@ -1,11 +1,13 @@
-use Rattle.std.proofs.Common.{◌≡◌, ◌+◌, None, ap, sym, ◌∙◌}
+use Rattle.std.proofs.Common.{◌≡◌, ◌+◌, ◌<◌, None, Some, length, map, ap, subst, sym, ◌∙◌}
 use Rattle.zt_protocol.specs.Plain.{plain_call}
-use Rattle.zt_model.specs.Fabric.{Fabric, with_rows}
+use Rattle.zt_model.specs.Fabric.{Fabric, Node, said_at, with_rows}
 use Rattle.zt_model.specs.Lists.{nth}
-use Rattle.zt_fabric_state.proofs.Carried.{rows_put}
-use Rattle.zt_fabric_state.proofs.PutBack.{at_nth_none}
+use Rattle.zt_laws.specs.Sound.{rows_after_call}
+use Rattle.zt_laws.proofs.Numbered.{length-at_nth}
+use Rattle.zt_laws.proofs.Sorting.{printed}
+use Rattle.zt_fabric_state.proofs.Carried.{call_there}
+use Rattle.zt_fabric_state.proofs.PutBack.{at_nth_none, put_back}
 use Rattle.zt_fabric_state.proofs.Members.{some_member}
-use Rattle.zt_fabric_state.proofs.PutBack.{put_back}
 use Rattle.zt_fabric_state.proofs.turning.hear_call.Goals as goal
 
 pub returns-in-None-clause-does : goal.returns-in-None-clause-does
@@ -14,26 +16,51 @@ returns-in-None-clause-does g c =
     let none : nth c.args.gateway s.gateways ≡ None = rw c.gateways.ensures at c.in-None.ensures.none in
     ap (λ gateways. record s { gateways = gateways }) (sym (at_nth_none c.args.gateway _ s.gateways none))
 
-pub returns-in_ok-prepared-in-Some-clause-does : goal.returns-in_ok-prepared-in-Some-clause-does
-returns-in_ok-prepared-in-Some-clause-does g c =
+pub put_rows-requires : goal.put_rows-requires
+put_rows-requires g c =
     let s = c.args.s.now in
-    let n = c.args.gateway in
-    let prepared = c.in_ok-prepared-in-Some in
-    let member = some_member n c.in-Some.at s.gateways c.in-Some.ensures.counted (rw c.gateways.ensures at c.in-Some.ensures.within) in
-    let put : c.put_rows-former.new.self ≡ with_rows n (λ _. prepared.prepared.rows) s =
-    (rw c.in-Some.ensures.counted c.put_rows-former.ensures.put) ∙ ap (with_rows n (λ _. prepared.prepared.rows)) prepared.ensures.same in
-    put
-    ∙ ap (λ gateways. record s { gateways = gateways })
-    (rows_put g.K.Ord.cmp g.K.Key.matching g.met.K.Ord.total n member.0 (plain_call c.args.call.now) s prepared.prepared.rows member.1 (prepared.ensures.rows member.0 member.1))
+    let change = rows_after_call g.K.Ord.cmp g.K.Key.matching (plain_call c.args.call.now) in
+    let within : c.in-Some.at < length s.gateways = rw c.gateways.ensures at c.in-Some.ensures.within in
+    let same : length c.turn_at.new.self.gateways ≡ length s.gateways =
+    ap (λ (t : Fabric _). length t.gateways) c.in_ok-former-in-Some.ensures.state ∙ length-at_nth (c.in-Some.at + 1) (λ (x : Node _). record x { rows = change x.rows }) s.gateways in
+    subst (λ k. c.in-Some.at < k) (sym same) within
 
-pub returns-in_ok-prepared-in-Some-clause-back : goal.returns-in_ok-prepared-in-Some-clause-back
-returns-in_ok-prepared-in-Some-clause-back g c =
+pub returns-in-Ok-clause-says : goal.returns-in-Ok-clause-says
+returns-in-Ok-clause-says g c =
     let s = c.args.s.now in
     let n = c.args.gateway in
-    let prepared = c.in_ok-prepared-in-Some in
-    let member = some_member n c.in-Some.at s.gateways c.in-Some.ensures.counted (rw c.gateways.ensures at c.in-Some.ensures.within) in
-    let put : c.put_rows-former.new.self ≡ with_rows n (λ _. prepared.prepared.rows) s =
-    (rw c.in-Some.ensures.counted c.put_rows-former.ensures.put) ∙ ap (with_rows n (λ _. prepared.prepared.rows)) prepared.ensures.same in
-    ap (with_rows n (λ _. c.put_rows-former.result)) put
-    ∙ put_back n prepared.prepared.rows c.put_rows-former.result s member.0 member.1
-    (c.put_rows-former.ensures.former member.0 (ap (λ (t : Fabric _). nth (c.in-Some.at + 1) t.gateways) prepared.ensures.same ∙ ap (λ k. nth k s.gateways) (sym c.in-Some.ensures.counted) ∙ member.1))
+    let call = plain_call c.args.call.now in
+    let turned = c.in_ok-former-in-Some in
+    let counted = c.in-Some.ensures.counted in
+    let member = some_member n c.in-Some.at s.gateways counted (rw c.gateways.ensures at c.in-Some.ensures.within) in
+    let there : nth (c.in-Some.at + 1) s.gateways ≡ Some member.0 = ap (λ k. nth k s.gateways) (sym counted) ∙ member.1 in
+    c.in-Ok.ensures
+    ∙ ap (map (printed c.places.result.now n)) c.as_slice.ensures.value
+    ∙ ap (λ (places : _). map (printed places n) turned.said.items) (c.places.ensures ∙ ap (λ (t : Fabric _). t.faces) turned.ensures.state)
+    ∙ ap (map (printed s.faces n)) (turned.ensures.said member.0 there)
+    ∙ ap (said_at g.K.Ord.cmp g.K.Key.matching s) (sym (call_there s n member.0 call member.1))
+
+pub returns-in-Ok-clause-back : goal.returns-in-Ok-clause-back
+returns-in-Ok-clause-back g c =
+    let s = c.args.s.now in
+    let n = c.args.gateway in
+    let change = rows_after_call g.K.Ord.cmp g.K.Key.matching (plain_call c.args.call.now) in
+    let turned = c.in_ok-former-in-Some in
+    let counted = c.in-Some.ensures.counted in
+    let member = some_member n c.in-Some.at s.gateways counted (rw c.gateways.ensures at c.in-Some.ensures.within) in
+    let there : nth (c.in-Some.at + 1) s.gateways ≡ Some member.0 = ap (λ k. nth k s.gateways) (sym counted) ∙ member.1 in
+    let state : c.turn_at.new.self ≡ with_rows n change s = rw counted turned.ensures.state in
+    ap (with_rows n (λ _. turned.former)) state ∙ put_back n change turned.former s member.0 member.1 (turned.ensures.former member.0 there)
+
+pub returns-clause-err : goal.returns-clause-err
+returns-clause-err g c =
+    let s = c.args.s.now in
+    let place = c.in-Some.at in
+    let change = rows_after_call g.K.Ord.cmp g.K.Key.matching (plain_call c.args.call.now) in
+    let turned = c.in_ok-former-in-Some in
+    let counted = c.in-Some.ensures.counted in
+    let member = some_member c.args.gateway place s.gateways counted (rw c.gateways.ensures at c.in-Some.ensures.within) in
+    let there : nth (place + 1) s.gateways ≡ Some member.0 = ap (λ k. nth k s.gateways) (sym counted) ∙ member.1 in
+    c.put_rows.ensures
+    ∙ ap (with_rows (place + 1) (λ _. turned.former)) turned.ensures.state
+    ∙ put_back (place + 1) change turned.former s member.0 there (turned.ensures.former member.0 there)

@@ -30,7 +30,7 @@ returns-in-Ok-clause-says g c =
     let within : c.in-Some.at < length s.gateways = rw c.gateways.ensures at c.in-Some.ensures.within in
     let there = member_there n c.in-Some.at s.gateways c.gateways-2.result.now item.result c.in-Some.ensures.counted c.gateways-2.ensures within item.is in
     let placed : c.push_end.new.self ≡ record (with_place n s) { waiting = ends } =
-    c.in_ok-push_end.ensures.ok ∙ ap (λ (t : Fabric _). record t { waiting = ends }) (placed_next n item.result s c.in_ok-face.face there (c.in_ok-face.ensures ∙ ap (λ rows. rows.made + 1) c.rows.ensures)) in
+    c.in_ok-push_end.ensures.ok ∙ ap (λ (t : Fabric _). record t { waiting = ends }) (placed_next n item.result s c.in_ok-face.face there (c.in_ok-face.ensures ∙ ap (λ rows. rows.made + 1) c.in_ok-rows.ensures)) in
     c.in-Ok.ensures.says
     ∙ ap (λ (t : Fabric _). said_at cmp matching t (call_at t n call)) placed
     ∙ said_opened cmp matching g.met.K.Ord.total n item.result call s there
@@ -47,7 +47,7 @@ returns-in-Ok-clause-does g c =
     let within : c.in-Some.at < length s.gateways = rw c.gateways.ensures at c.in-Some.ensures.within in
     let there = member_there n c.in-Some.at s.gateways c.gateways-2.result.now item.result c.in-Some.ensures.counted c.gateways-2.ensures within item.is in
     let placed : c.push_end.new.self ≡ record (with_place n s) { waiting = ends } =
-    c.in_ok-push_end.ensures.ok ∙ ap (λ (t : Fabric _). record t { waiting = ends }) (placed_next n item.result s c.in_ok-face.face there (c.in_ok-face.ensures ∙ ap (λ rows. rows.made + 1) c.rows.ensures)) in
+    c.in_ok-push_end.ensures.ok ∙ ap (λ (t : Fabric _). record t { waiting = ends }) (placed_next n item.result s c.in_ok-face.face there (c.in_ok-face.ensures ∙ ap (λ rows. rows.made + 1) c.in_ok-rows.ensures)) in
     c.in-Ok.ensures.does
     ∙ ap (with_rows n (rows_after_call cmp matching call)) placed
     ∙ ap (λ (t : Fabric _). record t { waiting = ends }) (end_turned cmp matching g.met.K.Ord.total n item.result call s there c.requires.opens c.requires.order)

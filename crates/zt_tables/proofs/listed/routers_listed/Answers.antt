@@ -5,8 +5,8 @@ use Rattle.zt_tables.specs.Lookups.{FindsNodes}
 use Rattle.zt_tables.proofs.Looked.{listed_by}
 use Rattle.zt_tables.proofs.listed.routers_listed.Goals as goal
 
-pub returns : goal.returns
-returns c =
-    IfOk-weaker c.nodes_of.result _ _
-    (λ nodes finds. listed_by nodes.entries (trees_of c.args.table.now) (subst (FindsNodes nodes.entries) c.deref.ensures.value finds))
-    c.nodes_of.ensures
+pub returns-clause-nodes : goal.returns-clause-nodes
+returns-clause-nodes c = IfOk-weaker c.nodes_of.result _ _ (λ nodes finds. subst (FindsNodes nodes.entries) c.deref.ensures.value finds) c.nodes_of.ensures
+
+pub returns-clause-listed : goal.returns-clause-listed
+returns-clause-listed c = IfOk-weaker c.nodes_of.result _ _ (λ nodes finds. listed_by nodes.entries (trees_of c.args.table.now) finds) (returns-clause-nodes c)

@@ -1,46 +1,40 @@
-use Rattle.std.proofs.Common.{◌≡◌, ◌++◌, length, ap, sym, ◌∙◌}
+use Rattle.std.proofs.Common.{◌≡◌, ◌++◌, ap, subst, sym, ◌∙◌}
 use Rattle.zt_protocol.specs.Plain.{plain_call}
+use Rattle.zt_kept.specs.Sound.{IsSound}
 use Rattle.zt_laws.specs.Sound.{rows_after_call}
-use Rattle.zt_model.specs.Says.{Sends, said}
-use Rattle.zt_gateway.specs.Running.{Planned, Running, closed_by, without_closed}
+use Rattle.zt_model.specs.Rows.{Rows}
+use Rattle.zt_model.specs.Says.{Sends}
+use Rattle.zt_gateway.specs.Running.{Planned, Running, without_closed}
 use Rattle.zt_gateway.proofs.Accepted.{rows_of_accepted}
-use Rattle.zt_gateway.proofs.LastSaid.{last_said, no_more}
 use Rattle.zt_gateway.proofs.gateway.Gateway.commit_call.Goals as goal
 
-pub catch_up-requires-clause-after : goal.catch_up-requires-clause-after
-catch_up-requires-clause-after g c =
+pub enqueue-requires-clause-fits : goal.enqueue-requires-clause-fits
+enqueue-requires-clause-fits g c =
+    let same : c.prepared.inside.before.value.waiting ≡ c.args.self.now.waiting =
+    ap (λ (p : Planned g.row.K.Denot). p.before.waiting) (c.prepared.view_is ∙ c.requires.planned) in
+    rw (← same) c.prepared.invariant.fits
+
+pub commit-requires : goal.commit-requires
+commit-requires g c =
     let cmp = g.K.Ord.cmp in
     let matching = g.K.Key.matching in
     let call = plain_call c.args.call.now in
     let before = c.args.self.now in
-    ap (λ (running : Running g.row.K.Denot). running.rows) (c.exchange-made.ensures.done ∙ ap (λ (p : Planned g.row.K.Denot). p.after) c.requires.planned)
+    ap (λ (p : Planned g.row.K.Denot). p.after.rows) (c.prepared.view_is ∙ c.requires.planned)
     ∙ sym (rows_of_accepted cmp matching call before.rows c.requires.accepted)
-    ∙ ap (rows_after_call cmp matching call) (sym c.exchange-made.ensures.former)
+    ∙ ap (rows_after_call cmp matching call) (sym (ap (λ (running : Running g.row.K.Denot). running.rows) (c.self.view_is ∙ c.enqueue.ensures)))
 
-pub catch_up-requires-clause-within : goal.catch_up-requires-clause-within
-catch_up-requires-clause-within g c =
-    let cmp = g.K.Ord.cmp in
-    let matching = g.K.Key.matching in
-    let call = plain_call c.args.call.now in
-    let rows = c.args.self.now.rows in
-    let waiting = without_closed (closed_by call) c.args.self.now.waiting in
-    let ss = said cmp matching call rows in
-    let waits : c.exchange-made.new.self.waiting ≡ waiting ++ ss =
-    ap (λ (running : Running g.row.K.Denot). running.waiting) (c.exchange-made.ensures.done ∙ ap (λ (p : Planned g.row.K.Denot). p.after) c.requires.planned) in
-    let many : length c.as_slice-messages.result.now ≡ length ss =
-    ap length c.as_slice-messages.ensures.value ∙ ap (λ (p : Planned g.row.K.Denot). length p.said) (c.prepared.view_is ∙ c.requires.planned) in
-    rw (waits, many) (no_more waiting ss)
+pub invariant_of-self : goal.invariant_of-self
+invariant_of-self g c = subst (IsSound g.K.Ord.cmp g.K.Key.matching) (sym c.commit.ensures) c.prepared.invariant.sound
 
-pub catch_up-requires-clause-said : goal.catch_up-requires-clause-said
-catch_up-requires-clause-said g c =
-    let cmp = g.K.Ord.cmp in
-    let matching = g.K.Key.matching in
-    let call = plain_call c.args.call.now in
-    let rows = c.args.self.now.rows in
-    let waiting = without_closed (closed_by call) c.args.self.now.waiting in
-    let ss = said cmp matching call rows in
-    let waits : c.exchange-made.new.self.waiting ≡ waiting ++ ss =
-    ap (λ (running : Running g.row.K.Denot). running.waiting) (c.exchange-made.ensures.done ∙ ap (λ (p : Planned g.row.K.Denot). p.after) c.requires.planned) in
-    let many : length c.as_slice-messages.result.now ≡ length ss =
-    ap length c.as_slice-messages.ensures.value ∙ ap (λ (p : Planned g.row.K.Denot). length p.said) (c.prepared.view_is ∙ c.requires.planned) in
-    rw (waits, many) (last_said waiting ss) ∙ ap (said cmp matching call) (sym c.exchange-made.ensures.former)
+pub returns-clause-done : goal.returns-clause-done
+returns-clause-done g c =
+    let inside = c.prepared.inside in
+    let same : inside.before.value.waiting ≡ c.args.self.now.waiting =
+    ap (λ (p : Planned g.row.K.Denot). p.before.waiting) (c.prepared.view_is ∙ c.requires.planned) in
+    let waits : c.self.inside.outbox.items ≡ without_closed inside.closed c.args.self.now.waiting ++ inside.said.items =
+    ap (λ (running : Running g.row.K.Denot). running.waiting) (c.self.view_is ∙ c.enqueue.ensures) in
+    let behind : Sends g.row.K.Denot → Running g.row.K.Denot = λ waiting. record { rows = inside.state; waiting = waiting } in
+    ap (λ (rows : Rows g.row.K.Denot). record (behind c.self.inside.outbox.items) { rows = rows }) c.commit.ensures
+    ∙ ap behind (waits ∙ ap (λ waiting. without_closed inside.closed waiting ++ inside.said.items) (sym same))
+    ∙ ap (λ (p : Planned g.row.K.Denot). p.after) c.prepared.view_is

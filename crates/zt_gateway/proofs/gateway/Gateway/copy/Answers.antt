@@ -1,6 +1,6 @@
-use Rattle.std.proofs.Common.{subst, sym, ◌∙◌}
+use Rattle.std.proofs.Common.{subst, sym}
 use Rattle.zt_kept.specs.Sound.{IsSound}
 use Rattle.zt_gateway.proofs.gateway.Gateway.copy.Goals as goal
 
 pub invariant_of-result : goal.invariant_of-result
-invariant_of-result g c = subst (IsSound g.K.Ord.cmp g.K.Key.matching) (sym (c.new.ensures ∙ c.in_ok-state.ensures ∙ c.state.ensures)) c.self.invariant
+invariant_of-result g c = subst (IsSound g.K.Ord.cmp g.K.Key.matching) (sym c.in_ok-kept.ensures) c.self.invariant

@@ -1,0 +1,277 @@
+// What a gateway keeps, and what it kept earlier, with the calls since.
+ghost use Rattle.std.specs.Prelude.{◌≡◌, ◌++◌, ◌∷◌, [], IfOk, IfSome, OnErr, OnOk, map};
+ghost use Rattle.zt_laws.specs.Sound.{opens_face, rows_after_call};
+ghost use Rattle.zt_model.specs.Says.{said};
+ghost use Rattle.zt_protocol.specs.Plain.{plain_call};
+ghost use Rattle.zt_restorable.specs.After.{rows_after_calls};
+
+use crate::boxed::{BoxedState, boxed_copy, exchange};
+use crate::copying::copy_call;
+use std::alloc::Global;
+use std::marker::Model;
+use zt_calls::carry_out;
+use zt_keys::{Key, Memory};
+use zt_protocol::{Call, Message};
+use zt_state::GatewayState;
+
+// How many calls there may be at least before all is copied.
+const FEWEST_CALLS: usize = 64;
+
+/// What a gateway keeps, with the way back to it: what it kept earlier, and the calls that were
+/// carried out since. A call is carried out on what the gateway keeps, in place. One that lacks
+/// memory leaves that half changed: it is dropped, and got back from what was kept earlier by the
+/// calls since, before the next call. Now and then, when the calls are as many as what is kept, all
+/// is copied, and the calls are forgotten: so they take no more memory than the copy.
+#[derive(Drop)]
+pub struct RestorableState<K: Key> {
+    // What the gateway kept earlier.
+    earlier: GatewayState<K>,
+    // The calls since.
+    calls: Vec<Call<K>>,
+    // How many calls there may be before all is copied.
+    most: usize,
+    // What the gateway keeps, unless a call lacked memory or isn't committed yet. Where there is
+    // none and no call came since, it is what was kept earlier.
+    current: Option<BoxedState<K>>,
+}
+
+impl<K: Key> Model for RestorableState<K> {
+    ghost use Rattle.std.specs.Prelude.{◌≡◌, IfSome, map};
+    ghost use Rattle.zt_model.specs.Rows.{Rows};
+    ghost use Rattle.zt_protocol.specs.Plain.{plain_call};
+    ghost use Rattle.zt_restorable.specs.After.{rows_after_calls};
+
+    ghost Value = { Rows K };
+
+    ghost view = { λ r.
+        rows_after_calls K.cmp K.matching (map plain_call r.calls.items) r.earlier };
+
+    ghost invariant = { λ r. IfSome r.current (λ now. now
+        ≡ rows_after_calls K.cmp K.matching (map plain_call r.calls.items) r.earlier) };
+}
+
+/// What a gateway keeps after a call, and what the call says. It isn't committed: the gateway
+/// itself is as before the call.
+#[derive(Drop)]
+pub struct Ahead<K: Key> {
+    pub state: BoxedState<K>,
+    pub said: Vec<(u32, Message<K>)>,
+}
+
+// Whether a call opens a face.
+fn opens_face<K: Key>(call: &Call<K>) -> bool
+    ensures { result ≡ opens_face (plain_call call.now) }
+{
+    matches!(call, Call::NewSession { .. } | Call::NewTransport { .. })
+}
+
+// Carries a call out in place, and answers what it says. Want of memory, and of a number for the
+// face that it opens, leave the state in between.
+fn carry_on<K: Key>(
+    alloc: Global,
+    state: &mut BoxedState<K>,
+    call: &Call<K>,
+) -> Result<Vec<(u32, Message<K>)>, Memory>
+    ensures state { OnOk result (state.new
+        ≡ rows_after_call K.cmp K.matching (plain_call call.now) state.old) }
+    ensures said { IfOk result (λ sends. sends.items
+        ≡ said K.cmp K.matching (plain_call call.now) state.old) }
+{
+    if opens_face(call) && state.inner.made() == u32::MAX {
+        return Err(Memory);
+    }
+    carry_out(alloc, &mut *state.inner, call)
+}
+
+// A state after calls, one behind another. The only error is want of memory, as which it counts
+// that a face has no number.
+fn after_calls<K: Key>(
+    alloc: Global,
+    earlier: &GatewayState<K>,
+    calls: &[Call<K>],
+) -> Result<BoxedState<K>, Memory>
+    ensures { IfOk result (λ state. state
+        ≡ rows_after_calls K.cmp K.matching (map plain_call calls.now) earlier.now) }
+{
+    let mut state = boxed_copy(alloc, earlier)?;
+    for call in calls {
+        let _ = carry_on(alloc, &mut state, call)?;
+    }
+    Ok(state)
+}
+
+// How many rows the faces have: how much is copied with a state.
+fn rows_at_faces<K: Key>(state: &GatewayState<K>) -> usize {
+    let mut rows = 0usize;
+    for f in state.faces() {
+        let own = f
+            .told()
+            .places()
+            .len()
+            .saturating_add(f.live().iter().count());
+        rows = rows.saturating_add(own).saturating_add(1);
+    }
+    rows
+}
+
+// A call behind others. The only error is want of memory, and then the others stay.
+fn push_call<K: Key>(alloc: Global, calls: &mut Vec<Call<K>>, call: &Call<K>) -> Result<(), Memory>
+    ensures ok { OnOk result (map plain_call calls.new.items
+        ≡ map plain_call calls.old.items ++ plain_call call.now ∷ []) }
+    ensures err { OnErr result (calls.new.items ≡ calls.old.items) }
+{
+    calls.push(copy_call(alloc, call)?)?;
+    Ok(())
+}
+
+// Equal calls. The only error is want of memory.
+fn copy_calls<K: Key>(alloc: Global, calls: &[Call<K>]) -> Result<Vec<Call<K>>, Memory>
+    ensures { IfOk result (λ copies. map plain_call copies.items ≡ map plain_call calls.now) }
+{
+    let mut copies = Vec::new(alloc);
+    for call in calls {
+        copies.push(copy_call(alloc, call)?)?;
+    }
+    Ok(copies)
+}
+
+/// What a gateway kept before a call, and what the call says.
+#[derive(Drop)]
+pub struct Turn<K: Key> {
+    pub former: BoxedState<K>,
+    pub said: Vec<(u32, Message<K>)>,
+}
+
+impl<K: Key> RestorableState<K> {
+    /// A state that no call came to yet.
+    pub fn new(alloc: Global, state: GatewayState<K>) -> Self
+        ensures { result ≡ state }
+    {
+        RestorableState {
+            earlier: state,
+            calls: Vec::new(alloc),
+            most: FEWEST_CALLS,
+            current: None,
+        }
+    }
+
+    /// What the gateway keeps; `None` after a call that lacked memory, or isn't committed yet,
+    /// until it is restored.
+    pub fn state(&self) -> Option<&GatewayState<K>>
+        ensures { IfSome result (λ state. state.now ≡ self.now) }
+    {
+        match &self.current {
+            Some(current) => Some(&*current.inner),
+            None if self.calls.is_empty() => Some(&self.earlier),
+            None => None,
+        }
+    }
+
+    /// What the gateway keeps, made anew: a copy of what it kept earlier, and the calls since. The
+    /// only error is want of memory.
+    pub fn restored(&self, alloc: Global) -> Result<BoxedState<K>, Memory>
+        ensures { IfOk result (λ state. state ≡ self.now) }
+    {
+        after_calls(alloc, &self.earlier, &self.calls)
+    }
+
+    /// What the gateway keeps is there again. The only error is want of memory.
+    pub fn restore(&mut self, alloc: Global) -> Result<(), Memory>
+        ensures { self.new ≡ self.old }
+    {
+        if self.current.is_none() {
+            self.current = Some(self.restored(alloc)?);
+        }
+        Ok(())
+    }
+
+    // Copies all, where the calls are as many as what was kept, and forgets them. The only error is
+    // want of memory.
+    fn save(&mut self, alloc: Global) -> Result<(), Memory>
+        ensures { self.new ≡ self.old }
+    {
+        if self.calls.len() < self.most {
+            return Ok(());
+        }
+        let Some(current) = &self.current else {
+            return Ok(());
+        };
+        let mut copy = boxed_copy(alloc, &*current.inner)?;
+        self.most = FEWEST_CALLS.saturating_add(rows_at_faces(&*current.inner));
+        exchange(&mut self.earlier, &mut copy);
+        self.calls.clear();
+        Ok(())
+    }
+
+    /// Carries a call out on what the gateway keeps, which isn't committed: the gateway is as
+    /// before the call. The only error is want of memory; that there is no number for a face that
+    /// the call opens counts as such.
+    pub fn prepare(&mut self, alloc: Global, call: &Call<K>) -> Result<Ahead<K>, Memory>
+        ensures state { IfOk result (λ ahead. ahead.state
+            ≡ rows_after_call K.cmp K.matching (plain_call call.now) self.old) }
+        ensures said { IfOk result (λ ahead. ahead.said.items
+            ≡ said K.cmp K.matching (plain_call call.now) self.old) }
+        ensures same { self.new ≡ self.old }
+    {
+        self.restore(alloc)?;
+        self.save(alloc)?;
+        let Some(mut state) = self.current.take() else {
+            return Err(Memory);
+        };
+        let said = carry_on(alloc, &mut state, call)?;
+        Ok(Ahead { state, said })
+    }
+
+    /// Replaces what the gateway keeps. The next call copies it.
+    pub fn put(&mut self, mut state: BoxedState<K>)
+        ensures { self.new ≡ state }
+    {
+        exchange(&mut self.earlier, &mut state);
+        self.calls.clear();
+        self.current = None;
+    }
+
+    /// The gateway keeps what a call that was prepared leaves. Where memory lacks for what brings
+    /// it back, the next call copies it.
+    pub fn commit(&mut self, alloc: Global, state: BoxedState<K>, call: &Call<K>)
+        requires { state ≡ rows_after_call K.cmp K.matching (plain_call call.now) self.old }
+        ensures { self.new ≡ state }
+    {
+        match push_call(alloc, &mut self.calls, call) {
+            Ok(()) => self.current = Some(state),
+            Err(_) => self.put(state),
+        }
+    }
+
+    /// Carries a call out for a line that may fail yet: beside what the gateway kept before, which
+    /// is answered. After want of memory the gateway is as before.
+    pub fn turn(&mut self, alloc: Global, call: &Call<K>) -> Result<Turn<K>, Memory>
+        ensures state { OnOk result (self.new
+            ≡ rows_after_call K.cmp K.matching (plain_call call.now) self.old) }
+        ensures former { IfOk result (λ turn. turn.former ≡ self.old) }
+        ensures said { IfOk result (λ turn. turn.said.items
+            ≡ said K.cmp K.matching (plain_call call.now) self.old) }
+        ensures err { OnErr result (self.new ≡ self.old) }
+    {
+        self.restore(alloc)?;
+        let Some(former) = self.current.take() else {
+            return Err(Memory);
+        };
+        let mut state = boxed_copy(alloc, &*former.inner)?;
+        let said = carry_on(alloc, &mut state, call)?;
+        self.put(state);
+        Ok(Turn { former, said })
+    }
+
+    /// An equal state. The only error is want of memory.
+    pub fn copy(&self, alloc: Global) -> Result<Self, Memory>
+        ensures { IfOk result (λ copy. copy ≡ self.now) }
+    {
+        Ok(RestorableState {
+            earlier: self.earlier.copy(alloc)?,
+            calls: copy_calls(alloc, &self.calls)?,
+            most: self.most,
+            current: Some(self.restored(alloc)?),
+        })
+    }
+}

@@ -1,0 +1,4 @@
+mod Changed
+mod Copied
+mod Ordered
+mod Pairs

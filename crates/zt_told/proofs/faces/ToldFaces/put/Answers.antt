@@ -1,0 +1,16 @@
+use Rattle.std.proofs.Common.{Err, Ok, OnErr, OnOk, Result, subst}
+use Rattle.zt_told.specs.Held.{pairs_of}
+use Rattle.zt_told.specs.Told.{AreRising}
+use Rattle.zt_told.proofs.Pairs.{rising-put}
+use Rattle.zt_told.proofs.faces.ToldFaces.put.Goals as goal
+
+either : {T E P Q G : Type 0} (r : Result T E) → OnOk r P → OnErr r Q → (P → G) → (Q → G) → G
+either (Ok x) p q ok err = ok p
+either (Err x) p q ok err = err q
+
+pub invariant_of-self-in-More : goal.invariant_of-self-in-More
+invariant_of-self-in-More c =
+    let rising = subst (λ faces. AreRising (pairs_of faces)) c.in-More.is c.self.invariant in
+    either c.put_in.result c.put_in.ensures.ok c.put_in.ensures.err
+    (λ put. rw (put, c.deref_mut.ensures.value) (rising-put c.args.face c.args.id c.in-More.pairs.value.items rising))
+    (λ stayed. rw (stayed, c.deref_mut.ensures.value) rising)

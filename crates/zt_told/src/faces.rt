@@ -1,0 +1,193 @@
+// The faces that were told one expression.
+ghost use Rattle.std.specs.Prelude.{◌≡◌, ℕ, ◌==◌, ◌++◌, ◌∷◌, [], length, true, IfOk, OnErr, OnOk};
+ghost use Rattle.zt_told.specs.Held.{pairs_of};
+ghost use Rattle.zt_told.specs.Told.{AreRising, id_of, with_face, without_face};
+
+use std::alloc::Global;
+use std::cmp::Ordering;
+use std::marker::Model;
+use std::slice;
+use zt_keys::Memory;
+use zt_ordered::place_of;
+
+// Whether the face is above those of all pairs, so that its pair goes behind them.
+fn is_above(pairs: &[(u32, u32)], face: u32) -> bool
+    requires { AreRising pairs.now }
+    ensures { result ≡ true → (id : ℕ) →
+        with_face face id pairs.now ≡ pairs.now ++ (face, id) ∷ [] }
+{
+    match pairs.last() {
+        None => true,
+        Some(last) => last.0 < face,
+    }
+}
+
+// The id of the face. A search by halves.
+fn find_in(pairs: &[(u32, u32)], face: u32) -> Option<u32>
+    requires { AreRising pairs.now }
+    ensures { result ≡ id_of face pairs.now }
+{
+    match place_of(pairs, &face) {
+        Ok(place) => Some(pairs[place].1),
+        Err(_) => None,
+    }
+}
+
+// The face with the id, in its place, instead of the id that it had. Faces mostly come in order, so
+// the end is tried first. The only error is want of memory, and then the pairs stay.
+fn put_in(pairs: &mut Vec<(u32, u32)>, face: u32, id: u32) -> Result<(), Memory>
+    requires { AreRising pairs.old.items }
+    ensures ok { OnOk result (pairs.new.items ≡ with_face face id pairs.old.items) }
+    ensures err { OnErr result (pairs.new.items ≡ pairs.old.items) }
+{
+    if is_above(pairs.as_slice(), face) {
+        pairs.push((face, id))?;
+        return Ok(());
+    }
+    match place_of(pairs.as_slice(), &face) {
+        Ok(place) => pairs[place].1 = id,
+        Err(place) => pairs.insert(place, (face, id))?,
+    }
+    Ok(())
+}
+
+// The pair of the face goes, if it has one.
+fn remove_in(pairs: &mut Vec<(u32, u32)>, face: u32)
+    requires { AreRising pairs.old.items }
+    ensures { pairs.new.items ≡ without_face face pairs.old.items }
+{
+    if let Ok(place) = place_of(pairs.as_slice(), &face) {
+        pairs.remove(place);
+    }
+}
+
+// The faces that were told an expression: none, or one alone, as mostly, or those in a box, which
+// keeps this small where there is one.
+#[derive(Drop)]
+enum Faces {
+    Empty,
+    One((u32, u32)),
+    More(Box<Vec<(u32, u32)>>),
+}
+
+// Two pairs. The only error is want of memory.
+fn two(alloc: Global, first: (u32, u32), second: (u32, u32)) -> Result<Faces, Memory>
+    ensures { IfOk result (λ faces. pairs_of faces ≡ first ∷ second ∷ []) }
+{
+    let pairs = vec![in alloc; first, second]?;
+    Ok(Faces::More(Box::new(alloc, pairs)?))
+}
+
+// The face with the id, beside one pair or instead of it. The only error is want of memory.
+fn beside_one(alloc: Global, pair: (u32, u32), face: u32, id: u32) -> Result<Faces, Memory>
+    ensures { IfOk result (λ faces. pairs_of faces ≡ with_face face id (pair ∷ [])) }
+{
+    match face.cmp(&pair.0) {
+        Ordering::Less => two(alloc, (face, id), pair),
+        Ordering::Equal => Ok(Faces::One((face, id))),
+        Ordering::Greater => two(alloc, pair, (face, id)),
+    }
+}
+
+/// The faces that were told an expression, each once with the id under which it was told, in order
+/// of the face's number. One face takes no memory beside the struct, since mostly there is no
+/// other. More are in a box: these stand side by side in tables, and are many.
+#[derive(Drop)]
+pub(crate) struct ToldFaces {
+    faces: Faces,
+}
+
+impl Model for ToldFaces {
+    ghost use Rattle.std.specs.Prelude.{ℕ, List};
+    ghost use Rattle.zt_told.specs.Held.{pairs_of};
+    ghost use Rattle.zt_told.specs.Told.{AreRising};
+
+    ghost Value = { List (ℕ × ℕ) };
+
+    ghost view = { λ t. pairs_of t.faces };
+
+    ghost invariant = { λ t. AreRising (pairs_of t.faces) };
+}
+
+impl ToldFaces {
+    /// One face, with its id. It takes no memory.
+    pub(crate) fn one(face: u32, id: u32) -> Self
+        ensures { result ≡ (face, id) ∷ [] }
+    {
+        ToldFaces {
+            faces: Faces::One((face, id)),
+        }
+    }
+
+    /// The pairs of face and id, in order of face, each face once.
+    pub(crate) fn as_slice(&self) -> &[(u32, u32)]
+        ensures pairs { result.now ≡ self.now }
+        ensures in_order { AreRising result.now }
+    {
+        match &self.faces {
+            Faces::Empty => &[],
+            Faces::One(pair) => slice::from_ref(pair),
+            Faces::More(pairs) => pairs.as_slice(),
+        }
+    }
+
+    /// The id under which the face was told. A search by halves.
+    pub(crate) fn id_of(&self, face: u32) -> Option<u32>
+        ensures { result ≡ id_of face self.now }
+    {
+        find_in(self.as_slice(), face)
+    }
+
+    /// Whether there is no face.
+    pub(crate) fn is_empty(&self) -> bool
+        ensures { result ≡ (length self.now == 0) }
+    {
+        self.as_slice().is_empty()
+    }
+
+    /// The face was told under the id, and no more under the one that it had. The only error is
+    /// want of memory, and then the faces stay.
+    pub(crate) fn put(&mut self, alloc: Global, face: u32, id: u32) -> Result<(), Memory>
+        ensures ok { OnOk result (self.new ≡ with_face face id self.old) }
+        ensures err { OnErr result (self.new ≡ self.old) }
+    {
+        match &mut self.faces {
+            Faces::Empty => {
+                self.faces = Faces::One((face, id));
+                Ok(())
+            }
+            Faces::One(pair) => {
+                self.faces = beside_one(alloc, *pair, face, id)?;
+                Ok(())
+            }
+            Faces::More(pairs) => put_in(pairs, face, id),
+        }
+    }
+
+    /// The face goes, if it is here.
+    pub(crate) fn remove(&mut self, face: u32)
+        ensures { self.new ≡ without_face face self.old }
+    {
+        match &mut self.faces {
+            Faces::Empty => {}
+            Faces::One(pair) => {
+                if face == pair.0 {
+                    self.faces = Faces::Empty;
+                }
+            }
+            Faces::More(pairs) => remove_in(pairs, face),
+        }
+    }
+
+    /// Equal faces. The only error is want of memory.
+    pub(crate) fn copy(&self, alloc: Global) -> Result<Self, Memory>
+        ensures { IfOk result (λ copy. copy ≡ self.now) }
+    {
+        let faces = match &self.faces {
+            Faces::Empty => Faces::Empty,
+            Faces::One(pair) => Faces::One(*pair),
+            Faces::More(pairs) => Faces::More(Box::new(alloc, pairs.to_vec(alloc)?)?),
+        };
+        Ok(ToldFaces { faces })
+    }
+}

@@ -1,0 +1,166 @@
+// What faces were told, by expression.
+ghost use Rattle.std.specs.Prelude.{◌≡◌, [], false, true, IfOk, OnErr, OnOk};
+ghost use Rattle.zt_told.specs.Held.{IsWith, IsWithout};
+ghost use Rattle.zt_told.specs.Told.{AreRising, ChangesAt, HasFacesOrNoKey};
+ghost use Rattle.zt_told.specs.Told.{id_of, told_at, with_face, without_face};
+
+use crate::faces::ToldFaces;
+use std::alloc::Global;
+use std::collections::HashMap;
+use std::marker::Model;
+use zt_keys::{Key, Memory};
+
+/// The faces that were told each expression and not told that it is gone, each with the id under
+/// which it was told: found by expression.
+///
+/// Contracts see the expressions in key order, each with its pairs of face and id, so that two
+/// indexes in which the same is found are equal. The pairs of an expression stand in order of face.
+#[derive(Drop)]
+pub struct ToldIndex<K: Key> {
+    faces: HashMap<K, ToldFaces>,
+}
+
+impl<K: Key> Model for ToldIndex<K> {
+    ghost use Rattle.std.specs.Prelude.{ℕ, List};
+    ghost use Rattle.zt_told.specs.Held.{index_in_order};
+
+    ghost Value = { List (K × List (ℕ × ℕ)) };
+
+    ghost view = { λ t. index_in_order K.cmp t.faces.entries };
+}
+
+// The pairs of the expression.
+fn pairs_at<'a, K: Key>(faces: &'a HashMap<K, ToldFaces>, expr: &K) -> &'a [(u32, u32)]
+    ensures pairs { result.now ≡ told_at K.cmp expr.now faces.now.entries }
+    ensures in_order { AreRising result.now }
+{
+    match faces.get(expr) {
+        None => &[],
+        Some(told) => told.as_slice(),
+    }
+}
+
+// The id under which the face was told the expression.
+fn find_at<K: Key>(faces: &HashMap<K, ToldFaces>, expr: &K, face: u32) -> Option<u32>
+    ensures { result ≡ id_of face (told_at K.cmp expr.now faces.now.entries) }
+{
+    match faces.get(expr) {
+        None => None,
+        Some(told) => told.id_of(face),
+    }
+}
+
+// These faces stand under a copy of the expression. The only error is want of memory, and then all
+// stays.
+fn put_faces<K: Key>(
+    alloc: Global,
+    faces: &mut HashMap<K, ToldFaces>,
+    expr: &K,
+    told: ToldFaces,
+) -> Result<(), Memory>
+    ensures with { OnOk result (IsWith K.cmp expr.now told faces.old.entries faces.new.entries) }
+    ensures err { OnErr result (faces.new.entries ≡ faces.old.entries) }
+{
+    drop(faces.insert(expr.copy(alloc)?, told)?);
+    Ok(())
+}
+
+// The face was told the expression under the id. The only error is want of memory, and then all
+// stays.
+fn put_at<K: Key>(
+    alloc: Global,
+    faces: &mut HashMap<K, ToldFaces>,
+    expr: &K,
+    face: u32,
+    id: u32,
+) -> Result<(), Memory>
+    ensures ok { OnOk result (ChangesAt K.cmp expr.now (with_face face id)
+        faces.old.entries faces.new.entries) }
+    ensures err { OnErr result (faces.new.entries ≡ faces.old.entries) }
+{
+    match faces.get_mut(expr) {
+        Some(told) => told.put(alloc, face, id),
+        None => put_faces(alloc, faces, expr, ToldFaces::one(face, id)),
+    }
+}
+
+// The face goes at the expression. Whether none is left there.
+fn drop_at<K: Key>(faces: &mut HashMap<K, ToldFaces>, expr: &K, face: u32) -> bool
+    ensures drops { ChangesAt K.cmp expr.now (without_face face)
+        faces.old.entries faces.new.entries }
+    ensures last { result ≡ true → told_at K.cmp expr.now faces.new.entries ≡ [] }
+    ensures not_last { result ≡ false → HasFacesOrNoKey K.cmp expr.now faces.new.entries }
+{
+    match faces.get_mut(expr) {
+        None => false,
+        Some(told) => {
+            told.remove(face);
+            told.is_empty()
+        }
+    }
+}
+
+// The expression goes.
+fn drop_key<K: Key>(faces: &mut HashMap<K, ToldFaces>, expr: &K)
+    ensures { IsWithout K.cmp expr.now faces.old.entries faces.new.entries }
+{
+    drop(faces.remove(expr));
+}
+
+impl<K: Key> ToldIndex<K> {
+    /// No face was told anything. It takes no memory.
+    pub fn new(alloc: Global) -> Self
+        ensures { result ≡ [] }
+    {
+        ToldIndex {
+            faces: HashMap::new(alloc),
+        }
+    }
+
+    /// The faces that were told the expression, each with its id, in order of face. A look-up.
+    pub fn at(&self, expr: &K) -> &[(u32, u32)]
+        ensures told { result.now ≡ told_at K.cmp expr.now self.now }
+        ensures in_order { AreRising result.now }
+    {
+        pairs_at(&self.faces, expr)
+    }
+
+    /// The id under which the face was told the expression, if it was. A look-up, and a search by
+    /// halves.
+    pub fn id_at(&self, expr: &K, face: u32) -> Option<u32>
+        ensures { result ≡ id_of face (told_at K.cmp expr.now self.now) }
+    {
+        find_at(&self.faces, expr, face)
+    }
+
+    /// The face was told the expression under the id, which stands instead of one that it had. The
+    /// only error is want of memory, and then the index stays.
+    pub fn tell(&mut self, alloc: Global, expr: &K, face: u32, id: u32) -> Result<(), Memory>
+        ensures ok { OnOk result (ChangesAt K.cmp expr.now (with_face face id) self.old self.new) }
+        ensures err { OnErr result (self.new ≡ self.old) }
+    {
+        put_at(alloc, &mut self.faces, expr, face, id)
+    }
+
+    /// The face was told that the expression is gone. With its last face an expression goes.
+    pub fn untell(&mut self, expr: &K, face: u32)
+        ensures less { ChangesAt K.cmp expr.now (without_face face) self.old self.new }
+        ensures tidy { HasFacesOrNoKey K.cmp expr.now self.new }
+    {
+        if drop_at(&mut self.faces, expr, face) {
+            drop_key(&mut self.faces, expr);
+        }
+    }
+
+    /// An equal index. The only error is want of memory.
+    pub fn copy(&self, alloc: Global) -> Result<Self, Memory>
+        ensures { IfOk result (λ copy. copy ≡ self.now) }
+    {
+        let mut faces = HashMap::new(alloc);
+        for (expr, told) in &self.faces {
+            let copy = told.copy(alloc)?;
+            put_faces(alloc, &mut faces, expr, copy)?;
+        }
+        Ok(ToldIndex { faces })
+    }
+}
