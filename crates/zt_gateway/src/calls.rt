@@ -8,13 +8,14 @@ ghost use Rattle.zt_protocol.specs.Plain.{CloseFace, DeclareFinal, DeclareToken,
 ghost use Rattle.zt_protocol.specs.Plain.{InterestFinal, NewSession, NewTransport, SetEntities};
 ghost use Rattle.zt_protocol.specs.Plain.{SetTrees, UndeclareToken, plain_call, trees_of};
 
-use crate::copies::{copy_keys, copy_option, copy_queryables};
+use crate::copies::copy_option;
 use crate::gateway::Gateway;
 use zt_keys::Key;
 use zt_protocol::{
     Call, CallError, InterestId, InterestMode, InterestOptions, QueryableInfo, TokenId, TreeTable,
 };
 use zt_region::{Bound, NodeId, Region, WhatAmI, Zid};
+use zt_restorable::{copy_keys, copy_queryables};
 
 impl<K: Key> Gateway<K> {
     // Carries out a call that makes no face.

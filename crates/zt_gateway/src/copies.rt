@@ -3,7 +3,7 @@ ghost use Rattle.std.specs.Prelude.{◌≡◌, IfOk, option_copied};
 
 use std::alloc::Global;
 use zt_keys::{Key, Memory};
-use zt_protocol::{Message, QueryableInfo};
+use zt_protocol::Message;
 
 // Copies of messages. The only error is want of memory.
 pub(crate) fn copy_messages<K: Key>(
@@ -27,29 +27,4 @@ pub(crate) fn copy_option<K: Key>(alloc: Global, expr: Option<&K>) -> Result<Opt
         None => Ok(None),
         Some(key) => Ok(Some(key.copy(alloc)?)),
     }
-}
-
-/// Copies of keys, in their order. The only error is want of memory.
-pub fn copy_keys<K: Key>(alloc: Global, keys: &[K]) -> Result<Vec<K>, Memory>
-    ensures { IfOk result (λ copies. copies.items ≡ keys.now) }
-{
-    let mut copies = Vec::new(alloc);
-    for key in keys {
-        copies.push(key.copy(alloc)?)?;
-    }
-    Ok(copies)
-}
-
-/// Copies of queryables with their keys, in their order. The only error is want of memory.
-pub fn copy_queryables<K: Key>(
-    alloc: Global,
-    queryables: &[(K, QueryableInfo)],
-) -> Result<Vec<(K, QueryableInfo)>, Memory>
-    ensures { IfOk result (λ copies. copies.items ≡ queryables.now) }
-{
-    let mut copies = Vec::new(alloc);
-    for queryable in queryables {
-        copies.push((queryable.0.copy(alloc)?, queryable.1))?;
-    }
-    Ok(copies)
 }

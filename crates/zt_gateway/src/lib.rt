@@ -17,7 +17,6 @@ mod sourced;
 mod tests;
 
 pub use builder::GatewayBuilder;
-pub use copies::{copy_keys, copy_queryables};
 pub use gateway::Gateway;
 pub use prepared::Prepared;
 pub use sourced::Sources;

@@ -8,12 +8,12 @@ ghost use Rattle.zt_protocol.specs.Plain.{PlainCall, plain_call, plain_line, tre
 ghost use Rattle.zt_laws.specs.Sound.{opens_face};
 ghost use Rattle.zt_links.specs.Lines.{is_opening, made_at};
 
-use crate::copying::{copy_keys, copy_queryables};
 use std::alloc::Global;
 use std::marker::Model;
 use zt_fabric_state::{FabricState, oldest, speaking_end};
 use zt_keys::{Key, Memory};
 use zt_protocol::{Call, Line, Message, TreeTable, copy_expression};
+use zt_restorable::{copy_call, copy_keys, copy_queryables};
 
 /// A call, and the number of the gateway that it is made on.
 #[derive(Drop)]
@@ -46,35 +46,6 @@ pub(crate) fn face_of<K: Key>(call: &Call<K>) -> Option<u32>
         Call::SetEntities { face, .. } => Some(*face),
         _ => None,
     }
-}
-
-/// An equal call, of one that names no face. The only error is want of memory.
-fn copy_call<K: Key>(alloc: Global, call: &Call<K>) -> Result<Call<K>, Memory>
-    requires { call_face (plain_call call.now) ≡ None }
-    ensures { IfOk result (λ copy. plain_call copy ≡ plain_call call.now) }
-{
-    Ok(match call {
-        Call::NewSession { first } => Call::NewSession { first: *first },
-        Call::NewTransport {
-            zid,
-            whatami,
-            region,
-            remote_bound,
-            first,
-        } => Call::NewTransport {
-            zid: *zid,
-            whatami: *whatami,
-            region: *region,
-            remote_bound: *remote_bound,
-            first: *first,
-        },
-        Call::Expire { now } => Call::Expire { now: *now },
-        Call::SetTrees { region, table } => Call::SetTrees {
-            region: *region,
-            table: table.copy(alloc)?,
-        },
-        _ => unreachable!(),
-    })
 }
 
 /// A copy of the call, where the face has another number. The only error is want of memory.

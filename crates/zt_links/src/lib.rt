@@ -5,7 +5,6 @@
 mod accepting;
 mod calls;
 mod causes;
-mod copying;
 mod deciding;
 mod ends;
 mod fabric;

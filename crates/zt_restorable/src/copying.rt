@@ -1,4 +1,4 @@
-// Copies of calls.
+// Copies of calls, and of the lists that they hold.
 ghost use Rattle.std.specs.Prelude.{◌≡◌, IfOk};
 ghost use Rattle.zt_protocol.specs.Plain.{plain_call};
 
@@ -6,8 +6,8 @@ use std::alloc::Global;
 use zt_keys::{Key, Memory};
 use zt_protocol::{Call, QueryableInfo, copy_expression};
 
-// Equal keys. The only error is want of memory.
-fn copy_keys<K: Key>(alloc: Global, keys: &[K]) -> Result<Vec<K>, Memory>
+/// Equal keys. The only error is want of memory.
+pub fn copy_keys<K: Key>(alloc: Global, keys: &[K]) -> Result<Vec<K>, Memory>
     ensures { IfOk result (λ copies. copies.items ≡ keys.now) }
 {
     let mut copies = Vec::new(alloc);
@@ -17,8 +17,8 @@ fn copy_keys<K: Key>(alloc: Global, keys: &[K]) -> Result<Vec<K>, Memory>
     Ok(copies)
 }
 
-// Equal queryables. The only error is want of memory.
-fn copy_queryables<K: Key>(
+/// Equal queryables. The only error is want of memory.
+pub fn copy_queryables<K: Key>(
     alloc: Global,
     queryables: &[(K, QueryableInfo)],
 ) -> Result<Vec<(K, QueryableInfo)>, Memory>

@@ -7,5 +7,5 @@ mod copying;
 mod restorable;
 
 pub use boxed::BoxedState;
-pub use copying::copy_call;
-pub use restorable::{Ahead, RestorableState};
+pub use copying::{copy_call, copy_keys, copy_queryables};
+pub use restorable::{Ahead, RestorableState, Turn};

@@ -11,25 +11,25 @@ use std::alloc::Global;
 use std::marker::Model;
 use zt_calls::carry_out;
 use zt_keys::{Key, Memory};
-use zt_protocol::{Call, Message};
+use zt_protocol::{Call, Message, TreeTable};
 use zt_state::GatewayState;
 
-// How many calls there may be at least before all is copied.
-const FEWEST_CALLS: usize = 64;
+// How much calls may hold at least before all is copied.
+const LEAST_HELD: usize = 64;
 
 /// What a gateway keeps, with the way back to it: what it kept earlier, and the calls that were
 /// carried out since. A call is carried out on what the gateway keeps, in place. One that lacks
 /// memory leaves that half changed: it is dropped, and got back from what was kept earlier by the
-/// calls since, before the next call. Now and then, when the calls are as many as what is kept, all
-/// is copied, and the calls are forgotten: so they take no more memory than the copy.
+/// calls since, before the next call. When the calls hold as much as what is kept, all is copied,
+/// and the calls are forgotten: so they take about as much memory as the copy, at most.
 #[derive(Drop)]
 pub struct RestorableState<K: Key> {
     // What the gateway kept earlier.
     earlier: GatewayState<K>,
     // The calls since.
     calls: Vec<Call<K>>,
-    // How many calls there may be before all is copied.
-    most: usize,
+    // How much more calls may hold before all is copied: as much as what is kept had rows.
+    left: usize,
     // What the gateway keeps, unless a call lacked memory or isn't committed yet. Where there is
     // none and no call came since, it is what was kept earlier.
     current: Option<BoxedState<K>>,
@@ -100,8 +100,30 @@ fn after_calls<K: Key>(
     Ok(state)
 }
 
-// How many rows the faces have: how much is copied with a state.
-fn rows_at_faces<K: Key>(state: &GatewayState<K>) -> usize {
+// How many entries a table has.
+fn entries_in(table: &TreeTable) -> usize {
+    let lists = table.routers.len().saturating_add(table.links.len());
+    lists.saturating_add(table.children.len())
+}
+
+// How much a call holds, in rows.
+fn held_by<K: Key>(call: &Call<K>) -> usize {
+    match call {
+        Call::SetTrees { table, .. } => entries_in(table).saturating_add(1),
+        Call::SetEntities {
+            subscribers,
+            queryables,
+            ..
+        } => subscribers
+            .len()
+            .saturating_add(queryables.len())
+            .saturating_add(1),
+        _ => 1,
+    }
+}
+
+// How many rows a gateway keeps: how much is copied with it.
+fn rows_in<K: Key>(state: &GatewayState<K>) -> usize {
     let mut rows = 0usize;
     for f in state.faces() {
         let own = f
@@ -110,6 +132,12 @@ fn rows_at_faces<K: Key>(state: &GatewayState<K>) -> usize {
             .len()
             .saturating_add(f.live().iter().count());
         rows = rows.saturating_add(own).saturating_add(1);
+    }
+    for (_, table) in state.trees() {
+        rows = rows.saturating_add(entries_in(table.table()));
+    }
+    for (_, keys) in state.routed().by_origin() {
+        rows = rows.saturating_add(keys.len());
     }
     rows
 }
@@ -150,7 +178,7 @@ impl<K: Key> RestorableState<K> {
         RestorableState {
             earlier: state,
             calls: Vec::new(alloc),
-            most: FEWEST_CALLS,
+            left: LEAST_HELD,
             current: None,
         }
     }
@@ -185,19 +213,19 @@ impl<K: Key> RestorableState<K> {
         Ok(())
     }
 
-    // Copies all, where the calls are as many as what was kept, and forgets them. The only error is
-    // want of memory.
+    // Copies all, where the calls hold as much as what was kept, and forgets them. The only error
+    // is want of memory.
     fn save(&mut self, alloc: Global) -> Result<(), Memory>
         ensures { self.new ≡ self.old }
     {
-        if self.calls.len() < self.most {
+        if self.left > 0 {
             return Ok(());
         }
         let Some(current) = &self.current else {
             return Ok(());
         };
         let mut copy = boxed_copy(alloc, &*current.inner)?;
-        self.most = FEWEST_CALLS.saturating_add(rows_at_faces(&*current.inner));
+        self.left = LEAST_HELD.saturating_add(rows_in(&*current.inner));
         exchange(&mut self.earlier, &mut copy);
         self.calls.clear();
         Ok(())
@@ -228,6 +256,7 @@ impl<K: Key> RestorableState<K> {
     {
         exchange(&mut self.earlier, &mut state);
         self.calls.clear();
+        self.left = LEAST_HELD;
         self.current = None;
     }
 
@@ -238,7 +267,10 @@ impl<K: Key> RestorableState<K> {
         ensures { self.new ≡ state }
     {
         match push_call(alloc, &mut self.calls, call) {
-            Ok(()) => self.current = Some(state),
+            Ok(()) => {
+                self.left = self.left.saturating_sub(held_by(call));
+                self.current = Some(state);
+            }
             Err(_) => self.put(state),
         }
     }
@@ -270,7 +302,7 @@ impl<K: Key> RestorableState<K> {
         Ok(RestorableState {
             earlier: self.earlier.copy(alloc)?,
             calls: copy_calls(alloc, &self.calls)?,
-            most: self.most,
+            left: self.left,
             current: Some(self.restored(alloc)?),
         })
     }
