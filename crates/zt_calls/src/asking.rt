@@ -62,9 +62,9 @@ fn ask_at_face<K: Key>(
         g.old g.new speech.old speech.new) }
 {
     g.ask(alloc, face, id, interest, pendings)?;
-    let answers = speech.if_heard(alloc, || answer_interest(alloc, g, face, id, interest))?;
+    let answers = answer_interest(alloc, g, face, id, interest)?;
     say(alloc, g, speech, answers)?;
-    let finals = speech.if_heard(alloc, || final_of(alloc, g, face, id))?;
+    let finals = final_of(alloc, g, face, id)?;
     say(alloc, g, speech, finals)
 }
 
@@ -85,9 +85,9 @@ pub(crate) fn ask<K: Key>(
 {
     let pendings = sent_as(alloc, g, asker, interest.mode())?;
     number_interest(alloc, g, interest)?;
-    let routed = speech.if_heard(alloc, || route(alloc, g, asker, interest))?;
+    let routed = route(alloc, g, asker, interest)?;
     say(alloc, g, speech, routed)?;
-    let entities = speech.if_heard(alloc, || answer_entities(alloc, g, face, id, interest))?;
+    let entities = answer_entities(alloc, g, face, id, interest)?;
     say(alloc, g, speech, entities)?;
     ask_at_face(alloc, g, speech, face, id, interest, &pendings)
 }

@@ -1,11 +1,11 @@
 // A call is carried out part by part.
-ghost use Rattle.std.specs.Prelude.{◌≡◌, ◌<◌, ◌+◌, ◌^◌, true, false, IfOk, OnOk};
-ghost use Rattle.zt_calls.specs.Does.{Does, spares};
+ghost use Rattle.std.specs.Prelude.{◌≡◌, ◌<◌, ◌+◌, ◌^◌, true, false, IfOk, None, OnOk};
+ghost use Rattle.zt_calls.specs.Does.{Does};
 ghost use Rattle.zt_laws.specs.Sound.{opens_face, rows_after_call};
 ghost use Rattle.zt_calls.specs.Speaking.{closing_if, is_spoken, leaving_unless};
 ghost use Rattle.zt_model.specs.Closing.{leaving};
 ghost use Rattle.zt_model.specs.Parts.{unsaid_to};
-ghost use Rattle.zt_model.specs.Says.{altered, parts_of, row_of, said};
+ghost use Rattle.zt_model.specs.Says.{parts_of, row_of, said};
 ghost use Rattle.zt_model.specs.Wants.{kept_options};
 ghost use Rattle.zt_protocol.specs.Interest.{has_tokens, without_aggregate};
 ghost use Rattle.zt_protocol.specs.Plain.{plain_call};
@@ -18,7 +18,7 @@ use crate::expiring::expire;
 use crate::opening::open;
 use crate::routed::change_table;
 use crate::speaking::{declare_token, undeclare_token};
-use crate::speech::{Audience, Speech};
+use crate::speech::Speech;
 use bitflags::Flags;
 use std::alloc::Global;
 use zt_keys::{Key, Memory};
@@ -139,17 +139,14 @@ fn leave_silently<K: Key>(
     speech: &mut Speech<K>,
     f: &FaceState<K>,
 ) -> Result<(), Memory>
-    requires { spares speech.old.audience ≡ false }
+    requires { speech.old.spared ≡ None }
     ensures { OnOk result (Does K.cmp K.matching
         (unsaid_to f.now.number (leaving K.cmp K.matching f.now.number f.now))
         g.old g.new speech.old speech.new) }
 {
-    let mut farewell = Speech {
-        audience: speech.audience.sparing(f.number()),
-        said: Vec::new(alloc),
-    };
-    leave(alloc, g, &mut farewell, f)?;
-    speech.said.append(&mut farewell.said)?;
+    speech.spared = Some(f.number());
+    leave(alloc, g, speech, f)?;
+    speech.spared = None;
     Ok(())
 }
 
@@ -161,7 +158,7 @@ fn leave_unless<K: Key>(
     is_routed: bool,
     f: &FaceState<K>,
 ) -> Result<(), Memory>
-    requires { spares speech.old.audience ≡ false }
+    requires { speech.old.spared ≡ None }
     ensures { OnOk result (Does K.cmp K.matching
         (leaving_unless K.cmp K.matching is_routed f.now.number f.now)
         g.old g.new speech.old speech.new) }
@@ -181,7 +178,7 @@ fn close_open<K: Key>(
     is_routed: bool,
     f: &FaceState<K>,
 ) -> Result<(), Memory>
-    requires { spares speech.old.audience ≡ false }
+    requires { speech.old.spared ≡ None }
     ensures { OnOk result (Does K.cmp K.matching
         (closing_if K.cmp K.matching is_routed f.now.number f.now)
         g.old g.new speech.old speech.new) }
@@ -198,7 +195,7 @@ fn close_face<K: Key>(
     speech: &mut Speech<K>,
     face: u32,
 ) -> Result<(), Memory>
-    requires { spares speech.old.audience ≡ false }
+    requires { speech.old.spared ≡ None }
     ensures { OnOk result (Does K.cmp K.matching
         (parts_of K.cmp K.matching (plain.CloseFace face) g.old)
         g.old g.new speech.old speech.new) }
@@ -262,7 +259,7 @@ fn carry_out_spoken<K: Key>(
     call: &Call<K>,
 ) -> Result<(), Memory>
     requires spoken { is_spoken (plain_call call.now) ≡ true }
-    requires whole { spares speech.old.audience ≡ false }
+    requires whole { speech.old.spared ≡ None }
     ensures { OnOk result (Does K.cmp K.matching
         (parts_of K.cmp K.matching (plain_call call.now) g.old)
         g.old g.new speech.old speech.new) }
@@ -320,7 +317,7 @@ fn do_parts<K: Key>(
     call: &Call<K>,
 ) -> Result<(), Memory>
     requires room { opens_face (plain_call call.now) ≡ true → g.old.made + 1 < 2 ^ 32 }
-    requires whole { spares speech.old.audience ≡ false }
+    requires whole { speech.old.spared ≡ None }
     ensures { OnOk result (Does K.cmp K.matching
         (parts_of K.cmp K.matching (plain_call call.now) g.old)
         g.old g.new speech.old speech.new) }
@@ -348,23 +345,9 @@ pub fn carry_out<K: Key>(
         ≡ said K.cmp K.matching (plain_call call.now) g.old) }
 {
     let mut speech = Speech {
-        audience: Audience::All,
         said: Vec::new(alloc),
+        spared: None,
     };
     do_parts(alloc, g, &mut speech, call)?;
     Ok(speech.said)
-}
-
-/// Changes what a call changes itself, and says nothing: with the call's messages, which the faces
-/// hear, the gateway is as after the call. The only error is want of memory, and then the gateway
-/// may be left in between.
-pub fn alter<K: Key>(alloc: Global, g: &mut GatewayState<K>, call: &Call<K>) -> Result<(), Memory>
-    requires { opens_face (plain_call call.now) ≡ true → g.old.made + 1 < 2 ^ 32 }
-    ensures { OnOk result (g.new ≡ altered K.cmp K.matching (plain_call call.now) g.old) }
-{
-    let mut unheard = Speech {
-        audience: Audience::Nobody,
-        said: Vec::new(alloc),
-    };
-    do_parts(alloc, g, &mut unheard, call)
 }

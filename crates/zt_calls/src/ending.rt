@@ -24,11 +24,11 @@ pub(crate) fn finalise<K: Key>(
         g.old g.new speech.old speech.new) }
 {
     g.unhold(face, id);
-    let gone = speech.if_heard(alloc, || untell(alloc, g, face))?;
+    let gone = untell(alloc, g, face)?;
     say(alloc, g, speech, gone)?;
-    let finals = speech.if_heard(alloc, || final_of_both(alloc, g, face, id, interest))?;
+    let finals = final_of_both(alloc, g, face, id, interest)?;
     say(alloc, g, speech, finals)?;
-    let ends = speech.if_heard(alloc, || end_upstream(alloc, g, interest))?;
+    let ends = end_upstream(alloc, g, interest)?;
     say(alloc, g, speech, ends)
 }
 
@@ -45,7 +45,7 @@ pub(crate) fn end_pending<K: Key>(
         g.old g.new speech.old speech.new) }
 {
     g.end_pending(face, id);
-    let finals = speech.if_heard(alloc, || finish(alloc, g, face, id))?;
+    let finals = finish(alloc, g, face, id)?;
     say(alloc, g, speech, finals)
 }
 

@@ -13,4 +13,4 @@ mod speaking;
 mod speech;
 mod tokens;
 
-pub use carrying::{alter, carry_out};
+pub use carrying::carry_out;

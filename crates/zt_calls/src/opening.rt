@@ -28,10 +28,10 @@ pub(crate) fn open<K: Key>(
 {
     let face = g.made() + 1;
     g.open_face(alloc, zid, whatami, region, bound, first)?;
-    let interests = speech.if_heard(alloc, || open_interests(alloc, g, face))?;
+    let interests = open_interests(alloc, g, face)?;
     say(alloc, g, speech, interests)?;
-    let tokens = speech.if_heard(alloc, || open_tokens(alloc, g, face))?;
+    let tokens = open_tokens(alloc, g, face)?;
     say(alloc, g, speech, tokens)?;
-    let finals = speech.if_heard(alloc, || open_final(alloc, g, face))?;
+    let finals = open_final(alloc, g, face)?;
     say(alloc, g, speech, finals)
 }

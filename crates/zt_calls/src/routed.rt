@@ -8,22 +8,15 @@ ghost use Rattle.zt_model.specs.Trees.{greet_to, hiding, pass_on, showing, unpas
 ghost use Rattle.zt_model.specs.Trees.{with_table, without_routed};
 ghost use Rattle.zt_protocol.specs.Plain.{trees_of};
 
-use crate::speech::{Speech, say};
+use crate::speech::{Speech, say, spare};
 use crate::tokens::{forget_all, tell_all};
 use std::alloc::Global;
 use zt_keys::{Key, Memory};
-use zt_protocol::{Message, TreeTable};
+use zt_protocol::TreeTable;
 use zt_region::{Region, Zid};
 use zt_routers::{greet, left_out, pass_on, table_of, unpass};
 use zt_state::GatewayState;
 use zt_tables::KeptTable;
-
-// The messages but those to the face that a token comes from.
-fn spare<K: Key>(sends: &mut Vec<(u32, Message<K>)>, face: u32)
-    ensures { sends.new.items ≡ but_for K.cmp face sends.old.items }
-{
-    sends.retain(|send| face != send.0);
-}
 
 /// A face of a router region declares a token of a router. The only error is want of memory.
 pub(crate) fn declare_routed<K: Key>(
@@ -43,7 +36,7 @@ pub(crate) fn declare_routed<K: Key>(
         g.old g.new speech.old speech.new) }
 {
     g.add_routed(alloc, region, source, expr)?;
-    let mut passed = speech.if_heard(alloc, || pass_on(alloc, g, region, source, expr))?;
+    let mut passed = pass_on(alloc, g, region, source, expr)?;
     spare(&mut passed, face);
     say(alloc, g, speech, passed)?;
     tell_all(alloc, g, speech, region, expr)
@@ -67,7 +60,7 @@ pub(crate) fn undeclare_routed<K: Key>(
         g.old g.new speech.old speech.new) }
 {
     g.drop_routed(region, source, expr);
-    let mut passed = speech.if_heard(alloc, || unpass(alloc, g, region, source, expr))?;
+    let mut passed = unpass(alloc, g, region, source, expr)?;
     spare(&mut passed, face);
     say(alloc, g, speech, passed)?;
     forget_all(alloc, g, speech, region, expr)
@@ -106,7 +99,7 @@ fn keep_and_greet<K: Key>(
         g.old g.new speech.old speech.new) }
 {
     g.keep_table(region, table)?;
-    let greetings = speech.if_heard(alloc, || greet(alloc, g, region, before))?;
+    let greetings = greet(alloc, g, region, before)?;
     say(alloc, g, speech, greetings)
 }
 

@@ -61,7 +61,7 @@ fn answer_asked<K: Key>(
     let Some(id) = asked else {
         return Ok(());
     };
-    let answers = speech.if_heard(alloc, || answer(alloc, g, face, id, expr))?;
+    let answers = answer(alloc, g, face, id, expr)?;
     say(alloc, g, speech, answers)
 }
 

@@ -26,7 +26,7 @@ pub(crate) fn show_token<K: Key>(
     ensures { OnOk result (Does K.cmp K.matching (showing K.cmp source expr.now)
         g.old g.new speech.old speech.new) }
 {
-    let shown = speech.if_heard(alloc, || show(alloc, g, source, expr))?;
+    let shown = show(alloc, g, source, expr)?;
     say(alloc, g, speech, shown)?;
     let regions = newly_shown(alloc, g, source, expr)?;
     g.add_own_rows(alloc, &regions, expr)
@@ -45,7 +45,7 @@ pub(crate) fn tell_all<K: Key>(
         (Say (tell K.cmp K.matching source expr.now) ∷ showing K.cmp source expr.now)
         g.old g.new speech.old speech.new) }
 {
-    let told = speech.if_heard(alloc, || tell(alloc, g, source, expr))?;
+    let told = tell(alloc, g, source, expr)?;
     say(alloc, g, speech, told)?;
     show_token(alloc, g, speech, source, expr)
 }
@@ -62,7 +62,7 @@ pub(crate) fn hide_token<K: Key>(
     ensures { OnOk result (Does K.cmp K.matching (hiding K.cmp source expr.now)
         g.old g.new speech.old speech.new) }
 {
-    let hidden = speech.if_heard(alloc, || hide(alloc, g, source, expr))?;
+    let hidden = hide(alloc, g, source, expr)?;
     say(alloc, g, speech, hidden)?;
     let regions = hidden_regions(alloc, g, source, expr)?;
     g.drop_own_rows(&regions, expr);
@@ -82,7 +82,7 @@ pub(crate) fn forget_all<K: Key>(
         (Say (forget K.cmp K.matching source expr.now) ∷ hiding K.cmp source expr.now)
         g.old g.new speech.old speech.new) }
 {
-    let gone = speech.if_heard(alloc, || forget(alloc, g, source, expr))?;
+    let gone = forget(alloc, g, source, expr)?;
     say(alloc, g, speech, gone)?;
     hide_token(alloc, g, speech, source, expr)
 }
@@ -122,7 +122,7 @@ pub(crate) fn undeclare<K: Key>(
         g.old g.new speech.old speech.new) }
 {
     g.unregister(face, id);
-    let gone = speech.if_heard(alloc, || forget(alloc, g, region, expr))?;
+    let gone = forget(alloc, g, region, expr)?;
     say(alloc, g, speech, gone)
 }
 

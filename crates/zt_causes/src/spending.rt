@@ -1,25 +1,27 @@
 // Whether faces have ids left for what a call would send them.
 ghost use Rattle.std.specs.Prelude.{◌≡◌, ◌&&◌, not, IfOk, None, Some, filter, length};
 ghost use Rattle.std.specs.List.{list_any};
-ghost use Rattle.zt_causes.specs.Lacking.{lacks_for_answers, lacks_for_interest, lacks_for_target};
-ghost use Rattle.zt_causes.specs.Lacking.{lacks_for_token};
+ghost use Rattle.zt_causes.specs.Lacking.{answers_for_later, lacks_by, lacks_for_answers};
+ghost use Rattle.zt_causes.specs.Lacking.{lacks_for_interest, lacks_for_target, lacks_for_token};
+ghost use Rattle.zt_causes.specs.Lacking.{is_answered_anew_by, needs_by};
 ghost use Rattle.zt_protocol.specs.Interest.{is_future};
 ghost use Rattle.zt_model.specs.Lists.{is_some_and};
 ghost use Rattle.zt_model.specs.Parts.{find_face};
-ghost use Rattle.zt_model.specs.Refusals.{is_answered_anew, left_ids};
+ghost use Rattle.zt_model.specs.Refusals.{left_ids};
 ghost use Rattle.zt_model.specs.Says.{row_of};
 ghost use Rattle.zt_model.specs.Telling.{answered_expressions, is_answered_by};
 ghost use Rattle.zt_model.specs.Visible.{keeps};
+ghost use Rattle.zt_told.specs.Told.{AreRising};
 
 use crate::asking::row_of;
 use crate::questions::registers;
 use std::alloc::Global;
 use zt_interests::is_target;
 use zt_keys::{Key, Memory};
-use zt_protocol::{InterestId, InterestMode, InterestOptions};
+use zt_protocol::{InterestId, InterestMode, InterestOptions, TokenId};
 use zt_region::Region;
 use zt_state::{AskState, FaceState, GatewayState};
-use zt_tokens::{answered_expressions, find_face, is_answered_by, is_routed, is_told, keeps};
+use zt_tokens::{answered_expressions, find_face, is_answered_by, is_routed, is_told, told_in};
 
 /// How many ids can be drawn for a face.
 pub(crate) fn left_ids<K: Key>(f: &FaceState<K>) -> u32
@@ -41,51 +43,71 @@ fn is_answered_for_later<K: Key>(ask: &AskState<K>, face: u32, id: InterestId, e
 
 // Whether such a token answers an ask of this face for what comes later too.
 fn answers_for_later<K: Key>(f: &FaceState<K>, face: u32, id: InterestId, expr: &K) -> bool
-    ensures { result
-        ≡ list_any
-        (λ row. is_future row.1.interest.mode
-        && is_answered_by K.cmp K.matching face id expr.now row.1) f.now.asks }
+    ensures { result ≡ answers_for_later K.cmp K.matching face id expr.now f.now }
 {
     f.asks()
         .iter()
         .any(|(_, ask)| is_answered_for_later(ask, face, id, expr))
 }
 
-// Whether the token answers an ask of the face anew, for which it needs an id.
+// Whether the token answers an ask of the face anew, for which it needs an id. The face was told
+// the expression under the id `told`, or not at all.
 fn is_answered_anew<K: Key>(
     face: u32,
     interest: Option<InterestId>,
     expr: &K,
     from: &FaceState<K>,
     f: &FaceState<K>,
+    told: Option<TokenId>,
 ) -> bool
-    ensures { result ≡ is_answered_anew K.cmp K.matching face interest expr.now from.now f.now }
+    ensures { result
+        ≡ is_answered_anew_by K.cmp K.matching face interest expr.now from.now f.now told }
 {
     match interest {
         None => false,
         Some(id) => {
-            from.pendings().has(id) && !keeps(f, expr) && answers_for_later(f, face, id, expr)
+            from.pendings().has(id) && told.is_none() && answers_for_later(f, face, id, expr)
         }
     }
 }
 
-// Whether the face needs an id for the token and has none left.
-fn lacks_token_id<K: Key>(
+// Whether the face needs an id for the token: it is told of it, or answered. It was told the
+// expression before under the id `told`, or not at all.
+fn needs_token_id<K: Key>(
     g: &GatewayState<K>,
     face: u32,
     interest: Option<InterestId>,
     expr: &K,
     from: &FaceState<K>,
     f: &FaceState<K>,
+    told: Option<TokenId>,
 ) -> bool
-    requires { find_face face g.now ≡ Some from.now }
+    ensures { result ≡ needs_by K.cmp K.matching face interest expr.now g.now from.now f.now told }
+{
+    is_told(g, from.region(), expr, f, told)
+        || is_answered_anew(face, interest, expr, from, f, told)
+}
+
+// Whether the face needs an id for the token and has none left. `told` has the faces that were told
+// the expression, each with the id under which it was.
+fn lacks_token_id<K: Key>(
+    g: &GatewayState<K>,
+    face: u32,
+    interest: Option<InterestId>,
+    expr: &K,
+    from: &FaceState<K>,
+    told: &[(u32, TokenId)],
+    f: &FaceState<K>,
+) -> bool
+    requires found { find_face face g.now ≡ Some from.now }
+    requires in_order { AreRising told.now }
     ensures { result
-        ≡ lacks_for_token K.cmp K.matching face interest expr.now g.now f.now }
+        ≡ lacks_by K.cmp K.matching face interest expr.now g.now told.now f.now }
 {
     !is_routed(g, f)
         && left_ids(f) == 0
         && registers(from, interest)
-        && (is_told(g, from.region(), expr, f) || is_answered_anew(face, interest, expr, from, f))
+        && needs_token_id(g, face, interest, expr, from, f, told_in(told, f.number()))
 }
 
 // The same of the face of a number, if it is open.
@@ -94,15 +116,17 @@ fn lacks_token_id_at<K: Key>(
     face: u32,
     expr: &K,
     from: &FaceState<K>,
+    told: &[(u32, TokenId)],
     number: u32,
 ) -> bool
-    requires { find_face face g.now ≡ Some from.now }
+    requires found { find_face face g.now ≡ Some from.now }
+    requires in_order { AreRising told.now }
     ensures { result ≡ is_some_and (find_face number g.now)
-        (lacks_for_token K.cmp K.matching face None expr.now g.now) }
+        (lacks_by K.cmp K.matching face None expr.now g.now told.now) }
 {
     match find_face(g, number) {
         None => false,
-        Some(f) => lacks_token_id(g, face, None, expr, from, f),
+        Some(f) => lacks_token_id(g, face, None, expr, from, told, f),
     }
 }
 
@@ -112,18 +136,38 @@ fn do_numbers_lack<K: Key>(
     face: u32,
     expr: &K,
     from: &FaceState<K>,
+    told: &[(u32, TokenId)],
     numbers: &[u32],
 ) -> bool
-    requires { find_face face g.now ≡ Some from.now }
+    requires found { find_face face g.now ≡ Some from.now }
+    requires in_order { AreRising told.now }
     ensures { result ≡ list_any (λ n. is_some_and (find_face n g.now)
-        (lacks_for_token K.cmp K.matching face None expr.now g.now)) numbers.now }
+        (lacks_by K.cmp K.matching face None expr.now g.now told.now)) numbers.now }
 {
-    numbers
-        .iter()
-        .any(|number| lacks_token_id_at(g, face, expr, from, *number))
+    numbers.iter().any(|number| lacks_token_id_at(g, face, expr, from, told, *number))
 }
 
-// Whether the token needs an id of some face that has none left, asking each.
+// Whether the token needs an id of some face that has none left, asking each. `told` has the faces
+// that were told the expression, each with the id under which it was.
+fn do_faces_lack<K: Key>(
+    g: &GatewayState<K>,
+    face: u32,
+    interest: Option<InterestId>,
+    expr: &K,
+    from: &FaceState<K>,
+    told: &[(u32, TokenId)],
+) -> bool
+    requires found { find_face face g.now ≡ Some from.now }
+    requires in_order { AreRising told.now }
+    ensures { result ≡ list_any
+        (lacks_by K.cmp K.matching face interest expr.now g.now told.now) g.now.faces }
+{
+    g.faces()
+        .iter()
+        .any(|f| lacks_token_id(g, face, interest, expr, from, told, f))
+}
+
+// The same, where it is first looked up which faces were told the expression.
 fn does_any_lack<K: Key>(
     g: &GatewayState<K>,
     face: u32,
@@ -135,9 +179,7 @@ fn does_any_lack<K: Key>(
     ensures { result
         ≡ list_any (lacks_for_token K.cmp K.matching face interest expr.now g.now) g.now.faces }
 {
-    g.faces()
-        .iter()
-        .any(|f| lacks_token_id(g, face, interest, expr, from, f))
+    do_faces_lack(g, face, interest, expr, from, g.told_at(expr))
 }
 
 // The same of a token that answers nobody: of the faces that seek it, where these can be looked up.
@@ -154,7 +196,10 @@ fn do_seekers_lack<K: Key>(
         ≡ list_any (lacks_for_token K.cmp K.matching face None expr.now g.now) g.now.faces) }
 {
     match g.find_seekers(alloc, expr)? {
-        Some(numbers) => Ok(do_numbers_lack(g, face, expr, from, &numbers)),
+        Some(numbers) => {
+            let told = g.told_at(expr);
+            Ok(do_numbers_lack(g, face, expr, from, told, &numbers))
+        }
         None => Ok(does_any_lack(g, face, None, expr, from)),
     }
 }
@@ -228,15 +273,25 @@ fn do_targets_lack<K: Key>(
         .any(|number| lacks_target_id_at(g, asker, mode, *number))
 }
 
+// Whether the face of a number wasn't told the expression.
+fn is_untold<K: Key>(g: &GatewayState<K>, face: u32, f: &FaceState<K>, expr: &K) -> bool
+    requires { find_face face g.now ≡ Some f.now }
+    ensures { result ≡ not (keeps K.cmp f.now expr.now) }
+{
+    g.told_id(expr, face).is_none()
+}
+
 // How many ids a face needs for the answers to an interest of its own.
 fn ids_for_answers<K: Key>(
     alloc: Global,
     g: &GatewayState<K>,
+    face: u32,
     mode: InterestMode,
     options: InterestOptions,
     expr: &Option<K>,
     f: &FaceState<K>,
 ) -> Result<usize, Memory>
+    requires { find_face face g.now ≡ Some f.now }
     ensures { IfOk result (λ count. count
         ≡ length (filter (λ k. not (keeps K.cmp f.now k))
         (answered_expressions K.cmp K.matching g.now
@@ -244,7 +299,7 @@ fn ids_for_answers<K: Key>(
 {
     let interest = row_of(alloc, f, mode, options, expr)?;
     let exprs = answered_expressions(alloc, g, &interest, f)?;
-    Ok(exprs.iter().filter(|k| !keeps(f, k)).count())
+    Ok(exprs.iter().filter(|k| is_untold(g, face, f, k)).count())
 }
 
 // Whether a face needs more ids for the answers to an interest of its own than are left. The only
@@ -252,18 +307,20 @@ fn ids_for_answers<K: Key>(
 fn lacks_answer_ids<K: Key>(
     alloc: Global,
     g: &GatewayState<K>,
+    face: u32,
     mode: InterestMode,
     options: InterestOptions,
     expr: &Option<K>,
     f: &FaceState<K>,
 ) -> Result<bool, Memory>
+    requires { find_face face g.now ≡ Some f.now }
     ensures { IfOk result (λ lacks. lacks
         ≡ lacks_for_answers K.cmp K.matching mode options expr.now g.now f.now) }
 {
     if is_routed(g, f) || !mode.is_future() {
         return Ok(false);
     }
-    let answers = ids_for_answers(alloc, g, mode, options, expr, f)?;
+    let answers = ids_for_answers(alloc, g, face, mode, options, expr, f)?;
     Ok((left_ids(f) as usize) < answers)
 }
 
@@ -284,7 +341,7 @@ pub(crate) fn do_interests_spend<K: Key>(
     let Some(from) = find_face(g, face) else {
         return Ok(false);
     };
-    if lacks_answer_ids(alloc, g, mode, options, expr, from)? {
+    if lacks_answer_ids(alloc, g, face, mode, options, expr, from)? {
         return Ok(true);
     }
     Ok(do_targets_lack(g, from.region(), mode, g.north()))

@@ -49,7 +49,7 @@ fn prepare<K: Key>(
     ensures same { s.new ≡ s.old }
 {
     let ahead = s.prepare_at(alloc, at, call)?;
-    let printed = print_all(alloc, s.places(), gateway, ahead.said.as_slice())?;
+    let printed = print_all(alloc, s.places(), gateway, ahead.said)?;
     Ok(Prepared {
         rows: ahead.state,
         printed,

@@ -7,23 +7,22 @@ use zt_keys::{Key, Memory};
 use zt_places::Places;
 use zt_protocol::{Message, Sent};
 
-/// Copies of a gateway's messages as they are printed, in the order sent. The only error is want of
-/// memory.
+/// A gateway's messages as they are printed, in the order sent. The only error is want of memory.
 pub(crate) fn print_all<K: Key>(
     alloc: Global,
     places: &Places,
     gateway: u32,
-    sends: &[(u32, Message<K>)],
+    sends: Vec<(u32, Message<K>)>,
 ) -> Result<Vec<Sent<K>>, Memory>
     ensures { IfOk result (λ printed_. printed_.items
-        ≡ map (printed places.now gateway) sends.now) }
+        ≡ map (printed places.now gateway) sends.items) }
 {
-    let mut printed = Vec::new(alloc);
+    let mut printed = Vec::with_capacity(alloc, sends.len())?;
     for (face, message) in sends {
         printed.push(Sent {
             gateway,
-            face: places.number(gateway, *face),
-            message: message.copy(alloc)?,
+            face: places.number(gateway, face),
+            message,
         })?;
     }
     Ok(printed)

@@ -25,7 +25,7 @@ use zt_places::{LinkState, Links, PlaceState, Places};
 use zt_protocol::{Call, Message, Sent};
 use zt_queues::Queues;
 use zt_region::SouthConf;
-use zt_restorable::{Ahead, BoxedState, RestorableState};
+use zt_restorable::{Ahead, BoxedState, RestorableState, Turn};
 use zt_state::GatewayState;
 
 /// A gateway with what its links are made by: its configuration of the south, and its name.
@@ -218,16 +218,16 @@ impl<K: Key> FabricState<K> {
         alloc: Global,
         at: usize,
         call: &Call<K>,
-    ) -> Result<(BoxedState<K>, Vec<(u32, Message<K>)>), Memory>
+    ) -> Result<Turn<K>, Memory>
         requires { at < length self.old.gateways }
         ensures state { OnOk result (self.new ≡ with_rows (at + 1)
             (rows_after_call K.cmp K.matching (plain_call call.now)) self.old) }
         ensures former { IfOk result
             (λ turn. (node : Node K) → nth (at + 1) self.old.gateways ≡ Some node
-            → turn.0 ≡ node.rows) }
+            → turn.former ≡ node.rows) }
         ensures said { IfOk result
             (λ turn. (node : Node K) → nth (at + 1) self.old.gateways ≡ Some node
-            → turn.1.items ≡ said K.cmp K.matching (plain_call call.now) node.rows) }
+            → turn.said.items ≡ said K.cmp K.matching (plain_call call.now) node.rows) }
         ensures err { OnErr result (self.new ≡ self.old) }
     {
         self.unfinished = self.unfinished.saturating_add(1);
@@ -457,7 +457,7 @@ fn turn_in<K: Key>(
     gateways: &mut Vec<NodeState<K>>,
     at: usize,
     call: &Call<K>,
-) -> Result<(BoxedState<K>, Vec<(u32, Message<K>)>), Memory>
+) -> Result<Turn<K>, Memory>
     requires { at < vec_len gateways.old }
     ensures state { OnOk result (gateways.new.items
         ≡ at_nth (at + 1) (λ node. record node {
@@ -465,15 +465,15 @@ fn turn_in<K: Key>(
         }) gateways.old.items) }
     ensures former { IfOk result
         (λ turn. (node : Node K) → nth (at + 1) gateways.old.items ≡ Some node
-        → turn.0 ≡ node.rows) }
+        → turn.former ≡ node.rows) }
     ensures said { IfOk result
         (λ turn. (node : Node K) → nth (at + 1) gateways.old.items ≡ Some node
-        → turn.1.items ≡ said K.cmp K.matching (plain_call call.now) node.rows) }
+        → turn.said.items ≡ said K.cmp K.matching (plain_call call.now) node.rows) }
     ensures err { OnErr result (gateways.new.items ≡ gateways.old.items) }
 {
     let node = &mut gateways[at];
     let turn = node.kept.turn(alloc, call)?;
-    Ok((turn.former, turn.said))
+    Ok(turn)
 }
 
 fn put_rows_at<K: Key>(gateways: &mut Vec<NodeState<K>>, at: usize, rows: BoxedState<K>)

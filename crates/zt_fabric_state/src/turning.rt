@@ -49,15 +49,15 @@ pub fn hear_call<K: Key>(
             printed: Vec::new(alloc),
         }),
         Some(at) => {
-            let (former, said) = s.turn_at(alloc, at, call)?;
-            match print_all(alloc, s.places(), gateway, said.as_slice()) {
+            let turn = s.turn_at(alloc, at, call)?;
+            match print_all(alloc, s.places(), gateway, turn.said) {
                 Ok(printed) => Ok(Turned {
                     gateway,
-                    former: Some(former),
+                    former: Some(turn.former),
                     printed,
                 }),
                 Err(error) => {
-                    s.put_rows(at, former);
+                    s.put_rows(at, turn.former);
                     Err(error)
                 }
             }

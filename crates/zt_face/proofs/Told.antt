@@ -1,4 +1,4 @@
--- What a face was told, found by expression.
+-- What a face was told: pairs of id and expression that come and go.
 use Rattle.std.proofs.Common.{◌≡◌, ℕ, ◌==◌, Bool, true, false, ◌&&◌, ◌||◌, not, if◌then◌else◌, Option, Some, None, is_some, [], ◌∷◌, ◌++◌, filter, refl, ap, sym, subst, ◌∙◌}
 use Rattle.std.proofs.lemmas.Bool.{false≢true, eqb-true}
 use Rattle.std.proofs.lemmas.Map.Keys.{sorted_head, sorted_tail}
@@ -9,7 +9,7 @@ use Rattle.std.specs.Ordering.{is_eq, nat_cmp}
 use Rattle.std.specs.declared.cmp.Ordering.{Ordering}
 use Rattle.std.specs.declared.cmp.Ordering.TheVariants.{Less, Equal, Greater}
 use Rattle.zt_keys.specs.Test.{by_test}
-use Rattle.zt_face.specs.Told.{AreApart, IsIndexed, IsInOrder, with_pair}
+use Rattle.zt_face.specs.Told.{AreApart, IsInOrder, with_pair}
 use Rattle.zt_face.proofs.ById.{below_all_absent}
 use Rattle.zt_model.specs.Lists.{at_id, same, without_id}
 use Rattle.zt_model.specs.Parts.{told_id}
@@ -35,11 +35,32 @@ module _ {K : Type 0} (cmp : K → K → Ordering) where
         | false ↦ told_is_some e rows
       ]
 
-  pub indexed_none : (find : K → Option ℕ) → ((q : K) → find q ≡ None) → IsIndexed cmp find []
-  unfolding told_id
-  indexed_none find none_ = record { finds = none_; apart = tt }
-
   -- ---- telling
+
+  -- under an id that isn't there
+  pub with_new : (id : ℕ) (e : K) (rows : ById K) → None ≡ at_id id rows → rows ++ (id, e) ∷ [] ≡ with_pair cmp id e rows
+  with_new id e rows absent = rw (none_there rows absent) refl
+    where
+      none_there : (rows : ById K) → None ≡ at_id id rows → list_any (λ row. id == row.0 && same cmp e row.1) rows ≡ false
+      none_there [] absent = refl
+      none_there (row ∷ rows) absent = by_test (id == row.0) (λ t. absurd (not_some row.1 (rw t at absent))) (λ t. rw t (none_there rows (rw t at absent)))
+
+  -- under the id that it has
+  pub with_known : (id : ℕ) (e known : K) (rows : ById K) → Some known ≡ at_id id rows → same cmp e known ≡ true → rows ≡ with_pair cmp id e rows
+  with_known id e known rows found tied = rw (there rows found) refl
+    where
+      own : (k : K) → Some known ≡ Some k → same cmp e k ≡ true
+      own k is = cc
+
+      or_later : (b : Bool) {c : Bool} → c ≡ true → (b || c) ≡ true
+      or_later true t = refl
+      or_later false t = t
+
+      there : (rows : ById K) → Some known ≡ at_id id rows → list_any (λ row. id == row.0 && same cmp e row.1) rows ≡ true
+      there [] found = absurd (not_some known (sym found))
+      there (row ∷ rows) found = by_test (id == row.0)
+          (λ t. let here : same cmp e row.1 ≡ true = own row.1 (rw t at found) in rw (t, here) refl)
+          (λ t. or_later (id == row.0 && same cmp e row.1) (there rows (rw t at found)))
 
   -- a pair that is told is among the rows
   found_pair : (id : ℕ) (e : K) (rows : ById K) → told_id cmp e rows ≡ Some id → list_any (λ row. id == row.0 && same cmp e row.1) rows ≡ true
@@ -129,21 +150,6 @@ module _ {K : Type 0} (cmp : K → K → Ordering) where
         (λ t. let later = rw t at absent in
         (told_added row.1 e id rows later ∙ rw t apart.0, apart_added e id rows later apart.1))
 
-    found_behind : (e : K) (id : ℕ) (front rest : ById K) → is_some (told_id cmp e (front ++ (id, e) ∷ rest)) ≡ true
-    unfolding told_id
-    found_behind e id [] rest = rw (same_itself e) refl
-    found_behind e id (row ∷ front) rest = by_test (same cmp e row.1) (λ t. rw t refl) (λ t. rw t (found_behind e id front rest))
-
-    -- an expression isn't told before the row that is its own
-    pub apart_before : (e : K) (id : ℕ) (front rest : ById K) → AreApart cmp (front ++ (id, e) ∷ rest) → told_id cmp e front ≡ None
-    unfolding told_id
-    apart_before e id [] rest apart = refl
-    apart_before e id (row ∷ front) rest apart = by_test (same cmp e row.1)
-        (λ t.
-        let none = subst (λ k. told_id cmp k (front ++ (id, e) ∷ rest) ≡ None) (sym (same_is e row.1 t)) apart.0 in
-        absurd (false≢true (sym (ap is_some none) ∙ found_behind e id front rest)))
-        (λ t. rw t (apart_before e id front rest apart.1))
-
     pub apart_dropped : (e : K) (rows : ById K) → AreApart cmp rows → AreApart cmp (filter (λ row. not (same cmp e row.1)) rows)
     unfolding told_id
     apart_dropped e [] apart = tt
@@ -209,51 +215,3 @@ module _ {K : Type 0} (cmp : K → K → Ordering) where
         by_test (id == row.0)
         (λ here. absurd (not_some e (sym (below_none id rows (subst (λ n. IsBelow n rows) (sym (eqb-true id row.0 here)) (sorted_head nat_cmp row.0 (keys_of rows) ordered))) ∙ later)))
         (λ there. rw there later))
-
-    -- ---- ids by expression
-
-    module _ {eq : K → K → Bool} (ties : (a b : K) → eq a b ≡ is_eq (cmp a b)) (before after : K → Option ℕ) where
-      pub indexed_added : (id : ℕ) (e : K) (rows : ById K) → IsIndexed cmp before rows → told_id cmp e rows ≡ None → ((q : K) → after q ≡ (if eq e q then Some id else before q)) → IsIndexed cmp after (rows ++ (id, e) ∷ [])
-      indexed_added id e rows indexed absent updates = record {
-        finds = λ q. updates q ∙ ap (λ b. if b then Some id else before q) (ties e q) ∙ ap (λ (o : Option ℕ). if same cmp e q then Some id else o) (indexed.finds q) ∙ sym (told_added q e id rows absent);
-        apart = apart_added e id rows absent indexed.apart;
-      }
-
-      pub indexed_dropped : (e : K) (rows : ById K) → IsIndexed cmp before rows → ((q : K) → after q ≡ (if eq e q then None else before q)) → IsIndexed cmp after (filter (λ row. not (same cmp e row.1)) rows)
-      indexed_dropped e rows indexed updates = record {
-        finds = λ q. updates q ∙ ap (λ b. if b then None else before q) (ties e q) ∙ ap (λ (o : Option ℕ). if same cmp e q then None else o) (indexed.finds q) ∙ sym (told_dropped q e rows);
-        apart = apart_dropped e rows indexed.apart;
-      }
-
-    -- an expression that was put and taken away again
-    put_taken : (eq : K → K → Bool) (before put after : K → Option ℕ) (id : ℕ) (e : K)
-        → ((q : K) → put q ≡ (if eq e q then Some id else before q)) → ((q : K) → after q ≡ (if eq e q then None else put q))
-        → (q : K) → after q ≡ (if eq e q then None else before q)
-    put_taken eq before put after id e puts takes q = takes q ∙ ap (λ (o : Option ℕ). if eq e q then None else o) (puts q) ∙ within (eq e q)
-      where
-        within : (b : Bool) → (if b then None else (if b then Some id else before q)) ≡ (if b then None else before q)
-        within true = refl
-        within false = refl
-
-    module _ {eq : K → K → Bool} (ties : (a b : K) → eq a b ≡ is_eq (cmp a b)) (before put : K → Option ℕ) (id : ℕ) (e : K) (rows : ById K) (indexed : IsIndexed cmp before rows)
-        (puts : (q : K) → put q ≡ (if eq e q then Some id else before q)) where
-      -- an expression that is told under this id
-      pub indexed_again : told_id cmp e rows ≡ Some id → IsIndexed cmp put rows
-      indexed_again found = record {
-        finds = λ q. puts q ∙ by_test (eq e q)
-            (λ t. rw t (subst (λ k. Some id ≡ told_id cmp k rows) (same_is e q (sym (ties e q) ∙ t)) (sym found)))
-            (λ t. rw t (indexed.finds q));
-        apart = indexed.apart;
-      }
-
-      module _ (after : K → Option ℕ) (takes : (q : K) → after q ≡ (if eq e q then None else put q)) where
-        -- one that isn't told, and is taken away again
-        pub indexed_undone : told_id cmp e rows ≡ None → IsIndexed cmp after rows
-        indexed_undone absent =
-            subst (IsIndexed cmp after) (none_dropped e rows absent) (indexed_dropped ties before after e rows indexed (put_taken eq before put after id e puts takes))
-
-        -- one that is told under another id, and goes
-        pub indexed_gone : (known : ℕ) → IsInOrder rows → told_id cmp e rows ≡ Some known → IsIndexed cmp after (without_id known rows)
-        indexed_gone known ordered found =
-            subst (IsIndexed cmp after) (dropped_without known e rows ordered indexed.apart (told_at known e rows ordered found))
-            (indexed_dropped ties before after e rows indexed (put_taken eq before put after id e puts takes))

@@ -30,8 +30,8 @@ fn copy_key_rows<K: Key>(alloc: Global, rows: &RowsById<K>) -> Result<RowsById<K
     Ok(copies)
 }
 
-// Equal queryables. The only error is want of memory.
-pub(crate) fn copy_queryables<K: Key>(
+/// Equal queryables. The only error is want of memory.
+pub fn copy_queryables<K: Key>(
     alloc: Global,
     queryables: &[(K, QueryableInfo)],
 ) -> Result<Vec<(K, QueryableInfo)>, Memory>

@@ -1,8 +1,8 @@
 // What a face hears: what a message changes at the face that it is sent to.
 ghost use Rattle.std.specs.Prelude.{◌≡◌, map, IfOk, OnOk};
-ghost use Rattle.zt_face.specs.Told.{answered_with};
-ghost use Rattle.zt_model.specs.Hearing.{asks_answered, heard, next_after, put_if, told_pair};
-ghost use Rattle.zt_model.specs.Hearing.{untold, with_answer};
+ghost use Rattle.zt_face.specs.Told.{answered_with, heard_known, untold_known};
+ghost use Rattle.zt_model.specs.Hearing.{asks_answered, next_after, put_if, told_pair};
+ghost use Rattle.zt_model.specs.Hearing.{with_answer};
 ghost use Rattle.zt_model.specs.Lists.{is_among, without_id};
 ghost use Rattle.zt_protocol.specs.Interest.{is_current, is_future};
 
@@ -155,10 +155,12 @@ impl<K: Key> FaceState<K> {
     }
 
     // The face is told that a token is gone.
-    fn hear_gone(&mut self, id: u32, expr: &Option<K>)
-        ensures { self.new ≡ record self.old { told = untold K.cmp id expr.now self.old.told } }
+    fn hear_gone(&mut self, id: u32, expr: &Option<K>, known: Option<u32>)
+        ensures { self.new ≡ record self.old {
+          told = untold_known id expr.now known self.old.told;
+        } }
     {
-        self.rows.told.untell(id, expr);
+        self.rows.told.untell(id, expr, known);
     }
 
     // The ask of the face ends.
@@ -175,9 +177,17 @@ impl<K: Key> FaceState<K> {
         self.rows.locals.remove(id);
     }
 
-    /// The face is sent a message, at this moment. The only error is want of memory, or of ids.
-    pub fn hear(&mut self, alloc: Global, moment: u64, message: &Message<K>) -> Result<(), Memory>
-        ensures { OnOk result (self.new ≡ heard K.cmp moment message.now self.old) }
+    /// The face is sent a message, at this moment. Where this says that an expression is gone,
+    /// `known` is the id under which the face was told it, if it was. The only error is want of
+    /// memory, or of ids.
+    pub fn hear(
+        &mut self,
+        alloc: Global,
+        moment: u64,
+        message: &Message<K>,
+        known: Option<u32>,
+    ) -> Result<(), Memory>
+        ensures { OnOk result (self.new ≡ heard_known K.cmp moment message.now known self.old) }
     {
         match message {
             Message::DeclareToken {
@@ -191,7 +201,7 @@ impl<K: Key> FaceState<K> {
                 expr,
                 node_id: _,
             } => {
-                self.hear_gone(*id, expr);
+                self.hear_gone(*id, expr, known);
                 Ok(())
             }
             Message::DeclareFinal { interest_id } => {

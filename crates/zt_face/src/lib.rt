@@ -16,7 +16,7 @@ mod local_tokens;
 mod rising;
 mod rows;
 
-pub use copying::{Duplicate, copy_all, copy_keys};
+pub use copying::{Duplicate, copy_all, copy_keys, copy_queryables};
 pub use face::{AskState, FaceState, PendingInterest};
 pub use hearing::is_among;
 pub use interest::RemoteInterest;

@@ -1,37 +1,29 @@
 // What a face was told: Zenoh's local tokens.
-ghost use Rattle.std.specs.List.{list_any};
 ghost use Rattle.std.specs.Option.{option_copied};
-ghost use Rattle.std.specs.Prelude.{◌≡◌, [], None, Some, IfOk, OnOk};
+ghost use Rattle.std.specs.Prelude.{◌≡◌, [], IfOk, OnOk};
 ghost use Rattle.zt_face.specs.Places.{rows_in};
-ghost use Rattle.zt_face.specs.Told.{AreApart, IsInOrder, with_pair};
-ghost use Rattle.zt_model.specs.Hearing.{told_pair, untold};
-ghost use Rattle.zt_model.specs.Lists.{at_id, same};
-ghost use Rattle.zt_model.specs.Parts.{told_id};
+ghost use Rattle.zt_face.specs.Told.{IsInOrder, untold_known, with_pair};
+ghost use Rattle.zt_model.specs.Hearing.{told_pair};
+ghost use Rattle.zt_model.specs.Lists.{at_id};
 
 use crate::rising::RisingRows;
 use std::alloc::Global;
-use std::collections::HashMap;
 use std::marker::Model;
 use zt_keys::{Key, Memory};
 
-/// The tokens that a face was told, by id, and found by expression. Ids rise from token to token,
-/// and an expression is told under one id.
+/// The tokens that a face was told, by id. Ids rise from token to token. Which faces were told an
+/// expression, and under which id, the gateway finds for all faces at once.
 #[derive(Drop)]
 pub struct LocalTokens<K: Key> {
     rows: RisingRows<K>,
-    ids: HashMap<K, u32>,
 }
 
 impl<K: Key> Model for LocalTokens<K> {
-    ghost use Rattle.std.specs.HashMap.{get};
-    ghost use Rattle.zt_face.specs.Told.{IsIndexed};
     ghost use Rattle.zt_model.specs.Rows.{ById};
 
     ghost Value = { ById K };
 
     ghost view = { λ t. t.rows };
-
-    ghost invariant = { λ t. IsIndexed K.cmp (get K.eq t.ids) t.rows };
 }
 
 impl<K: Key> LocalTokens<K> {
@@ -41,70 +33,40 @@ impl<K: Key> LocalTokens<K> {
     {
         LocalTokens {
             rows: RisingRows::new(alloc),
-            ids: HashMap::new(alloc),
         }
     }
 
-    /// The id under which the expression was told.
-    pub fn id_of(&self, expr: &K) -> Option<u32>
-        ensures { result ≡ told_id K.cmp expr.now self.now }
-    {
-        self.ids.get(expr).copied()
-    }
-
-    /// Whether the expression was told and not told to be gone.
-    #[tactic(auto, using(crate::proofs::Told::told_is_some))]
-    pub fn has(&self, expr: &K) -> bool
-        ensures { result ≡ list_any (λ row. same K.cmp expr.now row.1) self.now }
-    {
-        self.id_of(expr).is_some()
-    }
-
-    /// The token of the id, beside that tokens stand in order of id, each expression once.
+    /// The token of the id, beside that tokens stand in order of id.
     pub fn find(&self, id: u32) -> Option<&K>
         ensures row { option_copied result ≡ at_id id self.now }
         ensures ordered { IsInOrder self.now }
-        ensures apart { AreApart K.cmp self.now }
     {
         self.rows.find(id)
     }
 
-    /// The places of the tokens, in order of id, each expression once. The place of a token that is
-    /// gone may stand there still, and is empty.
+    /// The places of the tokens, in order of id. The place of a token that is gone may stand there
+    /// still, and is empty.
     pub fn places(&self) -> &[(u32, Option<K>)]
-        ensures rows { rows_in result.now ≡ self.now }
-        ensures apart { AreApart K.cmp self.now }
+        ensures { rows_in result.now ≡ self.now }
     {
         self.rows.places()
     }
 
-    // Adds a pair of id and expression, which is there once. The ids by expression say whether it
-    // is, so that an expression is hashed once. An expression that is told under another id, or an
-    // id that isn't above the others, never comes up in a gateway, and counts as want of memory.
+    // Adds a pair of id and expression, which is there once. An id that has another expression, or
+    // that isn't above the others, never comes up in a gateway, and counts as want of memory.
     fn add(&mut self, alloc: Global, id: u32, expr: &K) -> Result<(), Memory>
         ensures { OnOk result (self.new ≡ with_pair K.cmp id expr.now self.old) }
     {
-        let row = expr.copy(alloc)?;
-        match self.ids.insert(expr.copy(alloc)?, id)? {
-            None => match self.rows.push(id, row) {
-                Ok(_) => Ok(()),
-                Err(_) => {
-                    self.ids.remove(expr);
-                    Err(Memory)
-                }
-            },
-            Some(known) if known == id => Ok(()),
-            Some(known) => {
-                self.ids.remove(expr);
-                self.rows.remove(known);
-                Err(Memory)
-            }
+        match self.rows.find(id) {
+            None => self.rows.push(id, expr.copy(alloc)?),
+            Some(known) if known == expr => Ok(()),
+            Some(_) => Err(Memory),
         }
     }
 
     /// A pair of id and expression is told, which is there once; under the id 0 nothing is kept.
-    /// The only error is want of memory. An expression that is told under another id, or an id that
-    /// isn't above the others, never comes up in a gateway, and counts as want of memory.
+    /// The only error is want of memory. An id that has another expression, or that isn't above the
+    /// others, never comes up in a gateway, and counts as want of memory.
     pub fn tell(&mut self, alloc: Global, id: u32, expr: &K) -> Result<(), Memory>
         ensures { OnOk result (self.new ≡ told_pair K.cmp id expr.now self.old) }
     {
@@ -114,35 +76,17 @@ impl<K: Key> LocalTokens<K> {
         self.add(alloc, id, expr)
     }
 
-    // The token of the id goes.
-    fn drop_id(&mut self, id: u32)
-        ensures { self.new ≡ untold K.cmp id None self.old }
+    /// It is told that the token of an id is gone, or that of an expression, which was told under
+    /// the id `known`, if it was told.
+    pub fn untell(&mut self, id: u32, expr: &Option<K>, known: Option<u32>)
+        ensures { self.new ≡ untold_known id expr.now known self.old }
     {
-        match self.rows.take(id) {
-            Some(expr) => {
-                self.ids.remove(&expr);
-            }
-            None => {}
-        }
-    }
-
-    // The token of the expression goes.
-    fn drop_expression(&mut self, expr: &K)
-        ensures { self.new ≡ untold K.cmp 0 (Some expr.now) self.old }
-    {
-        match self.ids.remove(expr) {
-            Some(id) => self.rows.remove(id),
-            None => {}
-        }
-    }
-
-    /// It is told that the token of an id, or of an expression, is gone.
-    pub fn untell(&mut self, id: u32, expr: &Option<K>)
-        ensures { self.new ≡ untold K.cmp id expr.now self.old }
-    {
-        match expr {
-            None => self.drop_id(id),
-            Some(expr) => self.drop_expression(expr),
+        let gone = match expr {
+            None => Some(id),
+            Some(_) => known,
+        };
+        if let Some(id) = gone {
+            self.rows.remove(id);
         }
     }
 
@@ -150,12 +94,12 @@ impl<K: Key> LocalTokens<K> {
     pub fn copy(&self, alloc: Global) -> Result<Self, Memory>
         ensures { IfOk result (λ copies. copies ≡ self.now) }
     {
-        let mut copies = LocalTokens::new(alloc);
+        let mut rows = RisingRows::new(alloc);
         for (id, row) in self.places() {
             if let Some(expr) = row {
-                copies.add(alloc, *id, expr)?;
+                rows.push(*id, expr.copy(alloc)?)?;
             }
         }
-        Ok(copies)
+        Ok(LocalTokens { rows })
     }
 }

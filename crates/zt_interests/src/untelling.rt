@@ -1,9 +1,9 @@
 // A face is told that what it doesn't want any more is gone.
-ghost use Rattle.std.specs.Prelude.{◌≡◌, ◌++◌, IfOk, OnOk, map};
+ghost use Rattle.std.specs.Prelude.{◌≡◌, ◌++◌, IfOk, OnOk, Some, map};
 ghost use Rattle.std.specs.List.{flat_map};
 ghost use Rattle.zt_interests.specs.Untold.{untold_of};
 ghost use Rattle.zt_model.specs.Lists.{in_key_order};
-ghost use Rattle.zt_model.specs.Parts.{to_face};
+ghost use Rattle.zt_model.specs.Parts.{find_face, to_face};
 ghost use Rattle.zt_model.specs.Routing.{untell_to};
 
 use crate::routing::is_north;
@@ -30,18 +30,20 @@ fn told_in_order<K: Key>(alloc: Global, f: &FaceState<K>) -> Result<Vec<K>, Memo
 
 // Adds that the expression is gone, where the face was told it and doesn't want it.
 fn untell_one<K: Key>(
+    g: &GatewayState<K>,
     face: u32,
     f: &FaceState<K>,
     expr: &K,
     sends: &mut Vec<(u32, Message<K>)>,
 ) -> Result<(), Memory>
+    requires { find_face face g.now ≡ Some f.now }
     ensures { OnOk result (sends.new.items ≡ sends.old.items
         ++ map (λ m. (face, m)) (untold_of K.cmp K.matching f.now expr.now)) }
 {
     if wants(f, expr) {
         return Ok(());
     }
-    match f.told().id_of(expr) {
+    match g.told_id(expr, face) {
         None => Ok(()),
         Some(id) => {
             let message = Message::UndeclareToken {
@@ -58,16 +60,18 @@ fn untell_one<K: Key>(
 // That these expressions are gone, each where the face was told it and doesn't want it.
 fn untell_all<K: Key>(
     alloc: Global,
+    g: &GatewayState<K>,
     face: u32,
     f: &FaceState<K>,
     exprs: &[K],
 ) -> Result<Vec<(u32, Message<K>)>, Memory>
+    requires { find_face face g.now ≡ Some f.now }
     ensures { IfOk result (λ sends. sends.items
         ≡ map (λ m. (face, m)) (flat_map (untold_of K.cmp K.matching f.now) exprs.now)) }
 {
     let mut sends = Vec::new(alloc);
     for expr in exprs {
-        untell_one(face, f, expr, &mut sends)?;
+        untell_one(g, face, f, expr, &mut sends)?;
     }
     Ok(sends)
 }
@@ -76,9 +80,11 @@ fn untell_all<K: Key>(
 #[tactic(auto, using(crate::proofs::Gone::untold_all), unfolding(zt_model::specs::Routing::untell_to))]
 fn untell_to<K: Key>(
     alloc: Global,
+    g: &GatewayState<K>,
     face: u32,
     f: &FaceState<K>,
 ) -> Result<Vec<(u32, Message<K>)>, Memory>
+    requires { find_face face g.now ≡ Some f.now }
     ensures { IfOk result (λ sends. sends.items
         ≡ map (λ m. (face, m)) (untell_to K.cmp K.matching f.now)) }
 {
@@ -86,7 +92,7 @@ fn untell_to<K: Key>(
         return Ok(Vec::new(alloc));
     }
     let exprs = told_in_order(alloc, f)?;
-    Ok(untell_all(alloc, face, f, exprs.as_slice())?)
+    Ok(untell_all(alloc, g, face, f, exprs.as_slice())?)
 }
 
 /// A face is told that what it doesn't want any more is gone, by id, in key order. The only error
@@ -102,6 +108,6 @@ pub fn untell<K: Key>(
 {
     match find_face(g, face) {
         None => Ok(Vec::new(alloc)),
-        Some(f) => untell_to(alloc, face, f),
+        Some(f) => untell_to(alloc, g, face, f),
     }
 }

@@ -1,13 +1,10 @@
 -- Numbers of faces, where a place is put behind the others or taken away again.
 use Rattle.std.proofs.Common.{◌≡◌, ℕ, ◌+◌, ◌<◌, ◌≤◌, ◌==◌, ◌&&◌, Bool, true, false, if◌then◌else◌, List, [], ◌∷◌, ◌++◌, length, Option, Some, None, is_some, refl, sym, ap, ◌∙◌, arith, eq-eqb, eqb-true, ne_eqb}
 use Rattle.std.proofs.lemmas.Bool.Decides.{nat_tests}
-use Rattle.std.specs.BTreeMap.{is_at}
-use Rattle.std.specs.Cmp.{tied_then, unsigned_tied}
 use Rattle.std.specs.Map.{lookup}
-use Rattle.std.specs.Ordering.{is_eq, nat_cmp}
 use Rattle.zt_keys.specs.Test.{by_test}
 use Rattle.zt_model.specs.Places.{Place, number_from}
-use Rattle.zt_places.specs.Found.{AreNumbers, HasNumber, LacksNumber, face_cmp, number_at, numbered, or_number, other_than}
+use Rattle.zt_places.specs.Found.{AreNumbers, HasNumber, LacksNumber, is_face, number_at, numbered, or_number, other_than}
 
 abbrev Numbers : Type 0
 Numbers = List ((ℕ × ℕ) × ℕ)
@@ -18,11 +15,8 @@ turned : (a b : ℕ) → (a == b) ≡ (b == a)
 turned a b = grind (arith, nat_tests)
 
 -- a face is found under itself alone
-same_face : (gateway face g f : ℕ) → is_at (face_cmp (gateway, face)) (g, f) ≡ ((g == gateway) && (f == face))
-same_face gateway face g f =
-    sym (tied_then (nat_cmp gateway g) (nat_cmp face f))
-    ∙ ap (λ b. b && is_eq (nat_cmp face f)) (unsigned_tied gateway g ∙ turned gateway g)
-    ∙ ap (λ b. (g == gateway) && b) (unsigned_tied face f ∙ turned face f)
+same_face : (gateway face g f : ℕ) → is_face (gateway, face) (g, f) ≡ ((g == gateway) && (f == face))
+same_face gateway face g f = ap (λ b. b && (face == f)) (turned gateway g) ∙ ap (λ b. (g == gateway) && b) (turned face f)
 
 and_first : (a b : Bool) → (a && b) ≡ true → a ≡ true
 and_first true b h = refl
@@ -73,7 +67,7 @@ number_kept gateway face number numbers there = record {
 }
 
 pub number_put : (gateway face number : ℕ) (old new : Numbers) → is_some (number_at gateway face old) ≡ false
-    → ((q : ℕ × ℕ) → lookup (is_at (face_cmp q)) new ≡ (if is_at (face_cmp (gateway, face)) q then Some number else lookup (is_at (face_cmp q)) old)) → HasNumber gateway face number old new
+    → ((q : ℕ × ℕ) → lookup (is_face q) new ≡ (if is_face (gateway, face) q then Some number else lookup (is_face q) old)) → HasNumber gateway face number old new
 number_put gateway face number old new absent puts = record {
   at = λ g f.
       let now : number_at g f new ≡ (if (g == gateway) && (f == face) then Some number else number_at g f old) =
@@ -94,7 +88,7 @@ number_stays gateway face number numbers other = record {
 }
 
 pub number_dropped : (gateway face number : ℕ) (old new : Numbers) → number_at gateway face old ≡ Some number
-    → ((q : ℕ × ℕ) → lookup (is_at (face_cmp q)) new ≡ (if is_at (face_cmp (gateway, face)) q then None else lookup (is_at (face_cmp q)) old)) → LacksNumber gateway face number old new
+    → ((q : ℕ × ℕ) → lookup (is_face q) new ≡ (if is_face (gateway, face) q then None else lookup (is_face q) old)) → LacksNumber gateway face number old new
 number_dropped gateway face number old new is drops = record {
   at = λ g f.
       let now : number_at g f new ≡ (if (g == gateway) && (f == face) then None else number_at g f old) =

@@ -4,22 +4,19 @@
 --     HasNumber, LacksNumber                 a face has a number, where it had none, or has it no more; all else stays
 --     FacesRise n links                      the faces that links join rise, from n on
 --     AreBelow face links                    all of them are below a face
-use Rattle.std.specs.Prelude.{◌≡◌, ℕ, ◌+◌, ◌<◌, ◌≤◌, ◌==◌, ◌&&◌, if◌then◌else◌, List, [], ◌∷◌, Option, Some, None, length, get_or}
-use Rattle.std.specs.BTreeMap.{is_at}
+use Rattle.std.specs.Prelude.{◌≡◌, ℕ, Bool, ◌+◌, ◌<◌, ◌≤◌, ◌==◌, ◌&&◌, if◌then◌else◌, List, [], ◌∷◌, Option, Some, None, length, get_or}
 use Rattle.std.specs.List.{AllByRecursion}
 use Rattle.std.specs.Map.{lookup}
-use Rattle.std.specs.Ordering.{nat_cmp, ordering_then}
-use Rattle.std.specs.declared.cmp.Ordering.{Ordering}
 use Rattle.zt_model.specs.Places.{Link, Place, number_from}
 
 -- ---- numbers
 
--- by gateway, and then by the number there
-abbrev pub face_cmp : ℕ × ℕ → ℕ × ℕ → Ordering
-face_cmp a b = ordering_then (nat_cmp a.0 b.0) (nat_cmp a.1 b.1)
+-- a face is told by its gateway, and its number there
+abbrev pub is_face : ℕ × ℕ → ℕ × ℕ → Bool
+is_face a b = (a.0 == b.0) && (a.1 == b.1)
 
 abbrev pub number_at : ℕ → ℕ → List ((ℕ × ℕ) × ℕ) → Option ℕ
-number_at gateway face numbers = lookup (is_at (face_cmp (gateway, face))) numbers
+number_at gateway face numbers = lookup (is_face (gateway, face)) numbers
 
 -- a number, where it is one: 0 is none
 abbrev pub numbered : ℕ → Option ℕ

@@ -4,7 +4,7 @@ ghost use Rattle.zt_model.specs.Places.{number_from};
 ghost use Rattle.zt_places.specs.Found.{AreNumbers, HasNumber, LacksNumber};
 
 use std::alloc::Global;
-use std::collections::BTreeMap;
+use std::collections::HashMap;
 use std::marker::Model;
 use zt_keys::Memory;
 
@@ -45,7 +45,7 @@ pub struct Places {
     places: Vec<PlaceState>,
     // The number of each face, by its gateway and its number there. Of equal places the first
     // counts.
-    numbers: BTreeMap<(u32, u32), u32>,
+    numbers: HashMap<(u32, u32), u32>,
 }
 
 impl Model for Places {
@@ -72,7 +72,7 @@ fn next_number(count: usize) -> Result<u32, Memory>
 
 // A face has a number, where it had none. The only error is want of memory, and then all stays.
 fn put_number(
-    numbers: &mut BTreeMap<(u32, u32), u32>,
+    numbers: &mut HashMap<(u32, u32), u32>,
     gateway: u32,
     face: u32,
     number: u32,
@@ -89,7 +89,7 @@ fn put_number(
 }
 
 // A face has a number no more, where it was this one.
-fn drop_number(numbers: &mut BTreeMap<(u32, u32), u32>, gateway: u32, face: u32, number: usize)
+fn drop_number(numbers: &mut HashMap<(u32, u32), u32>, gateway: u32, face: u32, number: usize)
     ensures { LacksNumber gateway face number numbers.old.entries numbers.new.entries }
 {
     if let Some(found) = numbers.get(&(gateway, face)) {
@@ -102,7 +102,7 @@ fn drop_number(numbers: &mut BTreeMap<(u32, u32), u32>, gateway: u32, face: u32,
 // One more place. The only error is want of memory, and then all stays.
 fn push_in(
     places: &mut Vec<PlaceState>,
-    numbers: &mut BTreeMap<(u32, u32), u32>,
+    numbers: &mut HashMap<(u32, u32), u32>,
     gateway: u32,
     face: u32,
 ) -> Result<(), Memory>
@@ -124,7 +124,7 @@ fn push_in(
 }
 
 // The last place goes.
-fn pop_in(places: &mut Vec<PlaceState>, numbers: &mut BTreeMap<(u32, u32), u32>)
+fn pop_in(places: &mut Vec<PlaceState>, numbers: &mut HashMap<(u32, u32), u32>)
     requires { AreNumbers numbers.old.entries places.old.items }
     ensures numbers { AreNumbers numbers.new.entries places.new.items }
     ensures places { places.new.items ≡ take (length places.old.items - 1) places.old.items }
@@ -142,7 +142,7 @@ impl Places {
     {
         Places {
             places: Vec::new(alloc),
-            numbers: BTreeMap::new(alloc),
+            numbers: HashMap::new(alloc),
         }
     }
 

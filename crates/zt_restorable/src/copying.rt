@@ -1,35 +1,11 @@
-// Copies of calls, and of the lists that they hold.
+// Copies of calls.
 ghost use Rattle.std.specs.Prelude.{◌≡◌, IfOk};
 ghost use Rattle.zt_protocol.specs.Plain.{plain_call};
 
 use std::alloc::Global;
+use zt_face::{copy_keys, copy_queryables};
 use zt_keys::{Key, Memory};
-use zt_protocol::{Call, QueryableInfo, copy_expression};
-
-/// Equal keys. The only error is want of memory.
-pub fn copy_keys<K: Key>(alloc: Global, keys: &[K]) -> Result<Vec<K>, Memory>
-    ensures { IfOk result (λ copies. copies.items ≡ keys.now) }
-{
-    let mut copies = Vec::new(alloc);
-    for key in keys {
-        copies.push(key.copy(alloc)?)?;
-    }
-    Ok(copies)
-}
-
-/// Equal queryables. The only error is want of memory.
-pub fn copy_queryables<K: Key>(
-    alloc: Global,
-    queryables: &[(K, QueryableInfo)],
-) -> Result<Vec<(K, QueryableInfo)>, Memory>
-    ensures { IfOk result (λ copies. copies.items ≡ queryables.now) }
-{
-    let mut copies = Vec::new(alloc);
-    for queryable in queryables {
-        copies.push((queryable.0.copy(alloc)?, queryable.1))?;
-    }
-    Ok(copies)
-}
+use zt_protocol::{Call, copy_expression};
 
 /// An equal call. The only error is want of memory.
 pub fn copy_call<K: Key>(alloc: Global, call: &Call<K>) -> Result<Call<K>, Memory>

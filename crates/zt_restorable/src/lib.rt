@@ -7,5 +7,6 @@ mod copying;
 mod restorable;
 
 pub use boxed::BoxedState;
-pub use copying::{copy_call, copy_keys, copy_queryables};
+pub use copying::copy_call;
 pub use restorable::{Ahead, RestorableState, Turn};
+pub use zt_face::{copy_keys, copy_queryables};

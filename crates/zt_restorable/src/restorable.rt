@@ -12,23 +12,28 @@ use std::marker::Model;
 use zt_calls::carry_out;
 use zt_keys::{Key, Memory};
 use zt_protocol::{Call, Message, TreeTable};
-use zt_state::GatewayState;
+use zt_state::{FaceState, GatewayState};
 
 // How much calls may hold at least before all is copied.
 const LEAST_HELD: usize = 64;
 
+// How much calls may hold for each row. To copy a row costs about a quarter of a call, and a
+// row and a call take about as much memory: so a call costs an eighth more for being kept, and the
+// calls take at most about twice as much memory as the copy.
+const HELD_FOR_A_ROW: usize = 2;
+
 /// What a gateway keeps, with the way back to it: what it kept earlier, and the calls that were
 /// carried out since. A call is carried out on what the gateway keeps, in place. One that lacks
 /// memory leaves that half changed: it is dropped, and got back from what was kept earlier by the
-/// calls since, before the next call. When the calls hold as much as what is kept, all is copied,
-/// and the calls are forgotten: so they take about as much memory as the copy, at most.
+/// calls since, before the next call. When the calls hold twice as much as what was copied
+/// last, and 64 more, all is copied, and the calls are forgotten.
 #[derive(Drop)]
 pub struct RestorableState<K: Key> {
     // What the gateway kept earlier.
     earlier: GatewayState<K>,
     // The calls since.
     calls: Vec<Call<K>>,
-    // How much more calls may hold before all is copied: as much as what is kept had rows.
+    // How much more calls may hold before all is copied.
     left: usize,
     // What the gateway keeps, unless a call lacked memory or isn't committed yet. Where there is
     // none and no call came since, it is what was kept earlier.
@@ -122,16 +127,47 @@ fn held_by<K: Key>(call: &Call<K>) -> usize {
     }
 }
 
+// How much asks keep: each itself, what it was sent as, and what it was answered.
+fn held_by_asks<K: Key>(f: &FaceState<K>) -> usize {
+    let mut held = 0usize;
+    for (_, ask) in f.asks().iter() {
+        let own = ask.pendings().len().saturating_add(ask.answered().len());
+        held = held.saturating_add(own).saturating_add(1);
+    }
+    held
+}
+
+// How many interests the face was sent and not told that they end.
+fn interests_sent_to<K: Key>(f: &FaceState<K>) -> usize {
+    let mut sent = 0usize;
+    for _ in f.locals().iter() {
+        sent = sent.saturating_add(1);
+    }
+    sent
+}
+
+// How many rows a face keeps, with the places of tokens that are gone, and one for itself.
+fn rows_at<K: Key>(f: &FaceState<K>) -> usize {
+    let counts = [
+        f.live().iter().count(),
+        f.told().places().len(),
+        f.held().iter().count(),
+        interests_sent_to(f),
+        f.pendings().iter().count(),
+        held_by_asks(f),
+        f.subscribers().len(),
+        f.queryables().len(),
+    ];
+    counts
+        .iter()
+        .fold(1usize, |sum, more| sum.saturating_add(*more))
+}
+
 // How many rows a gateway keeps: how much is copied with it.
 fn rows_in<K: Key>(state: &GatewayState<K>) -> usize {
-    let mut rows = 0usize;
+    let mut rows = state.dictionary().len();
     for f in state.faces() {
-        let own = f
-            .told()
-            .places()
-            .len()
-            .saturating_add(f.live().iter().count());
-        rows = rows.saturating_add(own).saturating_add(1);
+        rows = rows.saturating_add(rows_at(f));
     }
     for (_, table) in state.trees() {
         rows = rows.saturating_add(entries_in(table.table()));
@@ -213,8 +249,8 @@ impl<K: Key> RestorableState<K> {
         Ok(())
     }
 
-    // Copies all, where the calls hold as much as what was kept, and forgets them. The only error
-    // is want of memory.
+    // Copies all, where the calls hold twice as much as what was kept, and forgets them. The only
+    // error is want of memory.
     fn save(&mut self, alloc: Global) -> Result<(), Memory>
         ensures { self.new ≡ self.old }
     {
@@ -225,7 +261,8 @@ impl<K: Key> RestorableState<K> {
             return Ok(());
         };
         let mut copy = boxed_copy(alloc, &*current.inner)?;
-        self.left = LEAST_HELD.saturating_add(rows_in(&*current.inner));
+        let held = rows_in(&*current.inner).saturating_mul(HELD_FOR_A_ROW);
+        self.left = LEAST_HELD.saturating_add(held);
         exchange(&mut self.earlier, &mut copy);
         self.calls.clear();
         Ok(())

@@ -1,32 +1,38 @@
 -- Faces that change, open and go, beside what is looked up.
-use Rattle.std.proofs.Common.{◌≡◌, ℕ, ◌+◌, ◌-◌, ◌==◌, Bool, true, false, not, ◌&&◌, ◌||◌, if◌then◌else◌, List, [], ◌∷◌, ◌++◌, ap, arith, filter, flat_map, map, refl, subst, sym, ◌∙◌}
+use Rattle.std.proofs.Common.{◌≡◌, ℕ, ◌==◌, Bool, true, false, not, ◌&&◌, ◌||◌, if◌then◌else◌, List, [], ◌∷◌, ◌++◌, Some, None, ap, filter, flat_map, map, refl, subst, sym, ◌∙◌}
 use Rattle.std.proofs.lemmas.List.{map-append}
 use Rattle.std.proofs.lemmas.List.Elements.{filter-append}
+use Rattle.std.specs.Cmp.{IsTotalOrder}
 use Rattle.std.specs.List.{AllByRecursion, list_any}
 use Rattle.std.specs.List.Sorted.{IsStrictlySortedBy}
 use Rattle.std.specs.Ordering.{nat_cmp}
 use Rattle.std.specs.declared.cmp.Ordering.{Ordering}
+use Rattle.std.specs.declared.cmp.Ordering.TheVariants.{Equal}
 use Rattle.zt_keys.specs.Test.{by_test}
 use Rattle.zt_keys.specs.declared.anchor.Anchor.{Anchor}
 use Rattle.zt_region.specs.Region.{is_north}
-use Rattle.std.specs.Prelude.{Option}
+use Rattle.std.specs.Prelude.{IfSome, Option}
 use Rattle.zt_interest_index.specs.Held.{indexed-none}
 use Rattle.zt_interest_index.specs.Holders.{IsIndexOf}
 use Rattle.zt_interest_index.specs.Holdings.{asks_from}
 use Rattle.zt_model.specs.Rows.{ById, Face, InterestRow}
-use Rattle.zt_model.specs.Visible.{keeps}
 use Rattle.zt_model.specs.Wants.{seeks}
 use Rattle.std.specs.FinMap.Entries.{put}
 use Rattle.std.proofs.lemmas.List.Folds.{list_any-append}
 use Rattle.zt_protocol.specs.Interest.{is_future}
-use Rattle.zt_face.specs.Told.{IsInOrder}
+use Rattle.zt_protocol.specs.declared.messages.Message.{Message}
+use Rattle.zt_protocol.specs.declared.messages.Message.TheVariants.{DeclareToken, UndeclareToken, DeclareFinal, Interest, InterestFinal, DeclareSubscriber, DeclareQueryable}
+use Rattle.zt_face.specs.Told.{AreApart, IsInOrder, untold_known}
+use Rattle.zt_face.proofs.Told.{dropped_without, none_dropped, told_at as row-told}
 use Rattle.zt_interest_index.specs.Holdings.{is_of}
 use Rattle.zt_interest_index.specs.declared.bucket.Bucket.{Bucket}
-use Rattle.zt_model.specs.Hearing.{put_if}
+use Rattle.zt_model.specs.Hearing.{put_if, untold}
+use Rattle.zt_model.specs.Parts.{told_id}
 use Rattle.zt_model.specs.Routing.{asked_as, unheld}
-use Rattle.zt_seekers.specs.Seekers.{AreSeekers, IsOnlyOne, Leaves, Reseeks, Seeking, TokenRow, count_told, no_seekers, north_numbers, token_rows, token_rows_of}
-use Rattle.zt_seekers.specs.Told.{IsRetold, counted, is_kept}
-use Rattle.zt_seekers.proofs.Counted.{count-changed, count-gone, count-kept, count-more}
+use Rattle.zt_seekers.specs.Seekers.{AreSeekers, IsKnown, IsOnlyOne, Leaves, Reseeks, Seeking, TokenRow, no_seekers, north_numbers, token_rows, token_rows_of}
+use Rattle.zt_told.specs.Told.{id_of, told_at}
+use Rattle.zt_seekers.specs.Told.{IsRetold, gone_id}
+use Rattle.zt_seekers.proofs.AmongFaces.{all-changed, all-kept, all-less, all-more, at-changed, at-kept, at-less, at-more, at-own, of-one}
 use Rattle.zt_seekers.proofs.Held.{dropped, index_alike, kept, put_all}
 use Rattle.zt_seekers.proofs.Numbers.{chosen_in, chosen_sorted, in_tests, is_in, seeks_any, sorted_same}
 
@@ -69,14 +75,9 @@ module _ {K : Type 0} where
   rows_more [] f none = ap (λ (held : ById (InterestRow K)). token_rows_of f.number held ++ []) none
   rows_more (x ∷ xs) f none = ap (λ rows. token_rows x ++ rows) (rows_more xs f none)
 
-  -- how many faces keep an expression, where the face of a number keeps what it was told
-  told_kept : (cmp : K → K → Ordering) (e : K) (n : ℕ) (change : Face K → Face K) → ((x : Face K) → (change x).told ≡ x.told) → (fs : List (Face K))
-      → count_told cmp (map (λ x. if n == x.number then change x else x) fs) e ≡ count_told cmp fs e
-  told_kept cmp e n change told fs = count-kept (λ (x : Face K). x.number) n (λ x. keeps cmp x e) change (λ x. ap (is_kept cmp e) (told x)) fs
-
   module _ (cmp : K → K → Ordering) (anchored : Anchor → K → Option ℕ) where
     pub seekers-none : AreSeekers cmp anchored no_seekers []
-    seekers-none = record { north = refl; index = indexed-none anchored; told = λ e. refl }
+    seekers-none = record { north = refl; index = indexed-none anchored; told = λ e n. refl; apart = tt }
 
     -- a change that keeps the number, the region, what the face holds and what it was told
     pub seekers-quiet : (n : ℕ) (change : Face K → Face K) → ((x : Face K) → (change x).number ≡ x.number) → ((x : Face K) → (change x).region ≡ x.region) → ((x : Face K) → (change x).held ≡ x.held) → ((x : Face K) → (change x).told ≡ x.told)
@@ -84,7 +85,8 @@ module _ {K : Type 0} where
     seekers-quiet n change number region held told seeking fs are = record {
       north = are.north ∙ sym (north_kept n change number region fs);
       index = subst (IsIndexOf anchored seeking.index) (sym (kept n change number held fs)) are.index;
-      told = λ e. are.told e ∙ sym (told_kept cmp e n change told fs);
+      told = λ e m. are.told e m ∙ at-kept cmp e n change number told m fs;
+      apart = all-kept (λ (x : Face K). AreApart cmp x.told) n change (λ x apart. subst (AreApart cmp) (sym (told x)) apart) fs are.apart;
     }
 
     -- a face more that holds nothing and was told nothing yet
@@ -93,7 +95,8 @@ module _ {K : Type 0} where
     seekers-opened f none untold seeking fs are = record {
       north = ap (λ ns. ns ++ north_numbers (f ∷ [])) are.north ∙ sym (north_more fs f);
       index = subst (IsIndexOf anchored seeking.index) (sym (rows_more fs f none)) are.index;
-      told = λ e. are.told e ∙ sym (count-more (λ x. keeps cmp x e) fs f (ap (is_kept cmp e) untold));
+      told = λ e m. are.told e m ∙ at-more cmp e f untold m fs;
+      apart = all-more (λ (x : Face K). AreApart cmp x.told) fs f are.apart (subst (AreApart cmp) (sym untold) tt);
     }
 
     -- the interest of an id goes
@@ -104,7 +107,8 @@ module _ {K : Type 0} where
       at = λ fs one are. record {
         north = same ∙ are.north ∙ sym (north_kept f.number (unheld id) (λ x. refl) (λ x. refl) fs);
         index = subst (IsIndexOf anchored new.index) (dropped f.number id (unheld id) (λ x. refl) (λ x. refl) fs) (drops fs one are.index);
-        told = λ e. ap (λ (told : List (K × ℕ)). counted cmp told e) still ∙ are.told e ∙ sym (told_kept cmp e f.number (unheld id) (λ x. refl) fs);
+        told = λ e m. ap (λ told. id_of m (told_at cmp e told)) still ∙ are.told e m ∙ at-kept cmp e f.number (unheld id) (λ x. refl) (λ x. refl) m fs;
+        apart = all-kept (λ (x : Face K). AreApart cmp x.told) f.number (unheld id) (λ x apart. apart) fs are.apart;
       };
     }
 
@@ -126,7 +130,8 @@ module _ {K : Type 0} where
                 ∙ ap (λ b. (b && list_any test (token_rows_of f.number ((id, i) ∷ []))) || list_any test (filter (λ row. not (is_of f.number id row)) (flat_map token_rows fs))) (sym one.found)
                 ∙ sym (put_all test f.number id i change (λ x. refl) held fs (ordered fs one.only)))
                 (puts (filter (λ row. not (is_of f.number id row)) (flat_map token_rows fs)) (drops fs one are.index));
-            told = λ e. ap (λ (told : List (K × ℕ)). counted cmp told e) still ∙ are.told e ∙ sym (told_kept cmp e f.number change (λ x. refl) fs);
+            told = λ e m. ap (λ told. id_of m (told_at cmp e told)) still ∙ are.told e m ∙ at-kept cmp e f.number change (λ x. refl) (λ x. refl) m fs;
+            apart = all-kept (λ (x : Face K). AreApart cmp x.told) f.number change (λ x apart. apart) fs are.apart;
           };
         }
       where
@@ -140,34 +145,59 @@ module _ {K : Type 0} where
       at = λ fs one are. seekers-quiet f.number (asked_as pendings id i) (λ x. refl) (λ x. refl) (λ x. ap (λ b. put_if b id i x.held) never) (λ x. refl) seeking fs are;
     }
 
+    -- what the face was told is apart, and found
+    its-apart : (f : Face K) (seeking : Seeking K) (fs : List (Face K)) → IsOnlyOne f fs → AreSeekers cmp anchored seeking fs → AreApart cmp f.told
+    its-apart f seeking fs one are = of-one (λ (x : Face K). AreApart cmp x.told) f fs one.found one.only are.apart
+
+    its-found : (f : Face K) (seeking : Seeking K) (fs : List (Face K)) → IsOnlyOne f fs → AreSeekers cmp anchored seeking fs → (e : K) → id_of f.number (told_at cmp e seeking.told) ≡ told_id cmp e f.told
+    its-found f seeking fs one are e = are.told e f.number ∙ at-own cmp e f fs one.found one.only
+
     -- what the face was told changes, and nothing else that is looked up
     pub seekers-retold : (f : Face K) (change : Face K → Face K) → ((x : Face K) → (change x).number ≡ x.number) → ((x : Face K) → (change x).region ≡ x.region) → ((x : Face K) → (change x).held ≡ x.held)
-        → (old new : Seeking K) → new.north ≡ old.north → new.index ≡ old.index → IsRetold cmp f.told (change f).told (counted cmp old.told) (counted cmp new.told) → Reseeks cmp anchored f change old new
+        → (old new : Seeking K) → new.north ≡ old.north → new.index ≡ old.index → IsRetold cmp f.number f.told (change f).told old.told new.told → Reseeks cmp anchored f change old new
     seekers-retold f change number region held old new same still retold = record {
-      at = λ fs one are. record {
-        north = same ∙ are.north ∙ sym (north_kept f.number change number region fs);
-        index = rw still (subst (IsIndexOf anchored old.index) (sym (kept f.number change number held fs)) are.index);
-        told = λ e. after-change _ _ _ _ _ _ (retold.at e) (are.told e) (count-changed (λ (x : Face K). x.number) f.number (λ x. keeps cmp x e) f change fs one.alone);
-      };
+      at = λ fs one are.
+          let apart = its-apart f old fs one are in
+          let finds = its-found f old fs one are in
+          record {
+            north = same ∙ are.north ∙ sym (north_kept f.number change number region fs);
+            index = rw still (subst (IsIndexOf anchored old.index) (sym (kept f.number change number held fs)) are.index);
+            told = λ e m. retold.at apart finds e m ∙ ap (λ o. if f.number == m then told_id cmp e (change f).told else o) (are.told e m) ∙ at-changed cmp e f change number fs one.found one.only m;
+            apart = all-changed (λ (x : Face K). AreApart cmp x.told) f change (retold.apart apart finds) fs one.only are.apart;
+          };
     }
-      where
-        after-change : (new old was now before after : ℕ) → new ≡ (old + after) - before → old ≡ was → now + before ≡ was + after → new ≡ now
-        after-change new old was now before after a b c = omega (arith, a, b, c)
 
     -- the face goes
-    pub seekers-closed : (f : Face K) (old new : Seeking K) → new.north ≡ filter (λ m. not (f.number == m)) old.north → IsRetold cmp f.told [] (counted cmp old.told) (counted cmp new.told)
+    pub seekers-closed : (f : Face K) (old new : Seeking K) → new.north ≡ filter (λ m. not (f.number == m)) old.north → IsRetold cmp f.number f.told [] old.told new.told
         → ((fs : List (Face K)) → IsOnlyOne f fs → IsIndexOf anchored old.index (flat_map token_rows fs) → IsIndexOf anchored new.index (flat_map token_rows (filter (λ x. not (f.number == x.number)) fs)))
         → Leaves cmp anchored f old new
     seekers-closed f old new less retold drops = record {
       at = λ fs one are. record {
         north = less ∙ ap (filter (λ m. not (f.number == m))) are.north ∙ north_less f.number fs;
         index = drops fs one are.index;
-        told = λ e. after-close _ _ _ _ _ (retold.at e) (are.told e) (count-gone (λ (x : Face K). x.number) f.number (λ x. keeps cmp x e) f fs one.alone);
+        told = λ e m. retold.at (its-apart f old fs one are) (its-found f old fs one are) e m ∙ ap (λ o. if f.number == m then told_id cmp e [] else o) (are.told e m) ∙ at-less cmp e f.number fs m;
+        apart = all-less (λ (x : Face K). AreApart cmp x.told) f.number fs are.apart;
       };
     }
+
+    -- a message is heard by the id that is known
+    pub seekers-known : IsTotalOrder cmp → ((a b : K) → cmp a b ≡ Equal → a ≡ b) → (f : Face K) (message : Message K) (known : Option ℕ) (seeking : Seeking K)
+        → known ≡ gone_id cmp f.number message seeking.told → IfSome known (λ id. IsInOrder f.told) → IsKnown cmp anchored f message known seeking
+    seekers-known total exact f (UndeclareToken id (Some e) node) known seeking is ordered = record {
+      at = λ fs one are moment.
+          ap (λ told. record f { told = told }) (by-id known ordered (its-apart f seeking fs one are) (sym (is ∙ its-found f seeking fs one are e)));
+    }
       where
-        after-close : (new old was now before : ℕ) → new ≡ (old + 0) - before → old ≡ was → now + before ≡ was → new ≡ now
-        after-close new old was now before a b c = omega (arith, a, b, c)
+        by-id : (known : Option ℕ) → IfSome known (λ id. IsInOrder f.told) → AreApart cmp f.told → told_id cmp e f.told ≡ known → untold_known id (Some e) known f.told ≡ untold cmp id (Some e) f.told
+        by-id None ordered apart told = sym (none_dropped cmp total exact e f.told told)
+        by-id (Some n) ordered apart told = sym (dropped_without cmp total exact n e f.told ordered apart (row-told cmp total exact n e f.told ordered told))
+    seekers-known total exact f (UndeclareToken id None node) known seeking is ordered = record { at = λ fs one are moment. refl }
+    seekers-known total exact f (DeclareToken id e interest node) known seeking is ordered = record { at = λ fs one are moment. refl }
+    seekers-known total exact f (DeclareFinal interest) known seeking is ordered = record { at = λ fs one are moment. refl }
+    seekers-known total exact f (Interest id mode options e) known seeking is ordered = record { at = λ fs one are moment. refl }
+    seekers-known total exact f (InterestFinal id) known seeking is ordered = record { at = λ fs one are moment. refl }
+    seekers-known total exact f (DeclareSubscriber id e interest) known seeking is ordered = record { at = λ fs one are moment. refl }
+    seekers-known total exact f (DeclareQueryable id e info interest) known seeking is ordered = record { at = λ fs one are moment. refl }
 
     -- those found are the faces that seek the expression
     pub seekers-found : (matching : K → K → Bool) (e : K) (seeking : Seeking K) (found : List ℕ) (fs : List (Face K)) → IsStrictlySortedBy nat_cmp (map (λ f. f.number) fs) → AreSeekers cmp anchored seeking fs

@@ -1,7 +1,7 @@
-mod Hashed
+mod AmongFaces
+pub mod Changed
+mod Heard
 pub mod Held
 pub mod Numbers
-pub mod Changed
-mod Counted
-mod Heard
 mod Retold
+pub mod ToldAt

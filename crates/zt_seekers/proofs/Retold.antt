@@ -1,193 +1,206 @@
--- How many faces were told an expression, where what one face was told changes.
-use Rattle.std.proofs.Common.{◌≡◌, ℕ, ◌+◌, ◌-◌, ◌==◌, Bool, true, false, ◌&&◌, ◌||◌, not, [], ◌∷◌, ◌++◌, Some, None, is_some, ap, arith, filter, refl, subst, sym, ◌∙◌}
-use Rattle.std.proofs.lemmas.Cmp.{eq_by_cmp_equiv}
-use Rattle.std.proofs.lemmas.List.Folds.{list_any-append}
-use Rattle.std.proofs.lemmas.Option.{same_Some}
-use Rattle.std.specs.Cmp.{IsTotalOrder, tied_itself}
-use Rattle.std.specs.List.{list_any}
-use Rattle.std.specs.Ordering.{is_eq}
+-- What an index finds, where what one face was told changes.
+use Rattle.std.proofs.Common.{◌≡◌, ℕ, ◌==◌, Bool, true, false, cond, not, if◌then◌else◌, List, [], ◌∷◌, ◌++◌, Option, Some, None, ap, arith, filter, refl, subst, sym, ◌∙◌}
+use Rattle.std.proofs.lemmas.Bool.{eqb-true}
+use Rattle.std.proofs.lemmas.Bool.Decides.{nat_tests}
+use Rattle.std.specs.BTreeMap.{is_at}
+use Rattle.std.specs.Cmp.{IsTotalOrder, eq_by_cmp_equiv, nat_cmp_total}
+use Rattle.std.specs.FinMap.Entries.{find, find-put}
+use Rattle.std.specs.Ordering.{is_eq, nat_cmp}
 use Rattle.std.specs.declared.cmp.Ordering.{Ordering}
 use Rattle.std.specs.declared.cmp.Ordering.TheVariants.{Less, Equal, Greater}
 use Rattle.zt_keys.specs.Test.{by_test}
 use Rattle.zt_face.specs.Told.{AreApart, IsInOrder}
-use Rattle.zt_face.proofs.Told.{dropped_without, none_without, told_is_some}
+use Rattle.zt_face.proofs.Told.{apart_added, apart_dropped, dropped_without, none_dropped, none_without, told_added, told_at as row-told, told_dropped, with_again, with_first}
 use Rattle.zt_model.specs.Hearing.{told_pair}
 use Rattle.zt_model.specs.Lists.{at_id, same, without_id}
+use Rattle.zt_model.specs.Parts.{told_id}
 use Rattle.zt_model.specs.Rows.{ById}
-use Rattle.zt_seekers.specs.Told.{IsOneLess, IsOneMore, IsRetold, is_kept, one_if}
+use Rattle.zt_told.specs.Told.{ChangesAt, id_of, told_at, with_face, without_face}
+use Rattle.zt_seekers.specs.Told.{Index, IsRetold}
 
--- ---- sums
-none-more : (n : ℕ) → 0 + n ≡ n
-none-more n = omega arith
+-- ---- pairs of face and id
+turned-test : (n m : ℕ) → is_eq (nat_cmp m n) ≡ (n == m)
+turned-test n m = grind (arith, nat_tests)
 
-grown : (new old s before after : ℕ) → new ≡ old + s → s + before ≡ after → new ≡ (old + after) - before
-grown new old s before after a b = omega (arith, a, b)
+find-id : (m : ℕ) (pairs : List (ℕ × ℕ)) → find nat_cmp m pairs ≡ id_of m pairs
+find-id m [] = refl
+find-id m (pair ∷ pairs) = ap (cond (is_at (nat_cmp m) pair.0) (Some pair.1)) (find-id m pairs)
 
-lessened : (new old s before after : ℕ) → new ≡ old - s → s + after ≡ before → new ≡ (old + after) - before
-lessened new old s before after a b = omega (arith, a, b)
+-- the id of a face where one is put
+id-put : (m n id : ℕ) (pairs : List (ℕ × ℕ)) → id_of m (with_face n id pairs) ≡ (if n == m then Some id else id_of m pairs)
+id-put m n id pairs =
+    sym (find-id m (with_face n id pairs)) ∙ find-put nat_cmp nat_cmp_total m n id pairs
+    ∙ ap (cond (is_eq (nat_cmp m n)) (Some id)) (find-id m pairs) ∙ ap (λ b. cond b (Some id) (id_of m pairs)) (turned-test n m)
 
-stayed : (old before after : ℕ) → after ≡ before → old ≡ (old + after) - before
-stayed old before after a = omega (arith, a)
+-- and where one goes
+id-dropped : (m n : ℕ) (pairs : List (ℕ × ℕ)) → id_of m (without_face n pairs) ≡ (if n == m then None else id_of m pairs)
+id-dropped m n [] = by_test (n == m) (λ t. rw t refl) (λ t. rw t refl)
+id-dropped m n (pair ∷ pairs) =
+    let rest = id-dropped m n pairs in
+    by_test (n == pair.0)
+    (λ gone. by_test (n == m)
+    (λ t. rw (gone, t) (rw t at rest))
+    (λ t.
+    let other : is_eq (nat_cmp m pair.0) ≡ false = ap (λ k. is_eq (nat_cmp m k)) (sym (eqb-true n pair.0 gone)) ∙ turned-test n m ∙ t in
+    rw (gone, t, other) (rw t at rest)))
+    (λ kept. by_test (is_eq (nat_cmp m pair.0))
+    (λ own.
+    let apart : (n == m) ≡ false = ap (λ k. n == k) (eqb-true m pair.0 (sym (turned-test m pair.0) ∙ turned pair.0 m own)) ∙ kept in
+    rw (kept, own, apart) refl)
+    (λ other. rw (kept, other) rest))
+  where
+    turned : (k m : ℕ) → is_eq (nat_cmp m k) ≡ true → is_eq (nat_cmp k m) ≡ true
+    turned k m t = grind (arith, nat_tests)
 
--- ---- tests
-or_false_first : (a b : Bool) → (a || b) ≡ false → a ≡ false
-or_false_first true b h = h
-or_false_first false b h = refl
+module _ {K : Type 0} (cmp : K → K → Ordering) (n : ℕ) where
+  -- the index finds for the face what it was told
+  abbrev pub Finds : ById K → Index K → Type 0
+  Finds rows index = (q : K) → id_of n (told_at cmp q index) ≡ told_id cmp q rows
 
-or_false_second : (a b : Bool) → (a || b) ≡ false → b ≡ false
-or_false_second true b h = cc
-or_false_second false b h = h
+  -- where the index finds the same of an expression as before, or for the face the id that is there now
+  abbrev Refinds : K → Option ℕ → Index K → Index K → Type 0
+  Refinds e there old new = (q : K) (m : ℕ) → id_of m (told_at cmp q new) ≡ (if same cmp e q then (if n == m then there else id_of m (told_at cmp q old)) else id_of m (told_at cmp q old))
 
-or_true_second : (a b : Bool) → b ≡ true → (a || b) ≡ true
-or_true_second true b h = refl
-or_true_second false b h = h
+  refinds : (e : K) (change : List (ℕ × ℕ) → List (ℕ × ℕ)) (there : Option ℕ) → ((m : ℕ) (pairs : List (ℕ × ℕ)) → id_of m (change pairs) ≡ (if n == m then there else id_of m pairs))
+      → (old new : Index K) → ChangesAt cmp e change old new → Refinds e there old new
+  refinds e change there found old new changes q m =
+      ap (id_of m) (changes.at q) ∙ by_test (same cmp e q) (λ t. rw t (found m (told_at cmp q old))) (λ t. rw t refl)
 
-or_false : (a : Bool) → (a || false) ≡ a
-or_false true = refl
-or_false false = refl
+  -- what is found for the face, and for others, where one expression changes
+  one-refound : (e : K) (there : Option ℕ) (before after : ById K) (old new : Index K) → Refinds e there old new → ((q : K) → told_id cmp q after ≡ (if same cmp e q then there else told_id cmp q before))
+      → Finds before old → (q : K) (m : ℕ) → id_of m (told_at cmp q new) ≡ (if n == m then told_id cmp q after else id_of m (told_at cmp q old))
+  one-refound e there before after old new changes rows finds q m =
+      changes q m
+      ∙ by_test (n == m)
+      (λ t.
+      let own : id_of m (told_at cmp q old) ≡ told_id cmp q before = subst (λ k. id_of k (told_at cmp q old) ≡ told_id cmp q before) (eqb-true n m t) (finds q) in
+      rw t (ap (λ (o : Option ℕ). if same cmp e q then there else o) own ∙ sym (rows q)))
+      (λ t. rw t (either (same cmp e q)))
+    where
+      either : (b : Bool) → (if b then id_of m (told_at cmp q old) else id_of m (told_at cmp q old)) ≡ id_of m (told_at cmp q old)
+      either true = refl
+      either false = refl
 
-no_pair : (a b c : Bool) → b ≡ false → c ≡ false → ((a && b) || c) ≡ false
-no_pair true b c h k = rw (h, k) refl
-no_pair false b c h k = k
+  -- nothing changes
+  pub retold-same : (rows : ById K) (index : Index K) → IsRetold cmp n rows rows index index
+  retold-same rows index = record {
+    apart = λ apart finds. apart;
+    at = λ apart finds q m. by_test (n == m)
+        (λ t. rw t (subst (λ k. id_of k (told_at cmp q index) ≡ told_id cmp q rows) (eqb-true n m t) (finds q)))
+        (λ t. rw t refl);
+  }
 
-module _ {K : Type 0} (cmp : K → K → Ordering) where
-  -- of an expression that isn't told there is no pair
-  none-told : (id : ℕ) (e : K) (rows : ById K) → is_kept cmp e rows ≡ false → list_any (λ row. id == row.0 && same cmp e row.1) rows ≡ false
-  none-told id e [] h = refl
-  none-told id e (row ∷ rows) h = no_pair (id == row.0) (same cmp e row.1) _ (or_false_first _ _ h) (none-told id e rows (or_false_second _ _ h))
+  -- the same rows by another name
+  pub retold-alike : (before after other : ById K) (old new : Index K) → (AreApart cmp before → Finds before old → after ≡ other) → IsRetold cmp n before after old new → IsRetold cmp n before other old new
+  retold-alike before after other old new alike retold = record {
+    apart = λ apart finds. subst (AreApart cmp) (alike apart finds) (retold.apart apart finds);
+    at = λ apart finds q m. retold.at apart finds q m ∙ ap (λ rows. if n == m then told_id cmp q rows else id_of m (told_at cmp q old)) (alike apart finds);
+  }
 
-  pair-new : (id : ℕ) (e : K) (rows : ById K) → (id == 0) ≡ false → is_kept cmp e rows ≡ false → told_pair cmp id e rows ≡ rows ++ (id, e) ∷ []
-  pair-new id e rows real none = let apart = none-told id e rows none in rw (real, apart) refl
+  -- a pair of an id that is never kept
+  pub retold-none : (id : ℕ) (e : K) (rows : ById K) (index : Index K) → (id == 0) ≡ true → IsRetold cmp n rows (told_pair cmp id e rows) index index
+  retold-none id e rows index none = retold-alike rows rows (told_pair cmp id e rows) index index (λ apart finds. rw none refl) (retold-same rows index)
 
-  more-kept : (q e : K) (id : ℕ) (rows : ById K) → is_kept cmp q (rows ++ (id, e) ∷ []) ≡ (is_kept cmp q rows || same cmp q e)
-  more-kept q e id rows = list_any-append (λ row. same cmp q row.1) rows ((id, e) ∷ []) ∙ ap (λ b. is_kept cmp q rows || b) (or_false (same cmp q e))
+  -- ---- all that a face was told goes
+  -- the rows that are left are found still, and no others
+  pub record LeavesFound (whole left : ById K) (old new : Index K) : Type 0 where
+    pub own : Finds whole old → (q : K) → told_id cmp q left ≡ None → id_of n (told_at cmp q new) ≡ None
+    pub others : (q : K) (m : ℕ) → (n == m) ≡ false → id_of m (told_at cmp q new) ≡ id_of m (told_at cmp q old)
 
-  -- where each expression is kept as before, the counts stay
-  pub retold-same : (before after : ById K) (counts : K → ℕ) → ((q : K) → is_kept cmp q after ≡ is_kept cmp q before) → IsRetold cmp before after counts counts
-  retold-same before after counts same = record { at = λ q. stayed (counts q) (one_if (is_kept cmp q before)) (one_if (is_kept cmp q after)) (ap one_if (same q)) }
+  pub leaves-all : (whole : ById K) (index : Index K) → LeavesFound whole whole index index
+  leaves-all whole index = record { own = λ finds q none. finds q ∙ none; others = λ q m apart. refl }
 
-  -- how many rows are of an expression
-  abbrev pub count_rows : K → ById K → ℕ
-  count_rows q [] = 0
-  count_rows q (row ∷ rows) = one_if (same cmp q row.1) + count_rows q rows
-
-  -- the rows that are left are counted still
-  abbrev pub LeavesCounted : ById K → ById K → (K → ℕ) → (K → ℕ) → Type 0
-  LeavesCounted whole left old new = (q : K) → new q - count_rows q left ≡ old q - count_rows q whole
+  pub leaves-none : (whole : ById K) (old new : Index K) → LeavesFound whole [] old new → IsRetold cmp n whole [] old new
+  unfolding told_id
+  leaves-none whole old new leaves = record {
+    apart = λ apart finds. tt;
+    at = λ apart finds q m. by_test (n == m)
+        (λ t. rw t (subst (λ k. id_of k (told_at cmp q new) ≡ None) (eqb-true n m t) (leaves.own finds q refl)))
+        (λ t. rw t (leaves.others q m t));
+  }
 
   module _ (total : IsTotalOrder cmp) (exact : (a b : K) → cmp a b ≡ Equal → a ≡ b) where
-    same-is : (a b : K) → same cmp a b ≡ true → a ≡ b
-    same-is a b t = exact a b (equal_of (cmp a b) t)
-      where
-        equal_of : (o : Ordering) → is_eq o ≡ true → o ≡ Equal
-        equal_of Less t = cc
-        equal_of Equal t = refl
-        equal_of Greater t = cc
-
-    same-itself : (a : K) → same cmp a a ≡ true
-    same-itself a = ap is_eq (tied_itself total a)
-
-    same-turned : (a b : K) → same cmp a b ≡ same cmp b a
-    same-turned a b = (eq_by_cmp_equiv total).symm a b
-
     -- ---- told
-    pub retold-more : (id : ℕ) (e : K) (rows : ById K) (old new : K → ℕ) → (id == 0) ≡ false → is_kept cmp e rows ≡ false → IsOneMore cmp e old new → IsRetold cmp rows (told_pair cmp id e rows) old new
-    retold-more id e rows old new real none more = record {
-      at = λ q. grown (new q) (old q) (one_if (same cmp e q)) (one_if (is_kept cmp q rows)) (one_if (is_kept cmp q (told_pair cmp id e rows))) (more q)
-          (by_test (same cmp e q) (λ t. here q t) (λ t. there q t));
-    }
+    pub retold-more : (id : ℕ) (e : K) (rows : ById K) (old new : Index K) → (id == 0) ≡ false → None ≡ id_of n (told_at cmp e old) → ChangesAt cmp e (with_face n id) old new → IsRetold cmp n rows (told_pair cmp id e rows) old new
+    retold-more id e rows old new real none changes =
+        retold-alike rows (rows ++ (id, e) ∷ []) (told_pair cmp id e rows) old new
+        (λ apart finds. rw real (sym (with_first cmp id e rows (absent finds))))
+        (record {
+          apart = λ apart finds. apart_added cmp total exact e id rows (absent finds) apart;
+          at = λ apart finds. one-refound e (Some id) rows (rows ++ (id, e) ∷ []) old new (refinds e (with_face n id) (Some id) (λ m. id-put m n id) old new changes) (λ q. told_added cmp total exact q e id rows (absent finds)) finds;
+        })
       where
-        after : (q : K) → is_kept cmp q (told_pair cmp id e rows) ≡ (is_kept cmp q rows || same cmp q e)
-        after q = ap (is_kept cmp q) (pair-new id e rows real none) ∙ more-kept q e id rows
+        absent : Finds rows old → told_id cmp e rows ≡ None
+        absent finds = sym (finds e) ∙ sym none
 
-        here : (q : K) → same cmp e q ≡ true → one_if (same cmp e q) + one_if (is_kept cmp q rows) ≡ one_if (is_kept cmp q (told_pair cmp id e rows))
-        here q t =
-            let before : is_kept cmp q rows ≡ false = subst (λ k. is_kept cmp k rows ≡ false) (same-is e q t) none in
-            let turned : same cmp q e ≡ true = same-turned q e ∙ t in
-            let later : is_kept cmp q (told_pair cmp id e rows) ≡ true = after q ∙ rw (before, turned) refl in
-            (λ i. one_if (t i) + one_if (before i)) ∙ sym (ap one_if later)
+    -- the same pair again
+    pub retold-again : (id : ℕ) (e : K) (rows : ById K) (old new : Index K) → Some id ≡ id_of n (told_at cmp e old) → ChangesAt cmp e (with_face n id) old new → IsRetold cmp n rows (told_pair cmp id e rows) old new
+    retold-again id e rows old new found changes =
+        retold-alike rows rows (told_pair cmp id e rows) old new
+        (λ apart finds. by_test (id == 0) (λ t. rw t refl) (λ t. rw t (sym (with_again cmp id e rows (there finds)))))
+        (record {
+          apart = λ apart finds. apart;
+          at = λ apart finds. one-refound e (Some id) rows rows old new (refinds e (with_face n id) (Some id) (λ m. id-put m n id) old new changes) (λ q. by_test (same cmp e q) (λ t. rw t (own finds q t)) (λ t. rw t refl)) finds;
+        })
+      where
+        there : Finds rows old → told_id cmp e rows ≡ Some id
+        there finds = sym (finds e) ∙ sym found
 
-        there : (q : K) → same cmp e q ≡ false → one_if (same cmp e q) + one_if (is_kept cmp q rows) ≡ one_if (is_kept cmp q (told_pair cmp id e rows))
-        there q t =
-            let turned : same cmp q e ≡ false = same-turned q e ∙ t in
-            let later : is_kept cmp q (told_pair cmp id e rows) ≡ is_kept cmp q rows = after q ∙ ap (λ b. is_kept cmp q rows || b) turned ∙ or_false (is_kept cmp q rows) in
-            (λ i. one_if (t i) + one_if (is_kept cmp q rows)) ∙ none-more (one_if (is_kept cmp q rows)) ∙ sym (ap one_if later)
+        equal : (o : Ordering) → is_eq o ≡ true → o ≡ Equal
+        equal Less t = cc
+        equal Equal t = refl
+        equal Greater t = cc
+
+        own : Finds rows old → (q : K) → same cmp e q ≡ true → told_id cmp q rows ≡ Some id
+        own finds q t = subst (λ k. told_id cmp k rows ≡ Some id) (exact e q (equal (cmp e q) t)) (there finds)
 
     -- ---- told that it is gone
-    dropped-own : (e : K) (rows : ById K) → is_kept cmp e (filter (λ row. not (same cmp e row.1)) rows) ≡ false
-    dropped-own e [] = refl
-    dropped-own e (row ∷ rows) = by_test (same cmp e row.1) (λ t. rw t (dropped-own e rows)) (λ t. rw (t, t) (dropped-own e rows))
+    pub retold-less : (e : K) (rows : ById K) (old new : Index K) → ChangesAt cmp e (without_face n) old new → IsRetold cmp n rows (filter (λ row. not (same cmp e row.1)) rows) old new
+    retold-less e rows old new changes = record {
+      apart = λ apart finds. apart_dropped cmp total exact e rows apart;
+      at = λ apart finds. one-refound e None rows (filter (λ row. not (same cmp e row.1)) rows) old new (refinds e (without_face n) None (λ m. id-dropped m n) old new changes) (λ q. told_dropped cmp total exact q e rows) finds;
+    }
 
-    dropped-other : (q e : K) → same cmp e q ≡ false → (rows : ById K) → is_kept cmp q (filter (λ row. not (same cmp e row.1)) rows) ≡ is_kept cmp q rows
-    dropped-other q e apart [] = refl
-    dropped-other q e apart (row ∷ rows) =
-        let rest = dropped-other q e apart rows in
-        by_test (same cmp e row.1)
-        (λ t. let other : same cmp q row.1 ≡ false = ap (same cmp q) (sym (same-is e row.1 t)) ∙ same-turned q e ∙ apart in rw (t, other) rest)
-        (λ t. rw t (ap (λ b. same cmp q row.1 || b) rest))
+    -- by id
+    pub retold-found : (id : ℕ) (e : K) (rows : ById K) (old new : Index K) → at_id id rows ≡ Some e → IsInOrder rows → ChangesAt cmp e (without_face n) old new → IsRetold cmp n rows (without_id id rows) old new
+    retold-found id e rows old new found ordered changes =
+        retold-alike rows (filter (λ row. not (same cmp e row.1)) rows) (without_id id rows) old new (λ apart finds. dropped_without cmp total exact id e rows ordered apart found) (retold-less e rows old new changes)
 
-    pub retold-less : (e : K) (rows : ById K) (old new : K → ℕ) → is_kept cmp e rows ≡ true → IsOneLess cmp e old new → IsRetold cmp rows (filter (λ row. not (same cmp e row.1)) rows) old new
-    retold-less e rows old new told less = record {
-      at = λ q. lessened (new q) (old q) (one_if (same cmp e q)) (one_if (is_kept cmp q rows)) (one_if (is_kept cmp q (filter (λ row. not (same cmp e row.1)) rows))) (less q)
-          (by_test (same cmp e q) (λ t. here q t) (λ t. there q t));
+    pub retold-unfound : (id : ℕ) (rows : ById K) (index : Index K) → at_id id rows ≡ None → IsRetold cmp n rows (without_id id rows) index index
+    retold-unfound id rows index none = retold-alike rows rows (without_id id rows) index index (λ apart finds. sym (none_without cmp total exact id rows none)) (retold-same rows index)
+
+    -- by expression, under the id that is found
+    pub retold-by-id : (id : ℕ) (e : K) (rows : ById K) (old new : Index K) → Some id ≡ id_of n (told_at cmp e old) → IsInOrder rows → IsRetold cmp n rows (without_id id rows) old new → IsRetold cmp n rows (filter (λ row. not (same cmp e row.1)) rows) old new
+    retold-by-id id e rows old new found ordered retold =
+        retold-alike rows (without_id id rows) (filter (λ row. not (same cmp e row.1)) rows) old new
+        (λ apart finds. sym (dropped_without cmp total exact id e rows ordered apart (row-told cmp total exact id e rows ordered (sym (finds e) ∙ sym found))))
+        retold
+
+    pub retold-unless : (e : K) (rows : ById K) (index : Index K) → None ≡ id_of n (told_at cmp e index) → IsRetold cmp n rows (filter (λ row. not (same cmp e row.1)) rows) index index
+    retold-unless e rows index none =
+        retold-alike rows rows (filter (λ row. not (same cmp e row.1)) rows) index index (λ apart finds. sym (none_dropped cmp total exact e rows (sym (finds e) ∙ sym none))) (retold-same rows index)
+
+    -- one row less is left
+    told-later : (row : ℕ × K) (left : ById K) (q : K) → told_id cmp q left ≡ None → same cmp row.1 q ≡ false → told_id cmp q (row ∷ left) ≡ None
+    unfolding told_id
+    told-later row left q none apart = let other = (eq_by_cmp_equiv total).symm q row.1 ∙ apart in rw other none
+
+    pub leaves-less : (whole : ById K) (row : ℕ × K) (left : ById K) (old now new : Index K) → LeavesFound whole (row ∷ left) old now → ChangesAt cmp row.1 (without_face n) now new → LeavesFound whole left old new
+    leaves-less whole row left old now new leaves changes = record {
+      own = λ finds q none.
+          less q n
+          ∙ by_test (same cmp row.1 q)
+          (λ t. rw (t, itself n) refl)
+          (λ t. rw t (leaves.own finds q (told-later row left q none t)));
+      others = λ q m apart. less q m ∙ rw apart (either (same cmp row.1 q) q m) ∙ leaves.others q m apart;
     }
       where
-        here : (q : K) → same cmp e q ≡ true → one_if (same cmp e q) + one_if (is_kept cmp q (filter (λ row. not (same cmp e row.1)) rows)) ≡ one_if (is_kept cmp q rows)
-        here q t =
-            let before : is_kept cmp q rows ≡ true = subst (λ k. is_kept cmp k rows ≡ true) (same-is e q t) told in
-            let later : is_kept cmp q (filter (λ row. not (same cmp e row.1)) rows) ≡ false = subst (λ k. is_kept cmp k (filter (λ row. not (same cmp e row.1)) rows) ≡ false) (same-is e q t) (dropped-own e rows) in
-            (λ i. one_if (t i) + one_if (later i)) ∙ sym (ap one_if before)
+        less : Refinds row.1 None now new
+        less = refinds row.1 (without_face n) None (λ m. id-dropped m n) now new changes
 
-        there : (q : K) → same cmp e q ≡ false → one_if (same cmp e q) + one_if (is_kept cmp q (filter (λ row. not (same cmp e row.1)) rows)) ≡ one_if (is_kept cmp q rows)
-        there q t = (λ i. one_if (t i) + one_if (dropped-other q e t rows i)) ∙ none-more (one_if (is_kept cmp q rows))
+        itself : (k : ℕ) → (k == k) ≡ true
+        itself k = grind (arith, nat_tests)
 
-    pub retold-unless : (e : K) (rows : ById K) (counts : K → ℕ) → is_kept cmp e rows ≡ false → IsRetold cmp rows (filter (λ row. not (same cmp e row.1)) rows) counts counts
-    retold-unless e rows counts none =
-        retold-same rows (filter (λ row. not (same cmp e row.1)) rows) counts
-        (λ q. by_test (same cmp e q)
-        (λ t. subst (λ k. is_kept cmp k (filter (λ row. not (same cmp e row.1)) rows) ≡ is_kept cmp k rows) (same-is e q t) (dropped-own e rows ∙ sym none))
-        (λ t. dropped-other q e t rows))
-
-    -- ---- by id
-    found-kept : (id : ℕ) (e : K) (rows : ById K) → at_id id rows ≡ Some e → is_kept cmp e rows ≡ true
-    found-kept id e [] found = cc
-    found-kept id e (row ∷ rows) found =
-        by_test (id == row.0)
-        (λ t.
-        let own : row.1 ≡ e = same_Some _ _ (rw t at found) in
-        let here : same cmp e row.1 ≡ true = ap (same cmp e) own ∙ same-itself e in
-        rw here refl)
-        (λ t. or_true_second (same cmp e row.1) _ (found-kept id e rows (rw t at found)))
-
-    pub retold-found : (id : ℕ) (e : K) (rows : ById K) (old new : K → ℕ) → at_id id rows ≡ Some e → IsInOrder rows → AreApart cmp rows → IsOneLess cmp e old new → IsRetold cmp rows (without_id id rows) old new
-    retold-found id e rows old new found ordered apart less =
-        subst (λ (after : ById K). IsRetold cmp rows after old new) (dropped_without cmp total exact id e rows ordered apart found) (retold-less e rows old new (found-kept id e rows found) less)
-
-    pub retold-unfound : (id : ℕ) (rows : ById K) (counts : K → ℕ) → at_id id rows ≡ None → IsRetold cmp rows (without_id id rows) counts counts
-    retold-unfound id rows counts none = retold-same rows (without_id id rows) counts (λ q. ap (is_kept cmp q) (none_without cmp total exact id rows none))
-
-    -- ---- all that a face was told
-    -- of rows that are apart none or one is of an expression
-    apart-count : (q : K) (rows : ById K) → AreApart cmp rows → count_rows q rows ≡ one_if (is_kept cmp q rows)
-    apart-count q [] apart = refl
-    apart-count q (row ∷ rows) apart =
-        by_test (same cmp q row.1)
-        (λ t.
-        let others : is_kept cmp row.1 rows ≡ false = sym (told_is_some cmp row.1 rows) ∙ ap is_some apart.0 in
-        let none : is_kept cmp q rows ≡ false = subst (λ k. is_kept cmp k rows ≡ false) (sym (same-is q row.1 t)) others in
-        let rest : count_rows q rows ≡ 0 = apart-count q rows apart.1 ∙ ap one_if none in
-        rw t (ap (λ n. 1 + n) rest))
-        (λ t. rw t (none-more (count_rows q rows) ∙ apart-count q rows apart.1))
-
-    less-left : (new now s left : ℕ) → new ≡ now - s → new - left ≡ now - (s + left)
-    less-left new now s left a = omega (arith, a)
-
-    pub leaves-less : (whole : ById K) (row : ℕ × K) (left : ById K) (old now new : K → ℕ) → LeavesCounted whole (row ∷ left) old now → IsOneLess cmp row.1 now new → LeavesCounted whole left old new
-    leaves-less whole row left old now new counted less =
-        λ q. less-left (new q) (now q) (one_if (same cmp q row.1)) (count_rows q left) (less q ∙ ap (λ b. now q - one_if b) (same-turned row.1 q)) ∙ counted q
-
-    all-gone : (new old rows b : ℕ) → new - 0 ≡ old - rows → rows ≡ b → new ≡ (old + 0) - b
-    all-gone new old rows b h k = omega (arith, h, k)
-
-    pub leaves-none : (whole : ById K) (old new : K → ℕ) → AreApart cmp whole → LeavesCounted whole [] old new → IsRetold cmp whole [] old new
-    leaves-none whole old new apart counted = record { at = λ q. all-gone (new q) (old q) (count_rows q whole) (one_if (is_kept cmp q whole)) (counted q) (apart-count q whole apart) }
+        either : (b : Bool) (q : K) (m : ℕ) → (if b then id_of m (told_at cmp q now) else id_of m (told_at cmp q now)) ≡ id_of m (told_at cmp q now)
+        either true q m = refl
+        either false q m = refl

@@ -1,36 +1,37 @@
--- How many faces were told each expression, and not told that it is gone.
---     counts_in_order cmp counts              the counts in order of expression, whatever order they are kept in
---     counted cmp counts e                    how many faces are counted at the expression
---     is_kept cmp e told                      whether the expression is among what a face was told
---     IsOneMore, IsOneLess                    one face more, or one less, is counted at an expression, and all else stays
---     IsRetold cmp before after old new       where what a face was told changes, the counts change with it
-use Rattle.std.specs.Prelude.{◌≡◌, ℕ, ◌+◌, ◌-◌, Bool, true, false, List, [], ◌∷◌, unwrap_or}
-use Rattle.std.specs.FinMap.Entries.{find, put}
-use Rattle.std.specs.List.{list_any}
+-- What faces were told, as an index finds it.
+--     told_id_at cmp e faces n                    the id under which the face of a number was told an expression
+--     gone_id cmp n message index                 the id under which the face was told the expression that a message says is gone
+--     IsRetold cmp n before after old new         where what the face of a number was told changes, the index changes with it
+use Rattle.std.specs.Prelude.{◌≡◌, ℕ, ◌==◌, if◌then◌else◌, List, Option, Some, None}
 use Rattle.std.specs.declared.cmp.Ordering.{Ordering}
-use Rattle.zt_model.specs.Lists.{same}
-use Rattle.zt_model.specs.Rows.{ById}
+use Rattle.zt_protocol.specs.declared.messages.Message.{Message}
+use Rattle.zt_protocol.specs.declared.messages.Message.TheVariants.{DeclareToken, UndeclareToken, DeclareFinal, Interest, InterestFinal, DeclareSubscriber, DeclareQueryable}
+use Rattle.zt_told.specs.Told.{id_of, told_at}
+use Rattle.zt_face.specs.Told.{AreApart}
+use Rattle.zt_model.specs.Lists.{first_where}
+use Rattle.zt_model.specs.Parts.{told_id}
+use Rattle.zt_model.specs.Rows.{ById, Face}
 
-abbrev pub one_if : Bool → ℕ
-one_if true = 1
-one_if false = 0
+-- of each expression the faces that were told it, each with its id
+abbrev pub Index : Type 0 → Type 0
+Index K = List (K × List (ℕ × ℕ))
 
 module _ {K : Type 0} (cmp : K → K → Ordering) where
-  abbrev pub counts_in_order : List (K × ℕ) → List (K × ℕ)
-  counts_in_order [] = []
-  counts_in_order (row ∷ rows) = put cmp row.0 row.1 (counts_in_order rows)
+  abbrev pub told_id_at : K → List (Face K) → ℕ → Option ℕ
+  told_id_at e faces n = elim (first_where (λ f. n == f.number) faces) [ None ↦ None | Some f ↦ told_id cmp e f.told ]
 
-  abbrev pub counted : List (K × ℕ) → K → ℕ
-  counted counts e = unwrap_or (find cmp e counts) 0
+  abbrev pub gone_id : ℕ → Message K → Index K → Option ℕ
+  gone_id n (UndeclareToken id (Some e) node) index = id_of n (told_at cmp e index)
+  gone_id n (UndeclareToken id None node) index = None
+  gone_id n (DeclareToken id e interest node) index = None
+  gone_id n (DeclareFinal interest) index = None
+  gone_id n (Interest id mode options e) index = None
+  gone_id n (InterestFinal id) index = None
+  gone_id n (DeclareSubscriber id e interest) index = None
+  gone_id n (DeclareQueryable id e info interest) index = None
 
-  abbrev pub is_kept : K → ById K → Bool
-  is_kept e told = list_any (λ row. same cmp e row.1) told
-
-  abbrev pub IsOneMore : K → (K → ℕ) → (K → ℕ) → Type 0
-  IsOneMore e old new = (q : K) → new q ≡ old q + one_if (same cmp e q)
-
-  abbrev pub IsOneLess : K → (K → ℕ) → (K → ℕ) → Type 0
-  IsOneLess e old new = (q : K) → new q ≡ old q - one_if (same cmp e q)
-
-  pub record IsRetold (before after : ById K) (old new : K → ℕ) : Type 0 where
-    pub at : (q : K) → new q ≡ (old q + one_if (is_kept q after)) - one_if (is_kept q before)
+  -- The index finds for this face what it was told, and that is told under one id each: so it is after the change,
+  -- and for no other face it finds anything else.
+  pub record IsRetold (n : ℕ) (before after : ById K) (old new : Index K) : Type 0 where
+    pub apart : AreApart cmp before → ((q : K) → id_of n (told_at cmp q old) ≡ told_id cmp q before) → AreApart cmp after
+    pub at : AreApart cmp before → ((q : K) → id_of n (told_at cmp q old) ≡ told_id cmp q before) → (q : K) (m : ℕ) → id_of m (told_at cmp q new) ≡ (if n == m then told_id cmp q after else id_of m (told_at cmp q old))

@@ -9,13 +9,12 @@ ghost use Rattle.zt_model.specs.Hearing.{heard};
 ghost use Rattle.zt_model.specs.Routing.{asked_as, unheld};
 ghost use Rattle.zt_model.specs.Rows.{Face};
 ghost use Rattle.zt_model.specs.Wants.{seeks};
-ghost use Rattle.zt_seekers.specs.Seekers.{AreSeekers, Leaves, Reseeks, no_seekers, north_numbers};
-ghost use Rattle.zt_seekers.specs.Seekers.{token_rows};
-ghost use Rattle.zt_seekers.specs.Told.{counted};
+ghost use Rattle.zt_seekers.specs.Seekers.{AreSeekers, IsKnown, Leaves, Reseeks, no_seekers};
+ghost use Rattle.zt_seekers.specs.Seekers.{north_numbers, token_rows};
+ghost use Rattle.zt_told.specs.Told.{AreRising, id_of, told_at};
 
 use crate::hearing::{hear_message, untell_all};
 use crate::interests::{drop_all, drop_held, put_held};
-use crate::told::ToldCounts;
 use std::alloc::Global;
 use std::marker::Model;
 use zt_face::{FaceState, RemoteInterest};
@@ -23,6 +22,7 @@ use zt_interest_index::InterestIndex;
 use zt_keys::{Key, Memory};
 use zt_protocol::Message;
 use zt_region::Region;
+use zt_told::ToldIndex;
 
 // A number goes.
 fn drop_number(numbers: &mut Vec<u32>, number: u32)
@@ -32,12 +32,12 @@ fn drop_number(numbers: &mut Vec<u32>, number: u32)
 }
 
 /// The numbers of the faces to the north, in order, an index of the interests in tokens that faces
-/// hold, and how many faces were told each expression.
+/// hold, and an index of what faces were told.
 #[derive(Drop)]
 pub struct Seekers<K: Key> {
     north: Vec<u32>,
     index: InterestIndex<K>,
-    told: ToldCounts<K>,
+    told: ToldIndex<K>,
 }
 
 impl<K: Key> Model for Seekers<K> {
@@ -56,7 +56,7 @@ impl<K: Key> Seekers<K> {
         Seekers {
             north: Vec::new(alloc),
             index: InterestIndex::new(alloc),
-            told: ToldCounts::new(alloc),
+            told: ToldIndex::new(alloc),
         }
     }
 
@@ -108,24 +108,38 @@ impl<K: Key> Seekers<K> {
         drop_held(&mut self.index, f, id);
     }
 
-    /// The face hears a message. The only error is want of memory, or of numbers.
+    /// The face hears a message. Where this says that an expression is gone, the answer is the id
+    /// under which the face was told it, if it was. The only error is want of memory; an expression
+    /// that is told anew under another id never comes up in a gateway, and counts as that.
     pub fn hear(
         &mut self,
         alloc: Global,
         f: &FaceState<K>,
         message: &Message<K>,
-    ) -> Result<(), Memory>
-        ensures { OnOk result ((moment : ℕ) → Reseeks K.cmp K.anchored f.now
+    ) -> Result<Option<u32>, Memory>
+        ensures seeks { OnOk result ((moment : ℕ) → Reseeks K.cmp K.anchored f.now
             (heard K.cmp moment message.now) self.old self.new) }
+        ensures known { IfOk result (λ known.
+            IsKnown K.cmp K.anchored f.now message.now known self.old) }
     {
         hear_message(alloc, &mut self.told, f, message)
     }
 
-    /// How many faces keep the expression. A look-up.
-    pub fn told_count(&self, expr: &K) -> u32
-        ensures { result ≡ counted K.cmp self.now.told expr.now }
+    /// The faces that were told the expression and not told that it is gone, each with the id under
+    /// which it was told, in order of number. A look-up.
+    pub fn told_at(&self, expr: &K) -> &[(u32, u32)]
+        ensures pairs { result.now ≡ told_at K.cmp expr.now self.now.told }
+        ensures in_order { AreRising result.now }
     {
-        self.told.count(expr)
+        self.told.at(expr)
+    }
+
+    /// The id under which the face was told the expression, if it was. A look-up, and a search by
+    /// halves.
+    pub fn told_id(&self, expr: &K, face: u32) -> Option<u32>
+        ensures { result ≡ id_of face (told_at K.cmp expr.now self.now.told) }
+    {
+        self.told.id_at(expr, face)
     }
 
     /// The numbers of the faces to the north, in order.

@@ -12,7 +12,10 @@ use Rattle.zt_keys.specs.Test.{by_test}
 use Rattle.zt_keys.specs.declared.anchor.Anchor.{Anchor}
 use Rattle.zt_model.specs.Lists.{first_where}
 use Rattle.zt_model.specs.Rows.{Face}
-use Rattle.zt_seekers.specs.Seekers.{AreSeekers, IsOnlyOne, Leaves, Reseeks, Seeking}
+use Rattle.zt_protocol.specs.declared.messages.Message.{Message}
+use Rattle.zt_face.specs.Told.{heard_known}
+use Rattle.zt_model.specs.Hearing.{heard}
+use Rattle.zt_seekers.specs.Seekers.{AreSeekers, IsKnown, IsOnlyOne, Leaves, Reseeks, Seeking}
 use Rattle.zt_state.specs.Rising.{IsRising}
 use Rattle.zt_state.proofs.Rising.{all-weaker, none-above}
 
@@ -73,6 +76,18 @@ module _ {K : Type 0} where
         alone = subst (λ (m : ℕ). filter (λ (x : Face K). m == x.number) fs ≡ f ∷ []) same (alone-found n f fs rising is);
       }
 
+  -- two changes that do the same to the one of a number
+  pub same-changed : (n : ℕ) (f : Face K) (fs : List (Face K)) → IsRising (λ x. x.number) fs → first_where (λ x. n == x.number) fs ≡ Some f → (one other : Face K → Face K) → one f ≡ other f
+      → map (λ x. if n == x.number then one x else x) fs ≡ map (λ x. if n == x.number then other x else x) fs
+  same-changed n f fs rising is one other same = each fs (only-found n f fs rising is)
+    where
+      each : (xs : List (Face K)) → AllByRecursion (λ x. (n == x.number) ≡ true → x ≡ f) xs → map (λ x. if n == x.number then one x else x) xs ≡ map (λ x. if n == x.number then other x else x) xs
+      each [] only = refl
+      each (x ∷ xs) only =
+          by_test (n == x.number)
+          (λ t. let here : one x ≡ other x = subst (λ (y : Face K). one y ≡ other y) (sym (only.0 t)) same in rw t (λ i. here i ∷ each xs only.1 i))
+          (λ t. rw t (ap (λ ys. x ∷ ys) (each xs only.1)))
+
   module _ (cmp : K → K → Ordering) (anchored : Anchor → K → Option ℕ) (n : ℕ) (f : Face K) (fs : List (Face K)) (rising : IsRising (λ x. x.number) fs) (is : first_where (λ x. n == x.number) fs ≡ Some f) (old new : Seeking K) (are : AreSeekers cmp anchored old fs) where
     pub sought-changed : (change : Face K → Face K) → Reseeks cmp anchored f change old new → AreSeekers cmp anchored new (map (λ x. if n == x.number then change x else x) fs)
     sought-changed change changes =
@@ -81,3 +96,8 @@ module _ {K : Type 0} where
     pub sought-closed : Leaves cmp anchored f old new → AreSeekers cmp anchored new (filter (λ x. not (n == x.number)) fs)
     sought-closed leaves =
         subst (λ (m : ℕ). AreSeekers cmp anchored new (filter (λ (x : Face K). not (m == x.number)) fs)) (sym (number-found n f fs is)) (leaves.at fs (only-one n f fs rising is) are)
+
+    -- a message is heard by the id that is known as it is heard
+    pub known-heard : (m : Message K) (known : Option ℕ) (moment : ℕ) → IsKnown cmp anchored f m known old
+        → map (λ x. if n == x.number then heard_known cmp moment m known x else x) fs ≡ map (λ x. if n == x.number then heard cmp moment m x else x) fs
+    known-heard m known moment knows = same-changed n f fs rising is (heard_known cmp moment m known) (heard cmp moment m) (knows.at fs (only-one n f fs rising is) are moment)

@@ -1,16 +1,19 @@
 // A gateway with its faces.
-ghost use Rattle.std.specs.Prelude.{◌≡◌, [], filter, length, map, IfOk, IfSome};
+ghost use Rattle.std.specs.Prelude.{◌≡◌, [], filter, map, IfOk, IfSome};
 ghost use Rattle.std.specs.List.{flat_map};
 ghost use Rattle.std.specs.Option.{option_copied};
 ghost use Rattle.zt_model.specs.Fabric.{new_rows};
 ghost use Rattle.zt_model.specs.Parts.{find_face};
-ghost use Rattle.zt_model.specs.Visible.{keeps, live_rows};
+ghost use Rattle.zt_model.specs.Visible.{live_rows};
 ghost use Rattle.zt_model.specs.Wants.{seeks};
 ghost use Rattle.zt_indexes.specs.Rows.{AreCountsOf};
 ghost use Rattle.zt_interest_index.specs.Holders.{HasAllIn};
 ghost use Rattle.zt_seekers.specs.Seekers.{token_rows};
+ghost use Rattle.zt_seekers.specs.Told.{told_id_at};
 ghost use Rattle.zt_region.specs.Region.{is_north};
 ghost use Rattle.zt_state.specs.Rising.{AreUpTo, IsRising};
+ghost use Rattle.zt_state.specs.Told.{AreToldIds};
+ghost use Rattle.zt_told.specs.Told.{AreRising};
 
 use crate::by_number::Faces;
 use std::alloc::Global;
@@ -201,11 +204,21 @@ impl<K: Key> GatewayState<K> {
         self.seekers.find(alloc, expr)
     }
 
-    /// How many faces were told the expression and not told that it is gone. A look-up.
-    pub fn told_count(&self, expr: &K) -> u32
-        ensures { result ≡ length (filter (λ f. keeps K.cmp f expr.now) self.now.faces) }
+    /// The faces that were told the expression and not told that it is gone, each with the id under
+    /// which it was told, in order of number. A look-up.
+    pub fn told_at(&self, expr: &K) -> &[(u32, u32)]
+        ensures told { AreToldIds K.cmp expr.now result.now self.now.faces }
+        ensures in_order { AreRising result.now }
     {
-        self.seekers.told_count(expr)
+        self.seekers.told_at(expr)
+    }
+
+    /// The id under which a face was told the expression, if it was. A look-up, and a search by
+    /// halves.
+    pub fn told_id(&self, expr: &K, face: u32) -> Option<u32>
+        ensures { result ≡ told_id_at K.cmp expr.now self.now.faces face }
+    {
+        self.seekers.told_id(expr, face)
     }
 
     /// The interests in tokens of the expression, or in all tokens where it is `None`, each under

@@ -13,23 +13,25 @@ use zt_keys::{Key, Memory};
 use zt_protocol::Message;
 use zt_seekers::Seekers;
 
-// A message that is sent to a face at a moment.
+// A message that is sent to a face at a moment. Of one that says of an expression that it is gone,
+// `known` is the id under which the face was told the expression, if it was.
 #[derive(Drop)]
 struct Hears<'a, K: Key> {
     moment: u64,
     message: &'a Message<K>,
+    known: Option<u32>,
 }
 
 impl<'a, K: Key> FaceAddition<K> for Hears<'a, K> {
-    ghost use Rattle.zt_model.specs.Hearing.{heard};
-    ghost use Rattle.zt_state.specs.Keeps.{heard-keeps};
+    ghost use Rattle.zt_face.specs.Told.{heard_known};
+    ghost use Rattle.zt_state.specs.Keeps.{known-keeps};
 
-    ghost added = { λ c. heard K.cmp c.moment c.message.now };
+    ghost added = { λ c. heard_known K.cmp c.moment c.message.now c.known };
 
-    ghost keeps_number = { λ c f. (heard-keeps K.cmp c.moment c.message.now f).number };
+    ghost keeps_number = { λ c f. (known-keeps K.cmp c.moment c.message.now c.known f).number };
 
     fn add(&self, alloc: Global, f: &mut FaceState<K>) -> Result<(), Memory> {
-        f.hear(alloc, self.moment, self.message)
+        f.hear(alloc, self.moment, self.message, self.known)
     }
 }
 
@@ -50,8 +52,13 @@ fn hear_in<K: Key>(
     let Some(f) = faces.find(face) else {
         return Ok(());
     };
-    seekers.hear(alloc, f, message)?;
-    faces.add(alloc, face, &Hears { moment, message })
+    let known = seekers.hear(alloc, f, message)?;
+    let hears = Hears {
+        moment,
+        message,
+        known,
+    };
+    faces.add(alloc, face, &hears)
 }
 
 impl<K: Key> GatewayState<K> {

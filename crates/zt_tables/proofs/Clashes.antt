@@ -2,16 +2,16 @@
 use Rattle.std.proofs.Common.{◌≡◌, ◌&&◌, ◌||◌, ◌==◌, ◌++◌, ◌∷◌, ℕ, Bool, true, false, List, [], ap, arith, cond, refl, sym, ◌∙◌}
 use Rattle.std.proofs.lemmas.Bool.Decides.{nat_tests}
 use Rattle.std.proofs.lemmas.Cmp.{nat_cmp_total, on_total, then_total}
-use Rattle.std.specs.BTreeSet.{BTreeSet, Updates}
-use Rattle.std.specs.Cmp.{IsTotalOrder, eq_by_cmp_equiv}
+use Rattle.std.specs.Cmp.{IsTotalOrder}
+use Rattle.std.specs.HashSet.{HashSet, Updates}
 use Rattle.std.specs.List.{list_any}
 use Rattle.std.specs.Ordering.{is_eq, nat_cmp, ordering_then}
 use Rattle.std.specs.declared.cmp.Ordering.{Ordering}
 use Rattle.std.specs.declared.cmp.Ordering.TheVariants.{Less, Equal, Greater}
 use Rattle.zt_region.specs.declared.region.Zid.{Zid}
-use Rattle.zt_region.specs.Region.{zid_cmp, zid_cmp_total, zid_eq}
+use Rattle.zt_region.specs.Region.{zid_eq}
 use Rattle.zt_model.specs.Trees.{is_same_link, is_same_router}
-use Rattle.zt_tables.specs.KeysOf.{AreKeysOf, node_key_cmp, zid_key_cmp}
+use Rattle.zt_tables.specs.KeysOf.{AreKeysOf, node_key_cmp, node_key_eq, zid_key_eq}
 
 or_last : (a b : Bool) → cond a true b ≡ (b || (a || false))
 or_last true true = refl
@@ -48,23 +48,32 @@ any_or p q [] = refl
 any_or p q (x ∷ xs) = ap (λ b. (p x || q x) || b) (any_or p q xs) ∙ or_four (p x) (q x) (list_any p xs) (list_any q xs)
 
 -- one member more, and its key
-pub one_key_more : {K A : Type 0} {cmp : K → K → Ordering} → IsTotalOrder cmp → (key : A → K) (old new : BTreeSet K) (xs : List A) (x : A)
-    → AreKeysOf cmp key old.keys xs → Updates cmp old new (key x) true → AreKeysOf cmp key new.keys (xs ++ x ∷ [])
-one_key_more {K} {A} {cmp} total key old new xs x keys put = record {
+pub one_key_more : {K A S : Type 0} (eq : K → K → Bool) → ((a b : K) → eq a b ≡ eq b a) → (key : A → K) (old new : HashSet K S) (xs : List A) (x : A)
+    → AreKeysOf eq key old.keys xs → Updates eq old new (key x) true → AreKeysOf eq key new.keys (xs ++ x ∷ [])
+one_key_more {K} {A} {S} eq symm key old new xs x keys put = record {
   finds = λ q.
-      let test : A → Bool = λ y. is_eq (cmp q (key y)) in
+      let test : A → Bool = λ y. eq q (key y) in
       put.0 q
-      ∙ ap (λ b. cond b true (list_any (λ k. is_eq (cmp q k)) old.keys)) ((eq_by_cmp_equiv total).symm (key x) q)
+      ∙ ap (λ b. cond b true (list_any (eq q) old.keys)) (symm (key x) q)
       ∙ ap (λ b. cond (test x) true b) (keys.finds q)
       ∙ or_last (test x) (list_any test xs)
       ∙ sym (any-append test xs (x ∷ []));
 }
 
+pub nat-turned : (a b : ℕ) → (a == b) ≡ (b == a)
+nat-turned a b = grind (arith, nat_tests)
+
+pub zid-turned : (a b : Zid) → zid_eq a b ≡ zid_eq b a
+zid-turned a b = nat-turned a.0 b.0
+
+pub node_key-turned : (a b : ℕ × ℕ) → node_key_eq a b ≡ node_key_eq b a
+node_key-turned a b = ap (λ t. t && (a.1 == b.1)) (nat-turned a.0 b.0) ∙ ap (λ t. (b.0 == a.0) && t) (nat-turned a.1 b.1)
+
+pub zid_key-turned : (a b : ℕ × Zid) → zid_key_eq a b ≡ zid_key_eq b a
+zid_key-turned a b = ap (λ t. t && zid_eq a.1 b.1) (nat-turned a.0 b.0) ∙ ap (λ t. (b.0 == a.0) && t) (zid-turned a.1 b.1)
+
 pub node_key_total : IsTotalOrder node_key_cmp
 node_key_total = then_total (on_total (λ p. p.0) nat_cmp_total) (on_total (λ p. p.1) nat_cmp_total)
-
-pub zid_key_total : IsTotalOrder zid_key_cmp
-zid_key_total = then_total (on_total (λ p. p.0) nat_cmp_total) (on_total (λ p. p.1) zid_cmp_total)
 
 pub nat_is : (a b : ℕ) → is_eq (nat_cmp a b) ≡ (a == b)
 nat_is a b = grind (arith, nat_tests)
@@ -76,22 +85,20 @@ both_are Greater b = refl
 
 -- a router clashes where its node id or its number is among those of routers that count
 pub router_clashes : (r : ℕ × Zid) (nodes : List ℕ) (zids : List Zid) (counted : List (ℕ × Zid))
-    → AreKeysOf nat_cmp (λ (x : ℕ × Zid). x.0) nodes counted → AreKeysOf zid_cmp (λ (x : ℕ × Zid). x.1) zids counted
-    → (list_any (λ k. is_eq (nat_cmp r.0 k)) nodes || list_any (λ k. is_eq (zid_cmp r.1 k)) zids) ≡ list_any (is_same_router r) counted
+    → AreKeysOf (λ a b. a == b) (λ (x : ℕ × Zid). x.0) nodes counted → AreKeysOf zid_eq (λ (x : ℕ × Zid). x.1) zids counted
+    → (list_any (λ k. r.0 == k) nodes || list_any (zid_eq r.1) zids) ≡ list_any (is_same_router r) counted
 router_clashes r nodes zids counted by_node by_zid =
-    ap (λ b. b || list_any (λ k. is_eq (zid_cmp r.1 k)) zids) (by_node.finds r.0 ∙ any_alike _ (λ (x : ℕ × Zid). r.0 == x.0) (λ x. nat_is r.0 x.0) counted)
-    ∙ ap (λ b. list_any (λ (x : ℕ × Zid). r.0 == x.0) counted || b) (by_zid.finds r.1 ∙ any_alike _ (λ (x : ℕ × Zid). zid_eq r.1 x.1) (λ x. nat_is r.1.0 x.1.0) counted)
+    ap (λ b. b || list_any (zid_eq r.1) zids) (by_node.finds r.0)
+    ∙ ap (λ b. list_any (λ (x : ℕ × Zid). r.0 == x.0) counted || b) (by_zid.finds r.1)
     ∙ sym (any_or (λ (x : ℕ × Zid). r.0 == x.0) (λ (x : ℕ × Zid). zid_eq r.1 x.1) counted)
 
 -- a link clashes where for its face its node id or its router is among those of links that count
 pub link_clashes : (l : ℕ × ℕ × Zid) (nodes : List (ℕ × ℕ)) (zids : List (ℕ × Zid)) (counted : List (ℕ × ℕ × Zid))
-    → AreKeysOf node_key_cmp (λ (x : ℕ × ℕ × Zid). (x.0, x.1)) nodes counted → AreKeysOf zid_key_cmp (λ (x : ℕ × ℕ × Zid). (x.0, x.2)) zids counted
-    → (list_any (λ k. is_eq (node_key_cmp (l.0, l.1) k)) nodes || list_any (λ k. is_eq (zid_key_cmp (l.0, l.2) k)) zids) ≡ list_any (is_same_link l) counted
+    → AreKeysOf node_key_eq (λ (x : ℕ × ℕ × Zid). (x.0, x.1)) nodes counted → AreKeysOf zid_key_eq (λ (x : ℕ × ℕ × Zid). (x.0, x.2)) zids counted
+    → (list_any (node_key_eq (l.0, l.1)) nodes || list_any (zid_key_eq (l.0, l.2)) zids) ≡ list_any (is_same_link l) counted
 link_clashes l nodes zids counted by_node by_zid =
-    ap (λ b. b || list_any (λ k. is_eq (zid_key_cmp (l.0, l.2) k)) zids)
-    (by_node.finds (l.0, l.1) ∙ any_alike _ same_node (λ x. both_are (nat_cmp l.0 x.0) (nat_cmp l.1 x.1) ∙ ap (λ b. b && is_eq (nat_cmp l.1 x.1)) (nat_is l.0 x.0) ∙ ap (λ b. (l.0 == x.0) && b) (nat_is l.1 x.1)) counted)
-    ∙ ap (λ b. list_any same_node counted || b)
-    (by_zid.finds (l.0, l.2) ∙ any_alike _ same_zid (λ x. both_are (nat_cmp l.0 x.0) (zid_cmp l.2 x.2) ∙ ap (λ b. b && is_eq (zid_cmp l.2 x.2)) (nat_is l.0 x.0) ∙ ap (λ b. (l.0 == x.0) && b) (nat_is l.2.0 x.2.0)) counted)
+    ap (λ b. b || list_any (zid_key_eq (l.0, l.2)) zids) (by_node.finds (l.0, l.1))
+    ∙ ap (λ b. list_any same_node counted || b) (by_zid.finds (l.0, l.2))
     ∙ sym (any_or same_node same_zid counted)
     ∙ any_alike _ (is_same_link l) (λ x. sym (and_or (l.0 == x.0) (l.1 == x.1) (zid_eq l.2 x.2))) counted
   where

@@ -1,23 +1,22 @@
 // Which entries of a table count: of those that clash, the first one does.
-ghost use Rattle.std.specs.Prelude.{◌≡◌, ◌||◌, ◌++◌, ◌∷◌, [], IfOk, OnOk};
+ghost use Rattle.std.specs.Prelude.{◌≡◌, ◌==◌, ◌||◌, ◌++◌, ◌∷◌, [], IfOk, OnOk};
 ghost use Rattle.std.specs.Prelude.{if◌then◌else◌};
 ghost use Rattle.std.specs.List.{list_any};
-ghost use Rattle.std.specs.Ordering.{is_eq, nat_cmp};
 ghost use Rattle.zt_model.specs.Trees.{counted_beside, counted_table, is_same_link, is_same_router};
 ghost use Rattle.zt_protocol.specs.Plain.{trees_of};
-ghost use Rattle.zt_region.specs.Region.{zid_cmp};
-ghost use Rattle.zt_tables.specs.KeysOf.{AreKeysOf, node_key_cmp, zid_key_cmp};
+ghost use Rattle.zt_region.specs.Region.{zid_eq};
+ghost use Rattle.zt_tables.specs.KeysOf.{AreKeysOf, node_key_eq, zid_key_eq};
 
 use std::alloc::Global;
-use std::collections::BTreeSet;
+use std::collections::HashSet;
 use zt_keys::Memory;
 use zt_protocol::TreeTable;
 use zt_region::{NodeId, Zid};
 
 // Whether a router's node id or its number is among these.
-fn is_taken(router: &(NodeId, Zid), nodes: &BTreeSet<NodeId>, zids: &BTreeSet<Zid>) -> bool
-    ensures { result ≡ (list_any (λ k. is_eq (nat_cmp router.now.0 k)) nodes.now.keys
-        || list_any (λ k. is_eq (zid_cmp router.now.1 k)) zids.now.keys) }
+fn is_taken(router: &(NodeId, Zid), nodes: &HashSet<NodeId>, zids: &HashSet<Zid>) -> bool
+    ensures { result ≡ (list_any (λ k. router.now.0 == k) nodes.now.keys
+        || list_any (zid_eq router.now.1) zids.now.keys) }
 {
     nodes.contains(&router.0) || zids.contains(&router.1)
 }
@@ -25,17 +24,17 @@ fn is_taken(router: &(NodeId, Zid), nodes: &BTreeSet<NodeId>, zids: &BTreeSet<Zi
 // Counts a router, unless it clashes with one that counts: those have these node ids and numbers.
 fn count_router(
     router: &(NodeId, Zid),
-    nodes: &mut BTreeSet<NodeId>,
-    zids: &mut BTreeSet<Zid>,
+    nodes: &mut HashSet<NodeId>,
+    zids: &mut HashSet<Zid>,
     counted: &mut Vec<(NodeId, Zid)>,
 ) -> Result<(), Memory>
-    requires nodes { AreKeysOf nat_cmp (λ x. x.0) nodes.old.keys counted.old.items }
-    requires zids { AreKeysOf zid_cmp (λ x. x.1) zids.old.keys counted.old.items }
+    requires nodes { AreKeysOf (λ a b. a == b) (λ x. x.0) nodes.old.keys counted.old.items }
+    requires zids { AreKeysOf zid_eq (λ x. x.1) zids.old.keys counted.old.items }
     ensures counted { OnOk result (counted.new.items
         ≡ (if list_any (is_same_router router.now) counted.old.items then counted.old.items
         else counted.old.items ++ router.now ∷ [])) }
-    ensures nodes { OnOk result (AreKeysOf nat_cmp (λ x. x.0) nodes.new.keys counted.new.items) }
-    ensures zids { OnOk result (AreKeysOf zid_cmp (λ x. x.1) zids.new.keys counted.new.items) }
+    ensures nodes { OnOk result (AreKeysOf (λ a b. a == b) (λ x. x.0) nodes.new.keys counted.new.items) }
+    ensures zids { OnOk result (AreKeysOf zid_eq (λ x. x.1) zids.new.keys counted.new.items) }
 {
     if is_taken(router, nodes, zids) {
         return Ok(());
@@ -54,9 +53,9 @@ pub(crate) fn counted_routers(
     ensures { IfOk result (λ counted. counted.items
         ≡ counted_beside is_same_router [] routers.now) }
 {
-    let mut counted = Vec::new(alloc);
-    let mut nodes = BTreeSet::new(alloc);
-    let mut zids = BTreeSet::new(alloc);
+    let mut counted = Vec::with_capacity(alloc, routers.len())?;
+    let mut nodes = HashSet::with_capacity(alloc, routers.len())?;
+    let mut zids = HashSet::with_capacity(alloc, routers.len())?;
     for router in routers {
         count_router(router, &mut nodes, &mut zids, &mut counted)?;
     }
@@ -66,12 +65,12 @@ pub(crate) fn counted_routers(
 // Whether for its face a link's node id or its router is among these.
 fn is_link_taken(
     link: &(u32, NodeId, Zid),
-    nodes: &BTreeSet<(u32, NodeId)>,
-    zids: &BTreeSet<(u32, Zid)>,
+    nodes: &HashSet<(u32, NodeId)>,
+    zids: &HashSet<(u32, Zid)>,
 ) -> bool
     ensures { result
-        ≡ (list_any (λ k. is_eq (node_key_cmp (link.now.0, link.now.1) k)) nodes.now.keys
-        || list_any (λ k. is_eq (zid_key_cmp (link.now.0, link.now.2) k)) zids.now.keys) }
+        ≡ (list_any (node_key_eq (link.now.0, link.now.1)) nodes.now.keys
+        || list_any (zid_key_eq (link.now.0, link.now.2)) zids.now.keys) }
 {
     nodes.contains(&(link.0, link.1)) || zids.contains(&(link.0, link.2))
 }
@@ -80,19 +79,19 @@ fn is_link_taken(
 // and routers.
 fn count_link(
     link: &(u32, NodeId, Zid),
-    nodes: &mut BTreeSet<(u32, NodeId)>,
-    zids: &mut BTreeSet<(u32, Zid)>,
+    nodes: &mut HashSet<(u32, NodeId)>,
+    zids: &mut HashSet<(u32, Zid)>,
     counted: &mut Vec<(u32, NodeId, Zid)>,
 ) -> Result<(), Memory>
-    requires nodes { AreKeysOf node_key_cmp (λ x. (x.0, x.1)) nodes.old.keys counted.old.items }
-    requires zids { AreKeysOf zid_key_cmp (λ x. (x.0, x.2)) zids.old.keys counted.old.items }
+    requires nodes { AreKeysOf node_key_eq (λ x. (x.0, x.1)) nodes.old.keys counted.old.items }
+    requires zids { AreKeysOf zid_key_eq (λ x. (x.0, x.2)) zids.old.keys counted.old.items }
     ensures counted { OnOk result (counted.new.items
         ≡ (if list_any (is_same_link link.now) counted.old.items then counted.old.items
         else counted.old.items ++ link.now ∷ [])) }
     ensures nodes { OnOk result
-        (AreKeysOf node_key_cmp (λ x. (x.0, x.1)) nodes.new.keys counted.new.items) }
+        (AreKeysOf node_key_eq (λ x. (x.0, x.1)) nodes.new.keys counted.new.items) }
     ensures zids { OnOk result
-        (AreKeysOf zid_key_cmp (λ x. (x.0, x.2)) zids.new.keys counted.new.items) }
+        (AreKeysOf zid_key_eq (λ x. (x.0, x.2)) zids.new.keys counted.new.items) }
 {
     if is_link_taken(link, nodes, zids) {
         return Ok(());
@@ -111,9 +110,9 @@ pub(crate) fn counted_links(
     ensures { IfOk result (λ counted. counted.items
         ≡ counted_beside is_same_link [] links.now) }
 {
-    let mut counted = Vec::new(alloc);
-    let mut nodes = BTreeSet::new(alloc);
-    let mut zids = BTreeSet::new(alloc);
+    let mut counted = Vec::with_capacity(alloc, links.len())?;
+    let mut nodes = HashSet::with_capacity(alloc, links.len())?;
+    let mut zids = HashSet::with_capacity(alloc, links.len())?;
     for link in links {
         count_link(link, &mut nodes, &mut zids, &mut counted)?;
     }

@@ -1,15 +1,16 @@
 -- Of an expression that is gone everywhere no face needs to be asked whether it sees it.
-use Rattle.std.proofs.Common.{◌≡◌, Bool, true, false, ◌&&◌, not, List, [], ◌∷◌, refl, sym}
+use Rattle.std.proofs.Common.{◌≡◌, ℕ, Bool, true, false, ◌&&◌, not, List, [], ◌∷◌, Option, ap, refl, sym, ◌∙◌}
 use Rattle.std.specs.List.{list_any}
 use Rattle.std.specs.declared.cmp.Ordering.{Ordering}
 use Rattle.zt_keys.specs.Test.{by_test}
 use Rattle.zt_region.specs.declared.region.Region.{Region}
 use Rattle.zt_region.specs.declared.region.Region.TheVariants.{Local}
 use Rattle.zt_model.specs.Lists.{same}
+use Rattle.zt_model.specs.Parts.{told_id}
 use Rattle.zt_model.specs.Rows.{Face, Rows}
 use Rattle.zt_model.specs.Telling.{forget_to}
 use Rattle.zt_model.specs.Visible.{is_visible, live_rows, shows}
-use Rattle.zt_tokens.specs.Gone.{IsGone, forget_known}
+use Rattle.zt_tokens.specs.Gone.{IsGone, forget_by}
 
 unseen : (b : Bool) → not b ≡ true → b ≡ false
 unseen true h = sym h
@@ -28,10 +29,12 @@ module _ {K : Type 0} (cmp : K → K → Ordering) where
   unfolding is_visible
   gone g e none own = local-sees e own (live_rows g) (unseen _ none)
 
-  pub forget-known : (matching : K → K → Bool) (is_gone : Bool) (g : Rows K) (source : Region) (e : K) → (is_gone ≡ true → IsGone cmp g e) → forget_known cmp matching is_gone g source e ≡ forget_to cmp matching g source e
+  -- what a face hears, by the id under which it was told the expression
+  pub forgets-by : (matching : K → K → Bool) (is_gone : Bool) (g : Rows K) (source : Region) (e : K) → (is_gone ≡ true → IsGone cmp g e) → (f : Face K) (told : Option ℕ) → told ≡ told_id cmp e f.told
+      → forget_by cmp matching is_gone g source e f told ≡ forget_to cmp matching g source e f
   unfolding forget_to
-  forget-known matching true g source e are = λ i f. unasked f i
+  forgets-by matching is_gone g source e are f told is = ap (forget_by cmp matching is_gone g source e f) is ∙ known is_gone are
     where
-      unasked : (f : Face K) → forget_known cmp matching true g source e f ≡ forget_to cmp matching g source e f
-      unasked f = let unseen = are refl f.region in rw unseen refl
-  forget-known matching false g source e are = refl
+      known : (is_gone : Bool) → (is_gone ≡ true → IsGone cmp g e) → forget_by cmp matching is_gone g source e f (told_id cmp e f.told) ≡ forget_to cmp matching g source e f
+      known true are = let unseen = are refl f.region in rw unseen refl
+      known false are = refl

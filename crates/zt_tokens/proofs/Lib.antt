@@ -5,4 +5,4 @@ pub mod Chosen
 pub mod Unsought
 mod Unheard
 mod Gone
-mod Told
+pub mod Told

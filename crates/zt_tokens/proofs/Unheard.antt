@@ -1,5 +1,5 @@
 -- Where as many of the faces that seek an expression keep it as faces do altogether, no other face hears of its tokens.
-use Rattle.std.proofs.Common.{◌≡◌, ◌≤◌, ℕ, ◌==◌, Bool, true, false, ◌||◌, suc, List, [], ◌∷◌, Option, Some, None, ap, arith, filter, length, map, refl, ◌∙◌}
+use Rattle.std.proofs.Common.{◌≡◌, ◌≤◌, ℕ, ◌==◌, Bool, true, false, ◌||◌, suc, is_some, List, [], ◌∷◌, Option, Some, None, ap, arith, filter, length, map, refl, sym, ◌∙◌}
 use Rattle.std.specs.List.{AllByRecursion, list_any}
 use Rattle.std.specs.declared.cmp.Ordering.{Ordering}
 use Rattle.zt_keys.specs.Test.{by_test}
@@ -11,9 +11,12 @@ use Rattle.zt_model.specs.Rows.{ById, Face, Rows}
 use Rattle.zt_model.specs.Telling.{forget_to}
 use Rattle.zt_model.specs.Visible.{is_visible, keeps}
 use Rattle.zt_model.specs.Wants.{seeks, wants}
+use Rattle.zt_told.specs.Told.{id_of}
 use Rattle.zt_state.specs.Rising.{IsRising}
-use Rattle.zt_tokens.specs.Walks.{is_kept_at}
+use Rattle.zt_state.specs.Told.{AreToldIds}
+use Rattle.zt_tokens.specs.Walks.{is_told_at}
 use Rattle.zt_tokens.proofs.Chosen.{all-found}
+use Rattle.zt_tokens.proofs.Told.{told_is_some}
 
 both-less : (a b : ℕ) → suc a ≡ suc b → a ≡ b
 both-less a b h = omega (arith, h)
@@ -53,16 +56,18 @@ module _ {A : Type 0} (p k : A → Bool) where
 
 module _ {K : Type 0} (cmp : K → K → Ordering) (e : K) where
   -- those of numbers are the faces that have them
-  counted-at : (fs gs : List (Face K)) (p : Face K → Bool) → AllByRecursion (λ f. first_where (λ x. f.number == x.number) fs ≡ Some f) gs
-      → length (filter (is_kept_at cmp e fs) (map (λ f. f.number) (filter p gs))) ≡ length (filter (λ f. keeps cmp f e) (filter p gs))
-  counted-at fs [] p found = refl
-  counted-at fs (g ∷ gs) p found =
-      let rest = counted-at fs gs p found.1 in
-      let here : is_kept_at cmp e fs g.number ≡ keeps cmp g e = ap (λ (o : Option (Face K)). is_some_and o (λ f. keeps cmp f e)) found.0 in
+  counted-at : (pairs : List (ℕ × ℕ)) (fs gs : List (Face K)) (p : Face K → Bool) → AllByRecursion (λ f. id_of f.number pairs ≡ told_id cmp e f.told) gs
+      → AllByRecursion (λ f. first_where (λ x. f.number == x.number) fs ≡ Some f) gs
+      → length (filter (is_told_at pairs fs) (map (λ f. f.number) (filter p gs))) ≡ length (filter (λ f. keeps cmp f e) (filter p gs))
+  counted-at pairs fs [] p ids found = refl
+  counted-at pairs fs (g ∷ gs) p ids found =
+      let rest = counted-at pairs fs gs p ids.1 found.1 in
+      let here : is_told_at pairs fs g.number ≡ keeps cmp g e =
+      ap (λ (o : Option (Face K)). is_some_and o (λ f. is_some (id_of f.number pairs))) found.0 ∙ ap is_some ids.0 ∙ told_is_some cmp e g.told in
       by_test (p g)
       (λ t. by_test (keeps cmp g e)
-      (λ u. let there : is_kept_at cmp e fs g.number ≡ true = here ∙ u in rw (t, there, u) (ap (λ n. suc n) rest))
-      (λ u. let there : is_kept_at cmp e fs g.number ≡ false = here ∙ u in rw (t, there, u) rest))
+      (λ u. let there : is_told_at pairs fs g.number ≡ true = here ∙ u in rw (t, there, u) (ap (λ n. suc n) rest))
+      (λ u. let there : is_told_at pairs fs g.number ≡ false = here ∙ u in rw (t, there, u) rest))
       (λ t. rw t rest)
 
   untold : (told : ById K) → list_any (λ row. same cmp e row.1) told ≡ false → told_id cmp e told ≡ None
@@ -82,11 +87,15 @@ module _ {K : Type 0} (cmp : K → K → Ordering) (e : K) where
         let never = unwanted f sought in
         by_test (is_routed g f || is_visible cmp g f.region e) (λ t. rw t refl) (λ t. rw (t, none, never) refl)
 
-    pub others-unheard : (numbers : List ℕ) → IsRising (λ f. f.number) g.faces → numbers ≡ map (λ f. f.number) (filter (λ f. seeks matching f e) g.faces)
-        → length (filter (λ f. keeps cmp f e) g.faces) ≡ length (filter (is_kept_at cmp e g.faces) numbers)
+    pub others-unheard : (pairs : List (ℕ × ℕ)) → AreToldIds cmp e pairs g.faces → (numbers : List ℕ) → IsRising (λ f. f.number) g.faces → numbers ≡ map (λ f. f.number) (filter (λ f. seeks matching f e) g.faces)
+        → length pairs ≡ length (filter (is_told_at pairs g.faces) numbers)
         → AllByRecursion (λ f. seeks matching f e ≡ false → forget_to cmp matching g source e f ≡ []) g.faces
-    others-unheard numbers rising are is =
-        let many = is ∙ ap (λ ns. length (filter (is_kept_at cmp e g.faces) ns)) are ∙ counted-at g.faces g.faces (λ f. seeks matching f e) (all-found g.faces rising) in
+    others-unheard pairs told numbers rising are is =
+        let many =
+        sym told.count
+        ∙ is
+        ∙ ap (λ ns. length (filter (is_told_at pairs g.faces) ns)) are
+        ∙ counted-at pairs g.faces g.faces (λ f. seeks matching f e) told.ids (all-found g.faces rising) in
         each g.faces (all-both (λ f. seeks matching f e) (λ f. keeps cmp f e) g.faces many)
       where
         each : (fs : List (Face K)) → AllByRecursion (λ f. seeks matching f e ≡ false → keeps cmp f e ≡ false) fs → AllByRecursion (λ f. seeks matching f e ≡ false → forget_to cmp matching g source e f ≡ []) fs

@@ -5,7 +5,8 @@ use Rattle.std.specs.declared.cmp.Ordering.{Ordering}
 use Rattle.zt_region.specs.declared.region.Region.{Region}
 use Rattle.zt_protocol.specs.declared.messages.Message.{Message}
 use Rattle.zt_protocol.specs.declared.messages.Message.TheVariants as message
-use Rattle.zt_model.specs.Parts.{is_routed, told_id}
+use Rattle.zt_told.specs.Told.{id_of}
+use Rattle.zt_model.specs.Parts.{is_routed}
 use Rattle.zt_model.specs.Rows.{Face, Rows}
 use Rattle.zt_model.specs.Telling.{forget_untold}
 use Rattle.zt_model.specs.Visible.{is_visible}
@@ -27,5 +28,6 @@ module _ {K : Type 0} (cmp : K → K → Ordering) where
         if is_routed g f || is_seen is_gone g f.region e then []
         else elim told [ None ↦ forget_untold cmp matching g source e f | Some id ↦ message.UndeclareToken id None 0 ∷ [] ]
 
-    abbrev pub forget_known : Face K → List (Message K)
-    forget_known f = forget_by f (told_id cmp e f.told)
+    -- the same, by pairs of face and id
+    abbrev pub forget_told : List (ℕ × ℕ) → Face K → List (Message K)
+    forget_told pairs f = forget_by f (id_of f.number pairs)

@@ -1,11 +1,10 @@
 -- What the faces of given numbers are given, in place of all faces.
-use Rattle.std.specs.Prelude.{ℕ, ◌==◌, Bool, List, [], Some, None, map}
-use Rattle.std.specs.declared.cmp.Ordering.{Ordering}
+use Rattle.std.specs.Prelude.{ℕ, ◌==◌, Bool, List, [], Some, None, is_some, map}
 use Rattle.zt_protocol.specs.declared.messages.Message.{Message}
 use Rattle.zt_model.specs.Lists.{first_where, is_some_and}
 use Rattle.zt_model.specs.Parts.{Sends}
 use Rattle.zt_model.specs.Rows.{Face}
-use Rattle.zt_model.specs.Visible.{keeps}
+use Rattle.zt_told.specs.Told.{id_of}
 
 module _ {K : Type 0} where
   -- what a rule gives to the face of a number
@@ -16,6 +15,6 @@ module _ {K : Type 0} where
   abbrev pub sent_to : (Face K → List (Message K)) → Face K → Sends K
   sent_to rule f = map (λ m. (f.number, m)) (rule f)
 
-  -- whether the face of a number is open and keeps an expression
-  abbrev pub is_kept_at : (K → K → Ordering) → K → List (Face K) → ℕ → Bool
-  is_kept_at cmp e fs n = is_some_and (first_where (λ f. n == f.number) fs) (λ f. keeps cmp f e)
+  -- whether the face of a number is open and has one of these pairs of face and id
+  abbrev pub is_told_at : List (ℕ × ℕ) → List (Face K) → ℕ → Bool
+  is_told_at pairs fs n = is_some_and (first_where (λ f. n == f.number) fs) (λ f. is_some (id_of f.number pairs))

@@ -1,22 +1,24 @@
 // What interests and asks are answered.
 ghost use Rattle.std.specs.Prelude.{◌≡◌, ◌&&◌, ◌++◌, ◌∷◌, [], if◌then◌else◌, IfOk, OnOk};
-ghost use Rattle.std.specs.Prelude.{filter, map, unwrap_or};
-ghost use Rattle.zt_model.specs.Parts.{to_face, told_id};
-ghost use Rattle.zt_model.specs.Telling.{answer, answer_to, answers_from, answers_of};
+ghost use Rattle.std.specs.Prelude.{filter, map, true, unwrap_or, Some};
+ghost use Rattle.zt_model.specs.Parts.{find_face, to_face};
+ghost use Rattle.zt_model.specs.Telling.{answer, answers_from, answers_of};
 ghost use Rattle.zt_model.specs.Telling.{answered_expressions, is_answered_by, was_sent_as};
 ghost use Rattle.zt_model.specs.Visible.{visible_expressions};
 ghost use Rattle.zt_model.specs.Wants.{is_about};
 ghost use Rattle.zt_protocol.specs.Interest.{has_tokens, is_current, is_future};
-ghost use Rattle.zt_tokens.specs.Answered.{answer_of, id_after};
+ghost use Rattle.zt_seekers.specs.Told.{told_id_at};
+ghost use Rattle.zt_told.specs.Told.{AreRising};
+ghost use Rattle.zt_tokens.specs.Answered.{answer_message, answer_of, answer_told, id_after};
 
-use crate::questions::find_face;
+use crate::questions::{find_face, told_in};
 use crate::visibility::{visible_expressions, visible_matches};
 use bitflags::Flags;
 use std::alloc::Global;
 use zt_keys::{Key, Memory};
 use zt_protocol::{InterestId, InterestMode, InterestOptions, Message, TokenId};
 use zt_region::Region;
-use zt_state::{AskState, FaceState, GatewayState, LocalTokens, RemoteInterest, is_among};
+use zt_state::{AskState, FaceState, GatewayState, RemoteInterest, is_among};
 
 // Whether the interest asks for tokens that are there now.
 fn asks_now<K: Key>(interest: &RemoteInterest<K>) -> bool
@@ -62,49 +64,44 @@ pub fn answered_expressions<K: Key>(
 }
 
 // The id of an answer: 0 where what comes later isn't asked for, else the one under which the face
-// keeps the expression, or a new one.
-fn answer_id<K: Key>(next: u32, told: &LocalTokens<K>, mode: InterestMode, expr: &K) -> TokenId
-    ensures { result ≡ (if is_future mode
-        then unwrap_or (told_id K.cmp expr.now told.now) next else 0) }
+// was told the expression, or a new one.
+fn answer_id(next: u32, told: Option<TokenId>, mode: InterestMode) -> TokenId
+    ensures { result ≡ (if is_future mode then unwrap_or told next else 0) }
 {
     if mode.is_future() {
-        told.id_of(expr).unwrap_or(next)
+        told.unwrap_or(next)
     } else {
         0
     }
 }
 
-// The id that is drawn after the answer of an expression. Ids that run out count as want of memory.
-fn id_after<K: Key>(
-    next: u32,
-    told: &LocalTokens<K>,
-    mode: InterestMode,
-    expr: &K,
-) -> Result<u32, Memory>
-    ensures { IfOk result (λ after. after ≡ id_after K.cmp next told.now mode expr.now) }
+// The id that is drawn after the answer of an expression that the face was told under an id, or not
+// at all. Ids that run out count as want of memory.
+fn id_after(next: u32, told: Option<TokenId>, mode: InterestMode) -> Result<u32, Memory>
+    ensures { IfOk result (λ after. after ≡ id_after next told mode) }
 {
-    if mode.is_future() && told.id_of(expr).is_none() {
+    if mode.is_future() && told.is_none() {
         return next.checked_add(1).ok_or(Memory);
     }
     Ok(next)
 }
 
-// Adds the answer of one expression.
+// Adds the answer of one expression, that the face was told under an id, or not at all.
 fn answer_one<K: Key>(
     alloc: Global,
     face: u32,
     next: u32,
-    told: &LocalTokens<K>,
+    told: Option<TokenId>,
     mode: InterestMode,
     id: InterestId,
     expr: &K,
     sends: &mut Vec<(u32, Message<K>)>,
 ) -> Result<(), Memory>
-    ensures { OnOk result (sends.new.items ≡ sends.old.items ++ map (λ m. (face, m))
-        (answers_from K.cmp K.matching next told.now mode id (expr.now ∷ []))) }
+    ensures { OnOk result (sends.new.items
+        ≡ sends.old.items ++ (face, answer_message next told mode id expr.now) ∷ []) }
 {
     let message = Message::DeclareToken {
-        id: answer_id(next, told, mode, expr),
+        id: answer_id(next, told, mode),
         expr: expr.copy(alloc)?,
         interest_id: Some(id),
         node_id: 0,
@@ -113,23 +110,39 @@ fn answer_one<K: Key>(
     Ok(())
 }
 
+// The id under which the face was told the expression, if it was. It isn't looked up where what
+// comes later isn't asked for, as no answer is under it then.
+fn told_for<K: Key>(g: &GatewayState<K>, face: u32, mode: InterestMode, expr: &K) -> Option<TokenId>
+    ensures { is_future mode ≡ true →
+        result ≡ told_id_at K.cmp expr.now g.now.faces face }
+{
+    if mode.is_future() {
+        g.told_id(expr, face)
+    } else {
+        None
+    }
+}
+
 // The answers of these expressions to a face.
 fn answer_all<K: Key>(
     alloc: Global,
+    g: &GatewayState<K>,
     face: u32,
     f: &FaceState<K>,
     mode: InterestMode,
     id: InterestId,
     exprs: &[K],
 ) -> Result<Vec<(u32, Message<K>)>, Memory>
+    requires { find_face face g.now ≡ Some f.now }
     ensures { IfOk result (λ sends. sends.items ≡ map (λ m. (face, m))
         (answers_from K.cmp K.matching f.now.next f.now.told mode id exprs.now)) }
 {
     let mut sends = Vec::new(alloc);
     let mut next = f.next();
     for expr in exprs {
-        answer_one(alloc, face, next, f.told(), mode, id, expr, &mut sends)?;
-        next = id_after(next, f.told(), mode, expr)?;
+        let told = told_for(g, face, mode, expr);
+        answer_one(alloc, face, next, told, mode, id, expr, &mut sends)?;
+        next = id_after(next, told, mode)?;
     }
     Ok(sends)
 }
@@ -151,7 +164,7 @@ pub fn answer_interest<K: Key>(
         return Ok(Vec::new(alloc));
     };
     let exprs = answered_expressions(alloc, g, interest, f)?;
-    answer_all(alloc, face, f, interest.mode(), id, &exprs)
+    answer_all(alloc, g, face, f, interest.mode(), id, &exprs)
 }
 
 // Whether the ask was sent upstream to this face, under this id.
@@ -169,32 +182,27 @@ pub fn is_answered_by<K: Key>(face: u32, id: InterestId, expr: &K, ask: &AskStat
     was_sent_as(face, id, ask) && ask.interest().asks_token(expr) && !is_among(expr, ask.answered())
 }
 
-// Adds the answer of the ask under an id, where the token answers it.
+// Adds the answer of the ask under an id, where the token answers it. `told` has the faces that
+// were told the expression, each with the id under which it was.
 fn answer_ask<K: Key>(
     alloc: Global,
     f: &FaceState<K>,
     face: u32,
     id: InterestId,
     expr: &K,
+    told: &[(u32, TokenId)],
     under: InterestId,
     ask: &AskState<K>,
     sends: &mut Vec<(u32, Message<K>)>,
 ) -> Result<(), Memory>
+    requires { AreRising told.now }
     ensures { OnOk result (sends.new.items ≡ sends.old.items ++ map (λ m. (f.now.number, m))
-        (answer_of K.cmp K.matching face id expr.now f.now (under, ask.now))) }
+        (answer_of K.cmp K.matching face id expr.now told.now f.now (under, ask.now))) }
 {
     if is_answered_by(face, id, expr, ask) {
+        let known = told_in(told, f.number());
         let mode = ask.interest().mode();
-        answer_one(
-            alloc,
-            f.number(),
-            f.next(),
-            f.told(),
-            mode,
-            under,
-            expr,
-            sends,
-        )?;
+        answer_one(alloc, f.number(), f.next(), known, mode, under, expr, sends)?;
     }
     Ok(())
 }
@@ -205,14 +213,16 @@ fn answer_to<K: Key>(
     face: u32,
     id: InterestId,
     expr: &K,
+    told: &[(u32, TokenId)],
     f: &FaceState<K>,
     sends: &mut Vec<(u32, Message<K>)>,
 ) -> Result<(), Memory>
-    ensures { OnOk result (sends.new.items ≡ sends.old.items
-        ++ map (λ m. (f.now.number, m)) (answer_to K.cmp K.matching face id expr.now f.now)) }
+    requires { AreRising told.now }
+    ensures { OnOk result (sends.new.items ≡ sends.old.items ++ map (λ m. (f.now.number, m))
+        (answer_told K.cmp K.matching face id expr.now told.now f.now)) }
 {
     for (under, ask) in f.asks().iter() {
-        answer_ask(alloc, f, face, id, expr, *under, ask, sends)?;
+        answer_ask(alloc, f, face, id, expr, told, *under, ask, sends)?;
     }
     Ok(())
 }
@@ -229,9 +239,10 @@ pub fn answer<K: Key>(
     ensures { IfOk result (λ sends. sends.items
         ≡ answer K.cmp K.matching face id expr.now g.now) }
 {
+    let told = g.told_at(expr);
     let mut sends = Vec::new(alloc);
     for f in g.faces() {
-        answer_to(alloc, face, id, expr, f, &mut sends)?;
+        answer_to(alloc, face, id, expr, told, f, &mut sends)?;
     }
     Ok(sends)
 }

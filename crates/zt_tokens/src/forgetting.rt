@@ -1,16 +1,17 @@
 // Faces hear that tokens are gone.
 ghost use Rattle.std.specs.Prelude.{◌≡◌, ◌++◌, ◌∷◌, ◌&&◌, [], not, IfOk, OnOk, None};
-ghost use Rattle.std.specs.Prelude.{filter, if◌then◌else◌, length, map, true};
+ghost use Rattle.std.specs.Prelude.{filter, if◌then◌else◌, is_some, length, map, true};
 ghost use Rattle.std.specs.List.{flat_map};
 ghost use Rattle.zt_protocol.specs.declared.messages.Message.TheVariants.{UndeclareToken};
 ghost use Rattle.zt_model.specs.Strategy.{strategy_of, is_client_hat};
 ghost use Rattle.zt_model.specs.Wants.{wants};
 ghost use Rattle.zt_model.specs.Telling.{forget, forget_untold};
-ghost use Rattle.zt_model.specs.Visible.{keeps, shows};
-ghost use Rattle.zt_tokens.specs.Gone.{IsGone, forget_by, forget_known, is_seen};
-ghost use Rattle.zt_tokens.specs.Walks.{given_at, is_kept_at, sent_to};
+ghost use Rattle.zt_model.specs.Visible.{shows};
+ghost use Rattle.zt_told.specs.Told.{AreRising, id_of};
+ghost use Rattle.zt_tokens.specs.Gone.{IsGone, forget_by, forget_told, is_seen};
+ghost use Rattle.zt_tokens.specs.Walks.{given_at, is_told_at, sent_to};
 
-use crate::questions::{find_face, is_client_region, is_routed, is_visible, shows, wants};
+use crate::questions::{find_face, is_client_region, is_routed, is_visible, shows, told_in, wants};
 use crate::walking::{FaceRule, say_each};
 use std::alloc::Global;
 use zt_keys::{Key, Memory};
@@ -34,12 +35,15 @@ fn hears_untold<K: Key>(g: &GatewayState<K>, source: Region, expr: &K, f: &FaceS
 }
 
 // What a face hears of an expression that is gone from a region. Of one that is gone everywhere no
-// face is asked whether it sees it.
+// face is asked whether it sees it. `told` has the faces that were told it, each with the id under
+// which it was.
 #[derive(Drop)]
 struct Forgets<'a, K: Key> {
     source: Region,
     expr: &'a K,
     is_gone: bool,
+    told: &'a [(u32, TokenId)],
+    ghost in_order: { AreRising told.now },
 }
 
 impl<'a, K: Key> Forgets<'a, K> {
@@ -118,8 +122,7 @@ impl<'a, K: Key> Forgets<'a, K> {
         }
     }
 
-    // Adds what a face hears, and answers whether it keeps the expression.
-    #[tactic(auto, using(crate::proofs::Told::told_is_some))]
+    // Adds what a face hears, and answers whether it was told the expression.
     fn say_to(
         &self,
         alloc: Global,
@@ -128,16 +131,17 @@ impl<'a, K: Key> Forgets<'a, K> {
         sends: &mut Vec<(u32, Message<K>)>,
     ) -> Result<bool, Memory>
         ensures said { OnOk result (sends.new.items ≡ sends.old.items
-            ++ sent_to (forget_known K.cmp K.matching self.now.is_gone g.now self.now.source
-            self.now.expr.now) f.now) }
-        ensures kept { IfOk result (λ kept. kept ≡ keeps K.cmp f.now self.now.expr.now) }
+            ++ sent_to (forget_told K.cmp K.matching self.now.is_gone g.now self.now.source
+            self.now.expr.now self.now.told.now) f.now) }
+        ensures was_told { IfOk result (λ was_told. was_told
+            ≡ is_some (id_of f.now.number self.now.told.now)) }
     {
-        let told = f.told().id_of(self.expr);
+        let told = told_in(self.told, f.number());
         self.say_by(alloc, g, f, told, sends)?;
         Ok(told.is_some())
     }
 
-    // Adds what the face of a number hears, if it is open, and answers whether it keeps the
+    // Adds what the face of a number hears, if it is open, and answers whether it was told the
     // expression.
     fn say_to_number(
         &self,
@@ -147,10 +151,10 @@ impl<'a, K: Key> Forgets<'a, K> {
         sends: &mut Vec<(u32, Message<K>)>,
     ) -> Result<bool, Memory>
         ensures said { OnOk result (sends.new.items ≡ sends.old.items
-            ++ given_at (sent_to (forget_known K.cmp K.matching self.now.is_gone g.now
-            self.now.source self.now.expr.now)) g.now.faces number) }
-        ensures kept { IfOk result (λ kept. kept
-            ≡ is_kept_at K.cmp self.now.expr.now g.now.faces number) }
+            ++ given_at (sent_to (forget_told K.cmp K.matching self.now.is_gone g.now
+            self.now.source self.now.expr.now self.now.told.now)) g.now.faces number) }
+        ensures was_told { IfOk result (λ was_told. was_told
+            ≡ is_told_at self.now.told.now g.now.faces number) }
     {
         match find_face(g, number) {
             Some(f) => self.say_to(alloc, g, f, sends),
@@ -158,7 +162,7 @@ impl<'a, K: Key> Forgets<'a, K> {
         }
     }
 
-    // What the faces of these numbers hear, and how many of them keep the expression.
+    // What the faces of these numbers hear, and how many of them were told the expression.
     fn say_to_numbers(
         &self,
         alloc: Global,
@@ -166,26 +170,27 @@ impl<'a, K: Key> Forgets<'a, K> {
         numbers: &[u32],
     ) -> Result<(Vec<(u32, Message<K>)>, usize), Memory>
         ensures said { IfOk result (λ done. done.0.items
-            ≡ flat_map (given_at (sent_to (forget_known K.cmp K.matching self.now.is_gone g.now
-            self.now.source self.now.expr.now)) g.now.faces) numbers.now) }
-        ensures kept { IfOk result (λ done. done.1
-            ≡ length (filter (is_kept_at K.cmp self.now.expr.now g.now.faces) numbers.now)) }
+            ≡ flat_map (given_at (sent_to (forget_told K.cmp K.matching self.now.is_gone g.now
+            self.now.source self.now.expr.now self.now.told.now)) g.now.faces) numbers.now) }
+        ensures counted { IfOk result (λ done. done.1
+            ≡ length (filter (is_told_at self.now.told.now g.now.faces) numbers.now)) }
     {
         let mut sends = Vec::new(alloc);
-        let mut kept = 0;
+        let mut count = 0;
         for number in numbers {
             if self.say_to_number(alloc, g, *number, &mut sends)? {
-                kept += 1;
+                count += 1;
             }
         }
-        Ok((sends, kept))
+        Ok((sends, count))
     }
 }
 
 impl<'a, K: Key> FaceRule<K> for Forgets<'a, K> {
-    ghost use Rattle.zt_tokens.specs.Gone.{forget_known};
+    ghost use Rattle.zt_tokens.specs.Gone.{forget_told};
 
-    ghost given = { λ t g. forget_known K.cmp K.matching t.is_gone g t.source t.expr.now };
+    ghost given = { λ t g.
+        forget_told K.cmp K.matching t.is_gone g t.source t.expr.now t.told.now };
 
     fn say(
         &self,
@@ -194,7 +199,7 @@ impl<'a, K: Key> FaceRule<K> for Forgets<'a, K> {
         f: &FaceState<K>,
         sends: &mut Vec<(u32, Message<K>)>,
     ) -> Result<(), Memory> {
-        self.say_by(alloc, g, f, f.told().id_of(self.expr), sends)
+        self.say_by(alloc, g, f, told_in(self.told, f.number()), sends)
     }
 }
 
@@ -214,10 +219,11 @@ pub fn forget<K: Key>(
         source,
         expr,
         is_gone: is_gone(g, expr),
+        told: g.told_at(expr),
     };
     if let Some(numbers) = g.find_seekers(alloc, expr)? {
-        let (sends, kept) = forgets.say_to_numbers(alloc, g, &numbers)?;
-        if kept == g.told_count(expr) as usize {
+        let (sends, count) = forgets.say_to_numbers(alloc, g, &numbers)?;
+        if count == forgets.told.len() {
             return Ok(sends);
         }
     }

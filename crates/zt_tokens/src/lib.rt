@@ -14,7 +14,7 @@ pub use answering::{answer, answer_interest, answered_expressions, is_answered_b
 pub use forgetting::forget;
 pub use ordering::{KeysInOrder, insert_in_order};
 pub use questions::{
-    find_face, is_client_region, is_routed, is_router_region, is_told, is_visible, keeps, shows,
+    find_face, is_client_region, is_routed, is_router_region, is_told, is_visible, shows, told_in,
     wants,
 };
 pub use telling::tell;

@@ -3,13 +3,15 @@ ghost use Rattle.std.specs.Prelude.{◌≡◌};
 ghost use Rattle.std.specs.Option.{option_copied};
 ghost use Rattle.zt_model.specs.Parts.{find_face, is_routed};
 ghost use Rattle.zt_model.specs.Strategy.{strategy_of, is_client_hat, is_router_hat};
-ghost use Rattle.zt_model.specs.Telling.{is_told};
-ghost use Rattle.zt_model.specs.Visible.{is_visible, keeps, shows};
+ghost use Rattle.zt_model.specs.Visible.{is_visible, shows};
 ghost use Rattle.zt_model.specs.Wants.{seeks, wants};
-ghost use Rattle.zt_tokens.specs.Seeking.{is_seeker_told};
+ghost use Rattle.zt_told.specs.Told.{AreRising, id_of};
+ghost use Rattle.zt_tokens.specs.Seeking.{is_seeker_told, is_told_by};
 
 use zt_indexes::RegionTest;
 use zt_keys::Key;
+use zt_ordered::place_of;
+use zt_protocol::TokenId;
 use zt_region::{Region, WhatAmI};
 use zt_state::{FaceState, GatewayState};
 
@@ -20,11 +22,15 @@ pub fn find_face<K: Key>(g: &GatewayState<K>, number: u32) -> Option<&FaceState<
     g.find_face(number)
 }
 
-/// Whether the face was told the expression and not told that it is gone.
-pub fn keeps<K: Key>(f: &FaceState<K>, expr: &K) -> bool
-    ensures { result ≡ keeps K.cmp f.now expr.now }
+/// The id of a face among pairs of face and id, which are in order of face. A search by halves.
+pub fn told_in(pairs: &[(u32, TokenId)], face: u32) -> Option<TokenId>
+    requires { AreRising pairs.now }
+    ensures { result ≡ id_of face pairs.now }
 {
-    f.told().has(expr)
+    match place_of(pairs, &face) {
+        Ok(place) => Some(pairs[place].1),
+        Err(_) => None,
+    }
 }
 
 /// Whether the face holds an interest in the expression's tokens.
@@ -84,27 +90,34 @@ pub fn is_routed<K: Key>(g: &GatewayState<K>, f: &FaceState<K>) -> bool
     is_router_region(g.mode(), f.region())
 }
 
-/// Whether a face that seeks the expression is told of a token of it that was declared in the
-/// region `source`.
+/// Whether a face that seeks an expression is told of a token of it that was declared in the region
+/// `source`. The face was told the expression under the id `told`, or not at all.
 pub fn is_seeker_told<K: Key>(
     g: &GatewayState<K>,
     source: Region,
-    expr: &K,
     f: &FaceState<K>,
+    told: Option<TokenId>,
 ) -> bool
-    ensures { result ≡ is_seeker_told K.cmp g.now source expr.now f.now }
+    ensures { result ≡ is_seeker_told g.now source f.now told }
 {
     !is_routed(g, f)
         && g.admission().admits(source, f.region())
         && shows(f.region(), source)
-        && !keeps(f, expr)
+        && told.is_none()
 }
 
 /// Whether the face is told of a token of the expression that was declared in the region `source`.
-pub fn is_told<K: Key>(g: &GatewayState<K>, source: Region, expr: &K, f: &FaceState<K>) -> bool
-    ensures { result ≡ is_told K.cmp K.matching g.now source expr.now f.now }
+/// It was told the expression under the id `told`, or not at all.
+pub fn is_told<K: Key>(
+    g: &GatewayState<K>,
+    source: Region,
+    expr: &K,
+    f: &FaceState<K>,
+    told: Option<TokenId>,
+) -> bool
+    ensures { result ≡ is_told_by K.matching g.now source expr.now f.now told }
 {
-    is_seeker_told(g, source, expr, f) && seeks(f, expr)
+    is_seeker_told(g, source, f, told) && seeks(f, expr)
 }
 
 /// Of regions those whose tokens faces of this region are shown.

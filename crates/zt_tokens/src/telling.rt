@@ -1,13 +1,14 @@
 // Faces hear of tokens that were declared.
 ghost use Rattle.std.specs.Prelude.{◌≡◌, ◌++◌, IfOk, OnOk, map};
 ghost use Rattle.zt_model.specs.Telling.{tell};
+ghost use Rattle.zt_told.specs.Told.{AreRising};
 ghost use Rattle.zt_tokens.specs.Seeking.{declared_to};
 
-use crate::questions::{is_seeker_told, is_told};
+use crate::questions::{is_seeker_told, is_told, told_in};
 use crate::walking::{FaceRule, say_at, say_each};
 use std::alloc::Global;
 use zt_keys::{Key, Memory};
-use zt_protocol::Message;
+use zt_protocol::{Message, TokenId};
 use zt_region::Region;
 use zt_state::{FaceState, GatewayState};
 
@@ -31,19 +32,21 @@ fn declare_to<K: Key>(
     Ok(())
 }
 
-// What a face is told of a token of the expression.
+// What a face is told of a token of the expression. `told` has the faces that were told it already,
+// each with the id under which it was.
 #[derive(Drop)]
 struct Tells<'a, K: Key> {
     source: Region,
     expr: &'a K,
+    told: &'a [(u32, TokenId)],
+    ghost in_order: { AreRising told.now },
 }
 
 impl<'a, K: Key> FaceRule<K> for Tells<'a, K> {
-    ghost use Rattle.zt_model.specs.Telling.{tell_to};
+    ghost use Rattle.zt_tokens.specs.Seeking.{tell_by};
 
-    ghost given = { λ t g. tell_to K.cmp K.matching g t.source t.expr.now };
+    ghost given = { λ t g. tell_by K.matching g t.source t.expr.now t.told.now };
 
-    #[tactic(auto, unfolding(zt_model::specs::Telling::tell_to))]
     fn say(
         &self,
         alloc: Global,
@@ -51,7 +54,8 @@ impl<'a, K: Key> FaceRule<K> for Tells<'a, K> {
         f: &FaceState<K>,
         sends: &mut Vec<(u32, Message<K>)>,
     ) -> Result<(), Memory> {
-        if is_told(g, self.source, self.expr, f) {
+        let told = told_in(self.told, f.number());
+        if is_told(g, self.source, self.expr, f, told) {
             declare_to(alloc, self.expr, f, sends)?;
         }
         Ok(())
@@ -63,12 +67,14 @@ impl<'a, K: Key> FaceRule<K> for Tells<'a, K> {
 struct TellsSeeker<'a, K: Key> {
     source: Region,
     expr: &'a K,
+    told: &'a [(u32, TokenId)],
+    ghost in_order: { AreRising told.now },
 }
 
 impl<'a, K: Key> FaceRule<K> for TellsSeeker<'a, K> {
     ghost use Rattle.zt_tokens.specs.Seeking.{tell_seeker};
 
-    ghost given = { λ t g. tell_seeker K.cmp g t.source t.expr.now };
+    ghost given = { λ t g. tell_seeker g t.source t.expr.now t.told.now };
 
     fn say(
         &self,
@@ -77,7 +83,8 @@ impl<'a, K: Key> FaceRule<K> for TellsSeeker<'a, K> {
         f: &FaceState<K>,
         sends: &mut Vec<(u32, Message<K>)>,
     ) -> Result<(), Memory> {
-        if is_seeker_told(g, self.source, self.expr, f) {
+        let told = told_in(self.told, f.number());
+        if is_seeker_told(g, self.source, f, told) {
             declare_to(alloc, self.expr, f, sends)?;
         }
         Ok(())
@@ -94,8 +101,9 @@ pub fn tell<K: Key>(
 ) -> Result<Vec<(u32, Message<K>)>, Memory>
     ensures { IfOk result (λ sends. sends.items ≡ tell K.cmp K.matching source expr.now g.now) }
 {
+    let told = g.told_at(expr);
     match g.find_seekers(alloc, expr)? {
-        Some(numbers) => say_at(alloc, g, &numbers, &TellsSeeker { source, expr }),
-        None => say_each(alloc, g, &Tells { source, expr }),
+        Some(numbers) => say_at(alloc, g, &numbers, &TellsSeeker { source, expr, told }),
+        None => say_each(alloc, g, &Tells { source, expr, told }),
     }
 }

@@ -1,4 +1,5 @@
 mod Changed
 mod Copied
+mod Left
 mod Ordered
 mod Pairs

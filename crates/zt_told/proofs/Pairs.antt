@@ -1,6 +1,6 @@
 -- Pairs of face and id in order of face: what is found there, put there and taken from there.
 use native.Mathlib.Numerals.{unary_clauses}
-use Rattle.std.proofs.Common.{◌≡◌, ℕ, ◌<◌, ◌-◌, cond, not, filter, List, [], ◌∷◌, ◌++◌, length, slice_get, Some, refl, ap, sym, subst, ◌∙◌, arith}
+use Rattle.std.proofs.Common.{◌≡◌, ℕ, ◌<◌, ◌-◌, cond, not, filter, List, [], ◌∷◌, ◌++◌, length, slice_get, Some, None, refl, ap, sym, subst, ◌∙◌, arith}
 use Rattle.std.proofs.lemmas.Bool.Decides.{nat_tests}
 use Rattle.std.specs.BTreeMap.{is_at}
 use Rattle.std.specs.Cmp.{nat_cmp_total, unsigned_tied}
@@ -36,6 +36,15 @@ put-behind face id (pair ∷ pairs) behind =
 
 pub put-last : (face id : ℕ) (pairs : List (ℕ × ℕ)) (last : ℕ × ℕ) → AreRising pairs → slice_get pairs (length pairs - 1) ≡ Some last → last.0 < face → with_face face id pairs ≡ pairs ++ (face, id) ∷ []
 put-last face id pairs last rising is above = put-behind face id pairs (behind-last face pairs last rising is above)
+
+id-behind : (face : ℕ) (pairs : List (ℕ × ℕ)) → IsBehind face pairs → id_of face pairs ≡ None
+id-behind face [] behind = refl
+id-behind face (pair ∷ pairs) behind =
+    let above : nat_cmp face pair.0 ≡ Greater = nat_cmp_total.antisymm face pair.0 ∙ ap ordering_reverse behind.0 in
+    rw above (id-behind face pairs behind.1)
+
+pub id-last : (face : ℕ) (pairs : List (ℕ × ℕ)) (last : ℕ × ℕ) → AreRising pairs → slice_get pairs (length pairs - 1) ≡ Some last → last.0 < face → id_of face pairs ≡ None
+id-last face pairs last rising is above = id-behind face pairs (behind-last face pairs last rising is above)
 
 -- ---- what is found
 pub find-id : (face : ℕ) (pairs : List (ℕ × ℕ)) → find nat_cmp face pairs ≡ id_of face pairs

@@ -14,7 +14,7 @@ use Rattle.zt_told.specs.declared.faces.Faces.TheVariants.{Empty, One, More}
 abbrev pub pairs_of : Faces → List (ℕ × ℕ)
 pairs_of Empty = []
 pairs_of (One pair) = pair ∷ []
-pairs_of (More pairs) = pairs.value.items
+pairs_of (More many) = many.value
 
 module _ {K X : Type 0} (cmp : K → K → Ordering) where
   unfoldable pub index_in_order : List (K × X) → List (K × X)

@@ -1,26 +1,15 @@
 // The faces that were told one expression.
-ghost use Rattle.std.specs.Prelude.{◌≡◌, ℕ, ◌==◌, ◌++◌, ◌∷◌, [], length, true, IfOk, OnErr, OnOk};
+ghost use Rattle.std.specs.Prelude.{◌≡◌, ◌==◌, ◌∷◌, [], length, IfOk, OnErr, OnOk};
 ghost use Rattle.zt_told.specs.Held.{pairs_of};
 ghost use Rattle.zt_told.specs.Told.{AreRising, id_of, with_face, without_face};
 
+use crate::many::Many;
 use std::alloc::Global;
 use std::cmp::Ordering;
 use std::marker::Model;
 use std::slice;
 use zt_keys::Memory;
 use zt_ordered::place_of;
-
-// Whether the face is above those of all pairs, so that its pair goes behind them.
-fn is_above(pairs: &[(u32, u32)], face: u32) -> bool
-    requires { AreRising pairs.now }
-    ensures { result ≡ true → (id : ℕ) →
-        with_face face id pairs.now ≡ pairs.now ++ (face, id) ∷ [] }
-{
-    match pairs.last() {
-        None => true,
-        Some(last) => last.0 < face,
-    }
-}
 
 // The id of the face. A search by halves.
 fn find_in(pairs: &[(u32, u32)], face: u32) -> Option<u32>
@@ -33,49 +22,21 @@ fn find_in(pairs: &[(u32, u32)], face: u32) -> Option<u32>
     }
 }
 
-// The face with the id, in its place, instead of the id that it had. Faces mostly come in order, so
-// the end is tried first. The only error is want of memory, and then the pairs stay.
-fn put_in(pairs: &mut Vec<(u32, u32)>, face: u32, id: u32) -> Result<(), Memory>
-    requires { AreRising pairs.old.items }
-    ensures ok { OnOk result (pairs.new.items ≡ with_face face id pairs.old.items) }
-    ensures err { OnErr result (pairs.new.items ≡ pairs.old.items) }
-{
-    if is_above(pairs.as_slice(), face) {
-        pairs.push((face, id))?;
-        return Ok(());
-    }
-    match place_of(pairs.as_slice(), &face) {
-        Ok(place) => pairs[place].1 = id,
-        Err(place) => pairs.insert(place, (face, id))?,
-    }
-    Ok(())
-}
-
-// The pair of the face goes, if it has one.
-fn remove_in(pairs: &mut Vec<(u32, u32)>, face: u32)
-    requires { AreRising pairs.old.items }
-    ensures { pairs.new.items ≡ without_face face pairs.old.items }
-{
-    if let Ok(place) = place_of(pairs.as_slice(), &face) {
-        pairs.remove(place);
-    }
-}
-
 // The faces that were told an expression: none, or one alone, as mostly, or those in a box, which
 // keeps this small where there is one.
 #[derive(Drop)]
 enum Faces {
     Empty,
     One((u32, u32)),
-    More(Box<Vec<(u32, u32)>>),
+    More(Box<Many>),
 }
 
 // Two pairs. The only error is want of memory.
 fn two(alloc: Global, first: (u32, u32), second: (u32, u32)) -> Result<Faces, Memory>
     ensures { IfOk result (λ faces. pairs_of faces ≡ first ∷ second ∷ []) }
 {
-    let pairs = vec![in alloc; first, second]?;
-    Ok(Faces::More(Box::new(alloc, pairs)?))
+    let many = Many::two(alloc, first, second)?;
+    Ok(Faces::More(Box::new(alloc, many)?))
 }
 
 // The face with the id, beside one pair or instead of it. The only error is want of memory.
@@ -127,7 +88,7 @@ impl ToldFaces {
         match &self.faces {
             Faces::Empty => &[],
             Faces::One(pair) => slice::from_ref(pair),
-            Faces::More(pairs) => pairs.as_slice(),
+            Faces::More(many) => many.as_slice(),
         }
     }
 
@@ -145,22 +106,24 @@ impl ToldFaces {
         self.as_slice().is_empty()
     }
 
-    /// The face was told under the id, and no more under the one that it had. The only error is
-    /// want of memory, and then the faces stay.
-    pub(crate) fn put(&mut self, alloc: Global, face: u32, id: u32) -> Result<(), Memory>
+    /// The face was told under the id. It answers the id that the face had, if it had one. The only
+    /// error is want of memory, and then the faces stay.
+    pub(crate) fn put(&mut self, alloc: Global, face: u32, id: u32) -> Result<Option<u32>, Memory>
         ensures ok { OnOk result (self.new ≡ with_face face id self.old) }
+        ensures known { IfOk result (λ known. known ≡ id_of face self.old) }
         ensures err { OnErr result (self.new ≡ self.old) }
     {
         match &mut self.faces {
             Faces::Empty => {
                 self.faces = Faces::One((face, id));
-                Ok(())
+                Ok(None)
             }
             Faces::One(pair) => {
+                let known = (face == pair.0).then_some(pair.1);
                 self.faces = beside_one(alloc, *pair, face, id)?;
-                Ok(())
+                Ok(known)
             }
-            Faces::More(pairs) => put_in(pairs, face, id),
+            Faces::More(many) => many.put(face, id),
         }
     }
 
@@ -175,7 +138,7 @@ impl ToldFaces {
                     self.faces = Faces::Empty;
                 }
             }
-            Faces::More(pairs) => remove_in(pairs, face),
+            Faces::More(many) => many.remove(face),
         }
     }
 
@@ -186,7 +149,7 @@ impl ToldFaces {
         let faces = match &self.faces {
             Faces::Empty => Faces::Empty,
             Faces::One(pair) => Faces::One(*pair),
-            Faces::More(pairs) => Faces::More(Box::new(alloc, pairs.to_vec(alloc)?)?),
+            Faces::More(many) => Faces::More(Box::new(alloc, many.copy(alloc)?)?),
         };
         Ok(ToldFaces { faces })
     }

@@ -65,22 +65,27 @@ fn put_faces<K: Key>(
     Ok(())
 }
 
-// The face was told the expression under the id. The only error is want of memory, and then all
-// stays.
+// The face was told the expression under the id. It answers the id that the face had, if it had
+// one. The only error is want of memory, and then all stays.
 fn put_at<K: Key>(
     alloc: Global,
     faces: &mut HashMap<K, ToldFaces>,
     expr: &K,
     face: u32,
     id: u32,
-) -> Result<(), Memory>
+) -> Result<Option<u32>, Memory>
     ensures ok { OnOk result (ChangesAt K.cmp expr.now (with_face face id)
         faces.old.entries faces.new.entries) }
+    ensures known { IfOk result
+        (λ known. known ≡ id_of face (told_at K.cmp expr.now faces.old.entries)) }
     ensures err { OnErr result (faces.new.entries ≡ faces.old.entries) }
 {
     match faces.get_mut(expr) {
         Some(told) => told.put(alloc, face, id),
-        None => put_faces(alloc, faces, expr, ToldFaces::one(face, id)),
+        None => {
+            put_faces(alloc, faces, expr, ToldFaces::one(face, id))?;
+            Ok(None)
+        }
     }
 }
 
@@ -133,10 +138,19 @@ impl<K: Key> ToldIndex<K> {
         find_at(&self.faces, expr, face)
     }
 
-    /// The face was told the expression under the id, which stands instead of one that it had. The
-    /// only error is want of memory, and then the index stays.
-    pub fn tell(&mut self, alloc: Global, expr: &K, face: u32, id: u32) -> Result<(), Memory>
+    /// The face was told the expression under the id, which stands instead of one that it had.
+    /// It answers the id that the face had, if it had one. The only error is want of memory, and
+    /// then the index stays.
+    pub fn tell(
+        &mut self,
+        alloc: Global,
+        expr: &K,
+        face: u32,
+        id: u32,
+    ) -> Result<Option<u32>, Memory>
         ensures ok { OnOk result (ChangesAt K.cmp expr.now (with_face face id) self.old self.new) }
+        ensures known { IfOk result
+            (λ known. known ≡ id_of face (told_at K.cmp expr.now self.old)) }
         ensures err { OnErr result (self.new ≡ self.old) }
     {
         put_at(alloc, &mut self.faces, expr, face, id)

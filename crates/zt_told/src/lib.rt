@@ -7,5 +7,6 @@
 
 mod faces;
 mod index;
+mod many;
 
 pub use index::ToldIndex;

@@ -1,12 +1,10 @@
-use Rattle.std.proofs.Common.{◌≡◌, ◌∷◌, ◌++◌, [], Bool, false, true, List, None, Option, OnOk, Some, ap, if◌then◌else◌, refl, subst, sym, ◌∙◌}
-use Rattle.std.specs.Option.{option_copied}
+use Rattle.std.proofs.Common.{OnOk, ap, subst, sym, ◌∙◌}
 use Rattle.zt_calls.specs.Does.{Does}
-use Rattle.zt_model.specs.Parts.{Alter, Part, Say, is_routed, with_face}
 use Rattle.std.proofs.lemmas.Result.{on_ok_weaker}
 use Rattle.zt_calls.proofs.Doing.{does-alter}
 use Rattle.zt_model.specs.Entities.{with_entities}
 use Rattle.zt_model.specs.Says.{opened_session, parts_of}
-use Rattle.zt_protocol.specs.Plain.{NewSession, NewTransport, Expire, SetTrees, SetEntities, plain_call, trees_of}
+use Rattle.zt_protocol.specs.Plain.{plain_call}
 use Rattle.zt_protocol.specs.declared.calls.Call.{Call}
 use Rattle.zt_calls.proofs.carrying.carry_out_handed.Goals as goal
 
@@ -17,7 +15,7 @@ returns-in-NewSession g c =
     let matching = g.K.Key.matching in
     let s = c.args.speech.now in
     subst (λ (call : Call g.row.K.Denot). OnOk c.open_session.result (Does cmp matching (parts_of cmp matching (plain_call call) c.args.g.now) c.args.g.now c.open_session.new.self s s)) (sym c.in-NewSession.is)
-    (on_ok_weaker c.open_session.result (λ is. does-alter cmp matching (opened_session c.in-NewSession.first) c.args.g.now c.open_session.new.self s is) c.open_session.ensures)
+    (on_ok_weaker c.open_session.result (λ is. does-alter (opened_session c.in-NewSession.first) is) c.open_session.ensures)
 
 pub returns-in-NewTransport : goal.returns-in-NewTransport
 unfolding parts_of
@@ -55,4 +53,4 @@ returns-in-SetEntities g c =
     let queryables = c.in-SetEntities.queryables.items in
     let handed = ap (λ xs. with_entities cmp n xs c.deref-in-SetEntities.result.now rows) c.deref.ensures.value ∙ ap (λ qs. with_entities cmp n subscribers qs rows) c.deref-in-SetEntities.ensures.value in
     subst (λ (call : Call g.row.K.Denot). OnOk c.set_entities.result (Does cmp matching (parts_of cmp matching (plain_call call) rows) rows c.set_entities.new.self s s)) (sym c.in-SetEntities.is)
-    (on_ok_weaker c.set_entities.result (λ is. does-alter cmp matching (with_entities cmp n subscribers queryables) rows c.set_entities.new.self s (is ∙ handed)) c.set_entities.ensures)
+    (on_ok_weaker c.set_entities.result (λ is. does-alter (with_entities cmp n subscribers queryables) (is ∙ handed)) c.set_entities.ensures)

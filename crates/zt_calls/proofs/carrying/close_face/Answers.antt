@@ -1,7 +1,7 @@
-use Rattle.std.proofs.Common.{◌≡◌, ◌∷◌, ◌++◌, [], Bool, List, None, Option, OnOk, Some, ap, if◌then◌else◌, refl, subst, sym, ◌∙◌}
+use Rattle.std.proofs.Common.{Bool, List, OnOk, ap, subst, sym, ◌∙◌}
 use Rattle.std.specs.Option.{option_copied}
 use Rattle.zt_calls.specs.Does.{Does}
-use Rattle.zt_model.specs.Parts.{Alter, Part, Say, is_routed, with_face}
+use Rattle.zt_model.specs.Parts.{Part, is_routed}
 use Rattle.std.proofs.Common.{ℕ}
 use Rattle.zt_calls.proofs.Doing.{does-nothing}
 use Rattle.zt_calls.proofs.PartsOf.{close_at_face, close_nobody, found_number}

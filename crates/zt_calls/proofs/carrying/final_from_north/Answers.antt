@@ -1,7 +1,7 @@
-use Rattle.std.proofs.Common.{◌≡◌, ◌∷◌, ◌++◌, [], Bool, List, None, Option, OnOk, Some, ap, if◌then◌else◌, refl, subst, sym, ◌∙◌}
+use Rattle.std.proofs.Common.{◌∷◌, [], Bool, List, OnOk, ap, if◌then◌else◌, subst, sym, ◌∙◌}
 use Rattle.std.specs.Option.{option_copied}
 use Rattle.zt_calls.specs.Does.{Does}
-use Rattle.zt_model.specs.Parts.{Alter, Part, Say, with_face}
+use Rattle.zt_model.specs.Parts.{Alter, Part, with_face}
 use Rattle.zt_calls.proofs.Doing.{does-nothing}
 use Rattle.zt_calls.proofs.PartsOf.{final_at_face, final_nobody}
 use Rattle.zt_model.specs.Lists.{has_id}

@@ -1,11 +1,11 @@
-use Rattle.std.proofs.Common.{◌≡◌, ◌∷◌, ◌++◌, [], List, None, Option, OnOk, Some, ap, subst, sym, ◌∙◌}
+use Rattle.std.proofs.Common.{List, OnOk, ap, subst, sym, ◌∙◌}
 use Rattle.std.specs.Option.{option_copied}
 use Rattle.zt_calls.specs.Does.{Does}
 use Rattle.zt_model.specs.Parts.{Part}
 use Rattle.zt_calls.proofs.Doing.{does-nothing}
 use Rattle.zt_calls.proofs.PartsOf.{interest_at_face, interest_nobody}
 use Rattle.zt_model.specs.Rows.{InterestRow}
-use Rattle.zt_model.specs.Says.{asking, row_of}
+use Rattle.zt_model.specs.Says.{asking}
 use Rattle.zt_region.specs.declared.region.Region.{Region}
 use Rattle.zt_calls.proofs.carrying.interest.Goals as goal
 

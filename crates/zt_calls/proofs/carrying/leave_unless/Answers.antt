@@ -1,7 +1,5 @@
-use Rattle.std.proofs.Common.{◌≡◌, ◌∷◌, ◌++◌, [], Bool, List, None, Option, OnOk, Some, ap, if◌then◌else◌, refl, subst, sym, ◌∙◌}
-use Rattle.std.specs.Option.{option_copied}
+use Rattle.std.proofs.Common.{Bool, OnOk, subst, sym}
 use Rattle.zt_calls.specs.Does.{Does}
-use Rattle.zt_model.specs.Parts.{Alter, Part, Say, with_face}
 use Rattle.zt_calls.proofs.Doing.{does-nothing}
 use Rattle.zt_calls.specs.Speaking.{leaving_unless}
 use Rattle.zt_calls.proofs.carrying.leave_unless.Goals as goal

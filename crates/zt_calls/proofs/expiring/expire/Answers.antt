@@ -1,9 +1,10 @@
-use Rattle.std.proofs.Common.{◌≡◌, ◌∷◌, [], List, ℕ, OnOk, subst, sym, ◌∙◌}
+use Rattle.std.proofs.Common.{◌∷◌, List, ℕ, OnOk, subst, sym, ◌∙◌}
+use Rattle.std.proofs.lemmas.Result.{on_ok_weaker}
 use Rattle.std.specs.List.{flat_map}
-use Rattle.zt_calls.proofs.Doing.{does-alter, does-then}
+use Rattle.zt_calls.proofs.Doing.{does-alter, does-both}
 use Rattle.zt_calls.proofs.Expiry.{expiring-pendings}
 use Rattle.zt_calls.specs.Does.{Does}
-use Rattle.zt_calls.specs.Expired.{ending_each, expired_in}
+use Rattle.zt_calls.specs.Expired.{ending_each}
 use Rattle.zt_model.specs.Parts.{Alter, Part}
 use Rattle.zt_model.specs.Rows.{Rows}
 use Rattle.zt_calls.proofs.expiring.expire.Goals as goal
@@ -16,11 +17,8 @@ returns g c =
     let s = c.args.speech.now in
     let r = c.end_pendings.result in
     let change : Rows g.row.K.Denot → Rows g.row.K.Denot = λ h. record h { moment = c.args.now } in
-    let all = flat_map ending_each (expired_in c.args.now rows) in
     let ends =
     subst (λ (ended : List (ℕ × ℕ)). OnOk r (Does cmp matching (flat_map ending_each ended) c.set_moment.new.self c.end_pendings.new.g s c.end_pendings.new.speech))
     (c.deref.ensures.value ∙ c.in_ok-ended.ensures) c.end_pendings.ensures in
     subst (λ (parts : List (Part g.row.K.Denot)). OnOk r (Does cmp matching (Alter change ∷ parts) rows c.end_pendings.new.g s c.end_pendings.new.speech)) (sym (expiring-pendings c.args.now rows))
-    (does-then cmp matching r (Alter change ∷ []) all rows c.set_moment.new.self c.end_pendings.new.g s s c.end_pendings.new.speech
-    (does-alter cmp matching change rows c.set_moment.new.self s c.set_moment.ensures)
-    ends)
+    (on_ok_weaker r (λ done. does-both (does-alter change c.set_moment.ensures) done) ends)

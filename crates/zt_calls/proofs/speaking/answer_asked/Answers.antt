@@ -1,4 +1,4 @@
-use Rattle.std.proofs.Common.{OnOk, Option, rules, subst, sym, ℕ}
+use Rattle.std.proofs.Common.{OnOk, Option, subst, sym, ℕ}
 use Rattle.std.proofs.lemmas.Result.{on_ok_weaker}
 use Rattle.zt_calls.proofs.Doing.{does-nothing}
 use Rattle.zt_calls.specs.Does.{Does}
@@ -19,4 +19,4 @@ returns g c =
     let matching = g.K.Key.matching in
     let answers = answer cmp matching c.args.face c.in-Some.id c.args.expr.now in
     subst (λ (asked : Option ℕ). OnOk c.say.result (Does cmp matching (answering_asked cmp matching c.args.face asked c.args.expr.now) c.args.g.now c.say.new.g c.args.speech.now c.say.new.speech)) (sym c.in-Some.is)
-    (on_ok_weaker c.say.result (λ said. said answers (c.in_ok-answers.ensures (answers c.args.g.now) (λ given gives. search rules))) c.say.ensures)
+    (on_ok_weaker c.say.result (λ said. said answers c.in_ok-answers.ensures) c.say.ensures)

@@ -1,7 +1,5 @@
-use Rattle.std.proofs.Common.{◌≡◌, ◌∷◌, ◌++◌, [], Bool, List, None, Option, OnOk, Some, ap, if◌then◌else◌, refl, subst, sym, ◌∙◌}
-use Rattle.std.specs.Option.{option_copied}
+use Rattle.std.proofs.Common.{Bool, subst, sym}
 use Rattle.zt_calls.specs.Does.{Does}
-use Rattle.zt_model.specs.Parts.{Alter, Part, Say, with_face}
 use Rattle.zt_calls.proofs.Doing.{does-nothing}
 use Rattle.zt_calls.specs.Speaking.{declaring_if}
 use Rattle.zt_calls.proofs.speaking.declare_if.Goals as goal

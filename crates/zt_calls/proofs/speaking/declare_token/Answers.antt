@@ -1,13 +1,11 @@
-use Rattle.std.proofs.Common.{◌≡◌, ◌∷◌, ◌++◌, [], Bool, false, true, List, None, Option, OnOk, Some, ap, if◌then◌else◌, refl, subst, sym, ◌∙◌}
+use Rattle.std.proofs.Common.{◌++◌, Bool, List, Option, OnOk, ap, subst, sym, ◌∙◌}
 use Rattle.std.specs.Option.{option_copied}
 use Rattle.zt_calls.specs.Does.{Does}
-use Rattle.zt_model.specs.Parts.{Alter, Part, Say, is_routed, with_face}
-use Rattle.std.proofs.Common.{ℕ}
+use Rattle.zt_model.specs.Parts.{Part}
 use Rattle.zt_calls.proofs.Doing.{does-nothing}
 use Rattle.zt_calls.proofs.PartsOf.{declare_at_face, declare_nobody, declare_plain_at, declare_routed_at}
 use Rattle.zt_calls.specs.Speaking.{answering_asked, declaring_from, declaring_if}
-use Rattle.zt_model.specs.Telling.{answering, registers}
-use Rattle.zt_model.specs.Trees.{source_of}
+use Rattle.zt_model.specs.Telling.{registers}
 use Rattle.zt_region.specs.declared.region.Region.{Region}
 use Rattle.zt_region.specs.declared.region.Zid.{Zid}
 use Rattle.zt_calls.proofs.speaking.declare_token.Goals as goal

@@ -1,7 +1,5 @@
-use Rattle.std.proofs.Common.{◌≡◌, ◌∷◌, ◌++◌, [], Bool, false, true, List, None, Option, OnOk, Some, ap, if◌then◌else◌, refl, subst, sym, ◌∙◌}
-use Rattle.std.specs.Option.{option_copied}
+use Rattle.std.proofs.Common.{Option, Some, subst, sym}
 use Rattle.zt_calls.specs.Does.{Does}
-use Rattle.zt_model.specs.Parts.{Alter, Part, Say, is_routed, with_face}
 use Rattle.zt_calls.proofs.Doing.{does-nothing}
 use Rattle.zt_calls.specs.Speaking.{undeclaring_from}
 use Rattle.zt_region.specs.declared.region.Zid.{Zid}

@@ -1,10 +1,8 @@
-use Rattle.std.proofs.Common.{◌≡◌, ◌∷◌, [], Option, OnOk, subst, sym}
-use Rattle.zt_calls.proofs.Doing.{does-nothing, does-then}
+use Rattle.std.proofs.Common.{Option, OnOk, subst, sym}
+use Rattle.std.proofs.lemmas.Result.{on_ok_weaker}
+use Rattle.zt_calls.proofs.Doing.{does-both, does-nothing}
 use Rattle.zt_calls.specs.Does.{Does}
 use Rattle.zt_calls.specs.Speaking.{undeclaring_plain}
-use Rattle.zt_model.specs.Parts.{Alter, Say, with_face}
-use Rattle.zt_model.specs.Telling.{forget, unregistered}
-use Rattle.zt_model.specs.Trees.{hiding}
 use Rattle.zt_calls.proofs.speaking.undeclare_plain.Goals as goal
 
 pub returns-in_default : goal.returns-in_default
@@ -18,9 +16,6 @@ pub returns : goal.returns
 returns g c =
     let cmp = g.K.Ord.cmp in
     let matching = g.K.Key.matching in
-    let e = c.in-Some.expr in
     let r = c.hide_token.result in
-    let gone = Alter (with_face c.args.face (unregistered c.args.id)) ∷ Say (forget cmp matching c.args.region e) ∷ [] in
     subst (λ (o : Option g.row.K.Denot). OnOk r (Does cmp matching (undeclaring_plain cmp matching c.args.face c.args.region c.args.id o) c.args.g.now c.hide_token.new.g c.args.speech.now c.hide_token.new.speech)) (sym c.in-Some.is)
-    (does-then cmp matching r gone (hiding cmp c.args.region e) c.args.g.now c.undeclare.new.g c.hide_token.new.g c.args.speech.now c.undeclare.new.speech c.hide_token.new.speech
-    c.in_ok-undeclare.ensures c.hide_token.ensures)
+    (on_ok_weaker c.hide_token.result (λ done. does-both c.in_ok-undeclare.ensures done) c.hide_token.ensures)

@@ -1,11 +1,10 @@
-use Rattle.std.proofs.Common.{◌≡◌, ◌∷◌, ◌++◌, [], Bool, false, true, List, None, Option, OnOk, Some, ap, if◌then◌else◌, refl, subst, sym, ◌∙◌}
+use Rattle.std.proofs.Common.{List, Option, OnOk, ap, subst, sym, ◌∙◌}
 use Rattle.std.specs.Option.{option_copied}
 use Rattle.zt_calls.specs.Does.{Does}
-use Rattle.zt_model.specs.Parts.{Alter, Part, Say, is_routed, with_face}
+use Rattle.zt_model.specs.Parts.{Part}
 use Rattle.zt_calls.proofs.Doing.{does-nothing}
 use Rattle.zt_calls.proofs.PartsOf.{undeclare_at_face, undeclare_nobody, undeclare_plain_at, undeclare_routed_at}
 use Rattle.zt_calls.specs.Speaking.{undeclaring_from, undeclaring_plain}
-use Rattle.zt_model.specs.Trees.{source_of}
 use Rattle.zt_region.specs.declared.region.Region.{Region}
 use Rattle.zt_region.specs.declared.region.Zid.{Zid}
 use Rattle.zt_calls.proofs.speaking.undeclare_token.Goals as goal

@@ -17,7 +17,6 @@ returns-clause-printed g c =
     let call = plain_call c.args.call.now in
     let member = some_member n c.args.at s.gateways c.requires.counted c.requires.within in
     c.in_ok-printed.ensures
-    ∙ ap (map (printed c.places.result.now n)) c.as_slice.ensures.value
     ∙ ap (λ (places : _). map (printed places n) c.in_ok-ahead.ahead.said.items) (c.places.ensures ∙ ap (λ (t : Fabric _). t.faces) c.in_ok-ahead.ensures.same)
     ∙ ap (map (printed s.faces n)) (c.in_ok-ahead.ensures.said member.0 (subst (λ k. nth k s.gateways ≡ Some member.0) c.requires.counted member.1))
     ∙ ap (said_at g.K.Ord.cmp g.K.Key.matching s) (sym (call_there s n member.0 call member.1))

@@ -22,7 +22,7 @@ put_rows-requires g c =
     let change = rows_after_call g.K.Ord.cmp g.K.Key.matching (plain_call c.args.call.now) in
     let within : c.in-Some.at < length s.gateways = rw c.gateways.ensures at c.in-Some.ensures.within in
     let same : length c.turn_at.new.self.gateways ≡ length s.gateways =
-    ap (λ (t : Fabric _). length t.gateways) c.in_ok-former-in-Some.ensures.state ∙ length-at_nth (c.in-Some.at + 1) (λ (x : Node _). record x { rows = change x.rows }) s.gateways in
+    ap (λ (t : Fabric _). length t.gateways) c.in_ok-turn-in-Some.ensures.state ∙ length-at_nth (c.in-Some.at + 1) (λ (x : Node _). record x { rows = change x.rows }) s.gateways in
     subst (λ k. c.in-Some.at < k) (sym same) within
 
 pub returns-in-Ok-clause-says : goal.returns-in-Ok-clause-says
@@ -30,13 +30,12 @@ returns-in-Ok-clause-says g c =
     let s = c.args.s.now in
     let n = c.args.gateway in
     let call = plain_call c.args.call.now in
-    let turned = c.in_ok-former-in-Some in
+    let turned = c.in_ok-turn-in-Some in
     let counted = c.in-Some.ensures.counted in
     let member = some_member n c.in-Some.at s.gateways counted (rw c.gateways.ensures at c.in-Some.ensures.within) in
     let there : nth (c.in-Some.at + 1) s.gateways ≡ Some member.0 = ap (λ k. nth k s.gateways) (sym counted) ∙ member.1 in
     c.in-Ok.ensures
-    ∙ ap (map (printed c.places.result.now n)) c.as_slice.ensures.value
-    ∙ ap (λ (places : _). map (printed places n) turned.said.items) (c.places.ensures ∙ ap (λ (t : Fabric _). t.faces) turned.ensures.state)
+    ∙ ap (λ (places : _). map (printed places n) turned.turn.said.items) (c.places.ensures ∙ ap (λ (t : Fabric _). t.faces) turned.ensures.state)
     ∙ ap (map (printed s.faces n)) (turned.ensures.said member.0 there)
     ∙ ap (said_at g.K.Ord.cmp g.K.Key.matching s) (sym (call_there s n member.0 call member.1))
 
@@ -45,22 +44,22 @@ returns-in-Ok-clause-back g c =
     let s = c.args.s.now in
     let n = c.args.gateway in
     let change = rows_after_call g.K.Ord.cmp g.K.Key.matching (plain_call c.args.call.now) in
-    let turned = c.in_ok-former-in-Some in
+    let turned = c.in_ok-turn-in-Some in
     let counted = c.in-Some.ensures.counted in
     let member = some_member n c.in-Some.at s.gateways counted (rw c.gateways.ensures at c.in-Some.ensures.within) in
     let there : nth (c.in-Some.at + 1) s.gateways ≡ Some member.0 = ap (λ k. nth k s.gateways) (sym counted) ∙ member.1 in
     let state : c.turn_at.new.self ≡ with_rows n change s = rw counted turned.ensures.state in
-    ap (with_rows n (λ _. turned.former)) state ∙ put_back n change turned.former s member.0 member.1 (turned.ensures.former member.0 there)
+    ap (with_rows n (λ _. turned.turn.former)) state ∙ put_back n change turned.turn.former s member.0 member.1 (turned.ensures.former member.0 there)
 
-pub returns-clause-err : goal.returns-clause-err
-returns-clause-err g c =
+pub returns-in-Err-clause-err : goal.returns-in-Err-clause-err
+returns-in-Err-clause-err g c =
     let s = c.args.s.now in
     let place = c.in-Some.at in
     let change = rows_after_call g.K.Ord.cmp g.K.Key.matching (plain_call c.args.call.now) in
-    let turned = c.in_ok-former-in-Some in
+    let turned = c.in_ok-turn-in-Some in
     let counted = c.in-Some.ensures.counted in
     let member = some_member c.args.gateway place s.gateways counted (rw c.gateways.ensures at c.in-Some.ensures.within) in
     let there : nth (place + 1) s.gateways ≡ Some member.0 = ap (λ k. nth k s.gateways) (sym counted) ∙ member.1 in
     c.put_rows.ensures
-    ∙ ap (with_rows (place + 1) (λ _. turned.former)) turned.ensures.state
-    ∙ put_back (place + 1) change turned.former s member.0 there (turned.ensures.former member.0 there)
+    ∙ ap (with_rows (place + 1) (λ _. turned.turn.former)) turned.ensures.state
+    ∙ put_back (place + 1) change turned.turn.former s member.0 there (turned.ensures.former member.0 there)

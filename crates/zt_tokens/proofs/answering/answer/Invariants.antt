@@ -1,10 +1,10 @@
 use Rattle.std.proofs.Common.{◌≡◌, ◌++◌, drop}
 use Rattle.zt_model.specs.Parts.{to_each}
-use Rattle.zt_model.specs.Telling.{answer_to}
+use Rattle.zt_tokens.specs.Answered.{answer_told}
 use Rattle.zt_tokens.proofs.answering.answer.Given as goal
 
 -- what is sent so far, and to the faces left, is all
 abbrev pub invariant-loop-f : goal.invariant-loop-f
 invariant-loop-f g l =
-    let rule = answer_to g.K.Ord.cmp g.K.Key.matching l.face l.id l.expr in
+    let rule = answer_told g.K.Ord.cmp g.K.Key.matching l.face l.id l.expr l.told in
     l.sends.items ++ to_each rule (drop l.f-index l.f-items) ≡ to_each rule l.f-items

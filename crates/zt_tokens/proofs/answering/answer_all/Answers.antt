@@ -1,14 +1,13 @@
-use Rattle.std.proofs.Common.{◌≤◌, ◌<◌, length, arith}
+use Rattle.std.proofs.Common.{◌≤◌, length, arith}
 use Rattle.zt_tokens.proofs.Answers.{answers_done, answers_more}
 use Rattle.zt_tokens.proofs.answering.answer_all.Goals as goal
 
 pub loop-expr-preserved : goal.loop-expr-preserved
 loop-expr-preserved g c =
     let f = c.args.f.now in
-    let within : c.loop-expr.expr-index < length c.args.exprs.now = omega arith in
-    rw (c.in_ok-next.ensures, c.told-in-loop-expr.ensures)
-    (answers_more g.K.Ord.cmp g.K.Key.matching c.args.face c.loop-expr.next f.told c.args.mode c.args.id c.args.exprs.now c.loop-expr.expr-index c.expr-item.result c.loop-expr.sends.items _ _
-    within c.expr-item.is c.loop-expr.invariant (rw c.told.ensures at c.in_ok-answer_one.ensures))
+    let known = c.told_for-told in
+    answers_more g.K.Ord.cmp g.K.Key.matching c.args.face c.loop-expr.next c.in_ok-next.next f.told known.result c.args.mode c.args.id c.args.exprs.now c.loop-expr.expr-index c.expr-item.result c.loop-expr.sends.items _ _
+    c.loop-expr-test.true c.expr-item.is (rw c.requires at known.ensures) c.loop-expr.invariant (c.in_ok-answer_one.ensures) (c.in_ok-next.ensures)
 
 pub returns : goal.returns
 returns g c =

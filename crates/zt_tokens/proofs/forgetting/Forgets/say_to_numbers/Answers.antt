@@ -1,7 +1,7 @@
 use Rattle.std.proofs.Common.{◌≡◌, ◌<◌, ◌+◌, ◌++◌, ℕ, Bool, true, false, List, ◌∷◌, add-one, ap, append_assoc, arith, drop, drop-cons, filter, flat_map, get_or, length, sym, take, ◌∙◌}
 use Rattle.std.proofs.lemmas.List.Filters.{length-filter_more}
-use Rattle.zt_tokens.specs.Gone.{forget_known}
-use Rattle.zt_tokens.specs.Walks.{given_at, is_kept_at, sent_to}
+use Rattle.zt_tokens.specs.Gone.{forget_told}
+use Rattle.zt_tokens.specs.Walks.{given_at, is_told_at, sent_to}
 use Rattle.zt_tokens.proofs.forgetting.Forgets.say_to_numbers.Goals as goal
 use Rattle.zt_tokens.proofs.forgetting.Forgets.say_to_numbers.Goals.{then-branch, else-branch}
 
@@ -26,17 +26,18 @@ pub loop-number-preserved : goal.loop-number-preserved
 loop-number-preserved g c =
     let faces = c.args.g.now.faces in
     let e = c.args.self.now.expr.now in
-    let given = given_at (sent_to (forget_known g.K.Ord.cmp g.K.Key.matching c.args.self.now.is_gone c.args.g.now c.args.self.now.source e)) faces in
+    let pairs = c.args.self.now.told.now in
+    let given = given_at (sent_to (forget_told g.K.Ord.cmp g.K.Key.matching c.args.self.now.is_gone c.args.g.now c.args.self.now.source e pairs)) faces in
     let numbers = c.args.numbers.now in
     let i = c.loop-number.number-index in
     let within : i < length numbers = omega arith in
     let said = said-more given numbers i c.loop-number.sends.items _ _ within c.loop-number.invariant.said c.in_ok-say_to_number.ensures.said in
-    let is = c.in_ok-say_to_number.ensures.kept in
+    let is = c.in_ok-say_to_number.ensures.was_told in
     elim c.if-branch.branch [
       | then-branch w ↦
-          let passes : is_kept_at g.K.Ord.cmp e faces (get_or numbers i 0) ≡ true = (cc) in
-          record { said = said; kept = w.kept-is ∙ passes-more (is_kept_at g.K.Ord.cmp e faces) numbers i c.loop-number.kept within passes c.loop-number.invariant.kept; few = omega arith }
+          let passes : is_told_at pairs faces (get_or numbers i 0) ≡ true = (cc) in
+          record { said = said; counted = w.count-is ∙ passes-more (is_told_at pairs faces) numbers i c.loop-number.count within passes c.loop-number.invariant.counted; few = omega arith }
       | else-branch w ↦
-          let fails : is_kept_at g.K.Ord.cmp e faces (get_or numbers i 0) ≡ false = (cc) in
-          record { said = said; kept = w.kept-is ∙ fails-more (is_kept_at g.K.Ord.cmp e faces) numbers i c.loop-number.kept within fails c.loop-number.invariant.kept; few = omega arith }
+          let fails : is_told_at pairs faces (get_or numbers i 0) ≡ false = (cc) in
+          record { said = said; counted = w.count-is ∙ fails-more (is_told_at pairs faces) numbers i c.loop-number.count within fails c.loop-number.invariant.counted; few = omega arith }
     ]

@@ -11,6 +11,6 @@ either (Err x) p q ok err = err q
 pub invariant_of-self-in-More : goal.invariant_of-self-in-More
 invariant_of-self-in-More c =
     let rising = subst (λ faces. AreRising (pairs_of faces)) c.in-More.is c.self.invariant in
-    either c.put_in.result c.put_in.ensures.ok c.put_in.ensures.err
-    (λ put. rw (put, c.deref_mut.ensures.value) (rising-put c.args.face c.args.id c.in-More.pairs.value.items rising))
+    either c.put.result c.put.ensures.ok c.put.ensures.err
+    (λ put. rw (put, c.deref_mut.ensures.value) (rising-put c.args.face c.args.id c.in-More.many.value rising))
     (λ stayed. rw (stayed, c.deref_mut.ensures.value) rising)

@@ -7,4 +7,4 @@ use Rattle.zt_told.proofs.faces.ToldFaces.remove.Goals as goal
 pub invariant_of-self-in-More : goal.invariant_of-self-in-More
 invariant_of-self-in-More c =
     let rising = subst (λ faces. AreRising (pairs_of faces)) c.in-More.is c.self.invariant in
-    rw (c.remove_in.ensures, c.deref_mut.ensures.value) (rising-without c.args.face c.in-More.pairs.value.items rising)
+    rw (c.remove.ensures, c.deref_mut.ensures.value) (rising-without c.args.face c.in-More.many.value rising)
