@@ -14,7 +14,7 @@ use zt_keys::{Key, Memory};
 use zt_protocol::{InterestId, InterestOptions};
 use zt_region::Region;
 use zt_state::{GatewayState, RemoteInterest};
-use zt_tokens::answer_interest;
+use zt_tokens::{answer_interest, prepare_answers};
 
 // Whether the interest asks for an aggregate.
 fn is_aggregate<K: Key>(interest: &RemoteInterest<K>) -> bool
@@ -61,6 +61,7 @@ fn ask_at_face<K: Key>(
         (interesting_above K.cmp K.matching pendings.now face id interest.now)
         g.old g.new speech.old speech.new) }
 {
+    prepare_answers(alloc, g, interest);
     g.ask(alloc, face, id, interest, pendings)?;
     let answers = answer_interest(alloc, g, face, id, interest)?;
     say(alloc, g, speech, answers)?;

@@ -259,7 +259,7 @@ fn carry_out_spoken<K: Key>(
     call: &Call<K>,
 ) -> Result<(), Memory>
     requires spoken { is_spoken (plain_call call.now) ≡ true }
-    requires whole { speech.old.spared ≡ None }
+    requires unspared { speech.old.spared ≡ None }
     ensures { OnOk result (Does K.cmp K.matching
         (parts_of K.cmp K.matching (plain_call call.now) g.old)
         g.old g.new speech.old speech.new) }
@@ -317,7 +317,7 @@ fn do_parts<K: Key>(
     call: &Call<K>,
 ) -> Result<(), Memory>
     requires room { opens_face (plain_call call.now) ≡ true → g.old.made + 1 < 2 ^ 32 }
-    requires whole { speech.old.spared ≡ None }
+    requires unspared { speech.old.spared ≡ None }
     ensures { OnOk result (Does K.cmp K.matching
         (parts_of K.cmp K.matching (plain_call call.now) g.old)
         g.old g.new speech.old speech.new) }

@@ -14,7 +14,7 @@ use Rattle.zt_model.specs.Parts.{find_face, is_routed}
 use Rattle.zt_model.specs.Refusals.{ids_for_interest, ids_for_target, left_ids}
 use Rattle.zt_model.specs.Routing.{is_target}
 use Rattle.zt_model.specs.Rows.{Face, Rows}
-use Rattle.zt_state.specs.Rising.{IsRising}
+use Rattle.zt_faces.specs.Rising.{IsRising}
 use Rattle.zt_state.proofs.Sought.{number-found}
 use Rattle.zt_tokens.proofs.Chosen.{all-found}
 use Rattle.zt_causes.specs.Lacking.{lacks_for_answers, lacks_for_interest, lacks_for_target}

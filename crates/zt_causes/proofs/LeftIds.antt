@@ -17,7 +17,7 @@ use Rattle.zt_model.specs.Refusals.{GREATEST_NUMBER, can_draw, ids_for_opening, 
 use Rattle.zt_model.specs.Routing.{face_opened, opened}
 use Rattle.zt_model.specs.Rows.{Face, Rows}
 use Rattle.zt_model.specs.Telling.{is_told, registers}
-use Rattle.zt_state.specs.Rising.{AreUpTo}
+use Rattle.zt_faces.specs.Rising.{AreUpTo}
 use Rattle.zt_causes.specs.Lacking.{lacks, lacks_for_interest, lacks_for_opening, lacks_for_token}
 
 -- a face of which no ids are needed lacks none

@@ -10,11 +10,11 @@ use Rattle.zt_model.specs.Refusals.{is_answered_anew}
 use Rattle.zt_model.specs.Rows.{Face, Rows}
 use Rattle.zt_model.specs.Telling.{registers}
 use Rattle.zt_model.specs.Wants.{seeks}
-use Rattle.zt_state.specs.Rising.{IsRising}
+use Rattle.zt_faces.specs.Rising.{IsRising}
 use Rattle.zt_tokens.proofs.Chosen.{all-found}
 use Rattle.zt_tokens.proofs.Told.{told_is_none}
 use Rattle.zt_tokens.proofs.Unsought.{told-by, unsought}
-use Rattle.zt_causes.specs.Lacking.{answers_for_later, ids_by, is_answered_anew_by, lacks, lacks_by, lacks_for_token}
+use Rattle.zt_causes.specs.Lacking.{answers_for_later, ids_among, is_answered_anew_by, lacks, lacks_among, lacks_for_token}
 use Rattle.zt_causes.proofs.LeftIds.{needs_none}
 
 module _ {K : Type 0} where
@@ -37,24 +37,24 @@ module _ {K : Type 0} where
       anew_same None from = refl
       anew_same (Some id) from = ap (λ b. has_id id from.pendings && (b && answers_for_later cmp matching n id e f)) (ap is_none is ∙ told_is_none cmp e f.told)
 
-      lacks_same : lacks_by cmp matching n interest e g pairs f ≡ lacks_for_token cmp matching n interest e g f
+      lacks_same : lacks_among cmp matching n interest e g pairs f ≡ lacks_for_token cmp matching n interest e g f
       lacks_same =
           let told = id_of f.number pairs in
           ap (λ (needs : Face K → Bool). lacks g (λ f. elim (find_face n g) [ None ↦ 0 | Some from ↦ if registers from interest && needs from then 1 else 0 ]) f)
           (λ i from. told-by matching g from.region e f cmp told is i || anew_same interest from i)
 
-    pub any_same : (fs : List (Face K)) → AllByRecursion (λ f. id_of f.number pairs ≡ told_id cmp e f.told) fs → list_any (lacks_by cmp matching n interest e g pairs) fs ≡ list_any (lacks_for_token cmp matching n interest e g) fs
+    pub any_same : (fs : List (Face K)) → AllByRecursion (λ f. id_of f.number pairs ≡ told_id cmp e f.told) fs → list_any (lacks_among cmp matching n interest e g pairs) fs ≡ list_any (lacks_for_token cmp matching n interest e g) fs
     any_same [] are = refl
     any_same (f ∷ fs) are = let rest = any_same fs are.1 in λ i. lacks_same f are.0 i || rest i
 
   module _ (cmp : K → K → Ordering) (matching : K → K → Bool) (n : ℕ) (e : K) (from : Face K) (g : Rows K) (is : find_face n g ≡ Some from) (pairs : List (ℕ × ℕ)) where
-    no_ids : (f : Face K) → seeks matching f e ≡ false → ids_by cmp matching n None e g pairs f ≡ 0
+    no_ids : (f : Face K) → seeks matching f e ≡ false → ids_among cmp matching n None e g pairs f ≡ 0
     no_ids f h =
         let untold = unsought matching g from.region e f h (id_of f.number pairs) in
-        rw (is, ids_by) (rw untold refl)
+        rw (is, ids_among) (rw untold refl)
 
     pub seekers_lack : IsRising (λ f. f.number) g.faces → AllByRecursion (λ f. id_of f.number pairs ≡ told_id cmp e f.told) g.faces
-        → list_any (λ m. is_some_and (find_face m g) (lacks_by cmp matching n None e g pairs)) (map (λ f. f.number) (filter (λ f. seeks matching f e) g.faces)) ≡ list_any (lacks_for_token cmp matching n None e g) g.faces
+        → list_any (λ m. is_some_and (find_face m g) (lacks_among cmp matching n None e g pairs)) (map (λ f. f.number) (filter (λ f. seeks matching f e) g.faces)) ≡ list_any (lacks_for_token cmp matching n None e g) g.faces
     seekers_lack rising are =
-        any_chosen g.faces g.faces (λ f. seeks matching f e) (lacks_by cmp matching n None e g pairs) (λ f h. needs_none g (ids_by cmp matching n None e g pairs) f (no_ids f h)) (all-found g.faces rising)
+        any_chosen g.faces g.faces (λ f. seeks matching f e) (lacks_among cmp matching n None e g pairs) (λ f h. needs_none g (ids_among cmp matching n None e g pairs) f (no_ids f h)) (all-found g.faces rising)
         ∙ any_same cmp matching n None e g pairs g.faces are

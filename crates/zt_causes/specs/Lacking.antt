@@ -34,20 +34,20 @@ module _ {K : Type 0} (cmp : K → K → Ordering) (matching : K → K → Bool)
 
   -- it answers such an ask anew, by the id under which the face was told the expression
   abbrev pub is_answered_anew_by : ℕ → Option ℕ → K → Face K → Face K → Option ℕ → Bool
-  is_answered_anew_by n None e from f told = false
-  is_answered_anew_by n (Some id) e from f told = has_id id from.pendings && (is_none told && answers_for_later n id e f)
+  is_answered_anew_by n None e from f known = false
+  is_answered_anew_by n (Some id) e from f known = has_id id from.pendings && (is_none known && answers_for_later n id e f)
 
   -- a face is told of a token, or answered
   abbrev pub needs_by : ℕ → Option ℕ → K → Rows K → Face K → Face K → Option ℕ → Bool
-  needs_by n interest e g from f told = is_told_by matching g from.region e f told || is_answered_anew_by n interest e from f told
+  needs_by n interest e g from f known = is_told_by matching g from.region e f known || is_answered_anew_by n interest e from f known
 
   -- for a token, by pairs of a face and the id under which it was told the expression
-  abbrev pub ids_by : ℕ → Option ℕ → K → Rows K → List (ℕ × ℕ) → Face K → ℕ
-  ids_by n interest e g pairs f =
+  abbrev pub ids_among : ℕ → Option ℕ → K → Rows K → List (ℕ × ℕ) → Face K → ℕ
+  ids_among n interest e g pairs f =
       elim (find_face n g) [ None ↦ 0 | Some from ↦ if registers from interest && needs_by n interest e g from f (id_of f.number pairs) then 1 else 0 ]
 
-  abbrev pub lacks_by : ℕ → Option ℕ → K → Rows K → List (ℕ × ℕ) → Face K → Bool
-  lacks_by n interest e g pairs f = lacks g (ids_by n interest e g pairs) f
+  abbrev pub lacks_among : ℕ → Option ℕ → K → Rows K → List (ℕ × ℕ) → Face K → Bool
+  lacks_among n interest e g pairs f = lacks g (ids_among n interest e g pairs) f
 
   -- for an interest
   abbrev pub lacks_for_interest : ℕ → InterestMode → InterestOptions → Option K → Rows K → Face K → Bool

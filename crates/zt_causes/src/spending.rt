@@ -1,13 +1,14 @@
 // Whether faces have ids left for what a call would send them.
 ghost use Rattle.std.specs.Prelude.{◌≡◌, ◌&&◌, not, IfOk, None, Some, filter, length};
 ghost use Rattle.std.specs.List.{list_any};
-ghost use Rattle.zt_causes.specs.Lacking.{answers_for_later, lacks_by, lacks_for_answers};
+ghost use Rattle.zt_causes.specs.Lacking.{answers_for_later, lacks_among, lacks_for_answers};
 ghost use Rattle.zt_causes.specs.Lacking.{lacks_for_interest, lacks_for_target, lacks_for_token};
 ghost use Rattle.zt_causes.specs.Lacking.{is_answered_anew_by, needs_by};
 ghost use Rattle.zt_protocol.specs.Interest.{is_future};
 ghost use Rattle.zt_model.specs.Lists.{is_some_and};
 ghost use Rattle.zt_model.specs.Parts.{find_face};
 ghost use Rattle.zt_model.specs.Refusals.{left_ids};
+ghost use Rattle.zt_model.specs.Rows.{Face};
 ghost use Rattle.zt_model.specs.Says.{row_of};
 ghost use Rattle.zt_model.specs.Telling.{answered_expressions, is_answered_by};
 ghost use Rattle.zt_model.specs.Visible.{keeps};
@@ -21,7 +22,8 @@ use zt_keys::{Key, Memory};
 use zt_protocol::{InterestId, InterestMode, InterestOptions, TokenId};
 use zt_region::Region;
 use zt_state::{AskState, FaceState, GatewayState};
-use zt_tokens::{answered_expressions, find_face, is_answered_by, is_routed, is_told, told_in};
+use zt_tokens::{answered_expressions, find_face, is_answered_by, is_routed, is_told};
+use zt_told::id_in;
 
 /// How many ids can be drawn for a face.
 pub(crate) fn left_ids<K: Key>(f: &FaceState<K>) -> u32
@@ -51,28 +53,28 @@ fn answers_for_later<K: Key>(f: &FaceState<K>, face: u32, id: InterestId, expr: 
 }
 
 // Whether the token answers an ask of the face anew, for which it needs an id. The face was told
-// the expression under the id `told`, or not at all.
+// the expression under the id `known`, or not at all.
 fn is_answered_anew<K: Key>(
     face: u32,
     interest: Option<InterestId>,
     expr: &K,
     from: &FaceState<K>,
     f: &FaceState<K>,
-    told: Option<TokenId>,
+    known: Option<TokenId>,
 ) -> bool
     ensures { result
-        ≡ is_answered_anew_by K.cmp K.matching face interest expr.now from.now f.now told }
+        ≡ is_answered_anew_by K.cmp K.matching face interest expr.now from.now f.now known }
 {
     match interest {
         None => false,
         Some(id) => {
-            from.pendings().has(id) && told.is_none() && answers_for_later(f, face, id, expr)
+            from.pendings().has(id) && known.is_none() && answers_for_later(f, face, id, expr)
         }
     }
 }
 
 // Whether the face needs an id for the token: it is told of it, or answered. It was told the
-// expression before under the id `told`, or not at all.
+// expression before under the id `known`, or not at all.
 fn needs_token_id<K: Key>(
     g: &GatewayState<K>,
     face: u32,
@@ -80,12 +82,13 @@ fn needs_token_id<K: Key>(
     expr: &K,
     from: &FaceState<K>,
     f: &FaceState<K>,
-    told: Option<TokenId>,
+    known: Option<TokenId>,
 ) -> bool
-    ensures { result ≡ needs_by K.cmp K.matching face interest expr.now g.now from.now f.now told }
+    ensures { result
+        ≡ needs_by K.cmp K.matching face interest expr.now g.now from.now f.now known }
 {
-    is_told(g, from.region(), expr, f, told)
-        || is_answered_anew(face, interest, expr, from, f, told)
+    is_told(g, from.region(), expr, f, known)
+        || is_answered_anew(face, interest, expr, from, f, known)
 }
 
 // Whether the face needs an id for the token and has none left. `told` has the faces that were told
@@ -102,12 +105,12 @@ fn lacks_token_id<K: Key>(
     requires found { find_face face g.now ≡ Some from.now }
     requires in_order { AreRising told.now }
     ensures { result
-        ≡ lacks_by K.cmp K.matching face interest expr.now g.now told.now f.now }
+        ≡ lacks_among K.cmp K.matching face interest expr.now g.now told.now f.now }
 {
     !is_routed(g, f)
         && left_ids(f) == 0
         && registers(from, interest)
-        && needs_token_id(g, face, interest, expr, from, f, told_in(told, f.number()))
+        && needs_token_id(g, face, interest, expr, from, f, id_in(told, f.number()))
 }
 
 // The same of the face of a number, if it is open.
@@ -122,7 +125,7 @@ fn lacks_token_id_at<K: Key>(
     requires found { find_face face g.now ≡ Some from.now }
     requires in_order { AreRising told.now }
     ensures { result ≡ is_some_and (find_face number g.now)
-        (lacks_by K.cmp K.matching face None expr.now g.now told.now) }
+        (lacks_among K.cmp K.matching face None expr.now g.now told.now) }
 {
     match find_face(g, number) {
         None => false,
@@ -142,7 +145,7 @@ fn do_numbers_lack<K: Key>(
     requires found { find_face face g.now ≡ Some from.now }
     requires in_order { AreRising told.now }
     ensures { result ≡ list_any (λ n. is_some_and (find_face n g.now)
-        (lacks_by K.cmp K.matching face None expr.now g.now told.now)) numbers.now }
+        (lacks_among K.cmp K.matching face None expr.now g.now told.now)) numbers.now }
 {
     numbers.iter().any(|number| lacks_token_id_at(g, face, expr, from, told, *number))
 }
@@ -160,7 +163,7 @@ fn do_faces_lack<K: Key>(
     requires found { find_face face g.now ≡ Some from.now }
     requires in_order { AreRising told.now }
     ensures { result ≡ list_any
-        (lacks_by K.cmp K.matching face interest expr.now g.now told.now) g.now.faces }
+        (lacks_among K.cmp K.matching face interest expr.now g.now told.now) g.now.faces }
 {
     g.faces()
         .iter()
@@ -273,10 +276,9 @@ fn do_targets_lack<K: Key>(
         .any(|number| lacks_target_id_at(g, asker, mode, *number))
 }
 
-// Whether the face of a number wasn't told the expression.
-fn is_untold<K: Key>(g: &GatewayState<K>, face: u32, f: &FaceState<K>, expr: &K) -> bool
-    requires { find_face face g.now ≡ Some f.now }
-    ensures { result ≡ not (keeps K.cmp f.now expr.now) }
+// Whether the face of a number wasn't told the expression, if it is open.
+fn is_untold<K: Key>(g: &GatewayState<K>, face: u32, expr: &K) -> bool
+    ensures { (f : Face K) → find_face face g.now ≡ Some f → result ≡ not (keeps K.cmp f expr.now) }
 {
     g.told_id(expr, face).is_none()
 }
@@ -299,7 +301,7 @@ fn ids_for_answers<K: Key>(
 {
     let interest = row_of(alloc, f, mode, options, expr)?;
     let exprs = answered_expressions(alloc, g, &interest, f)?;
-    Ok(exprs.iter().filter(|k| is_untold(g, face, f, k)).count())
+    Ok(exprs.iter().filter(|k| is_untold(g, face, k)).count())
 }
 
 // Whether a face needs more ids for the answers to an interest of its own than are left. The only

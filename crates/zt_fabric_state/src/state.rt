@@ -472,8 +472,7 @@ fn turn_in<K: Key>(
     ensures err { OnErr result (gateways.new.items ≡ gateways.old.items) }
 {
     let node = &mut gateways[at];
-    let turn = node.kept.turn(alloc, call)?;
-    Ok(turn)
+    node.kept.turn(alloc, call)
 }
 
 fn put_rows_at<K: Key>(gateways: &mut Vec<NodeState<K>>, at: usize, rows: BoxedState<K>)

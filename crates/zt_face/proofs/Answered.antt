@@ -5,8 +5,9 @@ use Rattle.std.specs.Map.{set_value}
 use Rattle.std.specs.Ordering.{nat_cmp}
 use Rattle.std.specs.declared.cmp.Ordering.{Ordering}
 use Rattle.zt_keys.specs.Test.{by_test}
-use Rattle.zt_face.specs.Told.{answered_with, IsInOrder}
-use Rattle.zt_face.proofs.ById.{changed_at, unchanged}
+use Rattle.zt_face.specs.Told.{answered_with}
+use Rattle.zt_rows.specs.ById.{IsInOrder}
+use Rattle.zt_rows.proofs.ById.{changed_at, unchanged}
 use Rattle.zt_model.specs.Hearing.{with_answer}
 use Rattle.zt_model.specs.Lists.{at_id, is_among}
 use Rattle.zt_model.specs.Rows.{Ask, ById}

@@ -1,5 +1,3 @@
 mod Answered
-mod ById
 mod Found
-pub mod Places
 pub mod Told

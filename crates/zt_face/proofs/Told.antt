@@ -9,8 +9,9 @@ use Rattle.std.specs.Ordering.{is_eq, nat_cmp}
 use Rattle.std.specs.declared.cmp.Ordering.{Ordering}
 use Rattle.std.specs.declared.cmp.Ordering.TheVariants.{Less, Equal, Greater}
 use Rattle.zt_keys.specs.Test.{by_test}
-use Rattle.zt_face.specs.Told.{AreApart, IsInOrder, with_pair}
-use Rattle.zt_face.proofs.ById.{below_all_absent}
+use Rattle.zt_face.specs.Told.{AreApart, with_pair}
+use Rattle.zt_rows.specs.ById.{IsInOrder}
+use Rattle.zt_rows.proofs.ById.{below_all_absent}
 use Rattle.zt_model.specs.Lists.{at_id, same, without_id}
 use Rattle.zt_model.specs.Parts.{told_id}
 use Rattle.zt_model.specs.Rows.{ById}

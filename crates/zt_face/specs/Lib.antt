@@ -1,4 +1,3 @@
 pub mod Ids
 pub mod Locals
-pub mod Places
 pub mod Told

@@ -11,7 +11,7 @@ use Rattle.std.specs.Ordering.{is_eq, nat_cmp, ordering_then}
 use Rattle.std.specs.declared.cmp.Ordering.{Ordering}
 use Rattle.zt_protocol.specs.declared.interests.InterestOptions.{InterestOptions}
 use Rattle.zt_face.specs.Ids.{is_under}
-use Rattle.zt_face.specs.Told.{IsInOrder}
+use Rattle.zt_rows.specs.ById.{IsInOrder}
 use Rattle.zt_model.specs.Lists.{at_id, is_some_and}
 use Rattle.zt_model.specs.Routing.{expression_order}
 use Rattle.zt_model.specs.Rows.{ById, InterestRow}

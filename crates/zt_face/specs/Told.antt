@@ -1,25 +1,13 @@
 -- What a face was told, by id.
 use Rattle.std.specs.Prelude.{◌≡◌, ℕ, ◌==◌, ◌&&◌, if◌then◌else◌, [], ◌∷◌, ◌++◌, Option, Some, None}
-use Rattle.std.specs.List.{AllByRecursion, list_any}
-use Rattle.std.specs.List.Sorted.{IsStrictlySortedBy}
-use Rattle.std.specs.Map.{keys_of}
-use Rattle.std.specs.Ordering.{nat_cmp}
+use Rattle.std.specs.List.{list_any}
 use Rattle.std.specs.declared.cmp.Ordering.{Ordering}
-use Rattle.std.specs.declared.cmp.Ordering.TheVariants.{Greater}
 use Rattle.zt_protocol.specs.declared.messages.Message.{Message}
 use Rattle.zt_protocol.specs.declared.messages.Message.TheVariants.{DeclareToken, UndeclareToken, DeclareFinal, Interest, InterestFinal, DeclareSubscriber, DeclareQueryable}
 use Rattle.zt_model.specs.Hearing.{heard}
 use Rattle.zt_model.specs.Parts.{told_id}
 use Rattle.zt_model.specs.Lists.{is_among, same, without_id}
 use Rattle.zt_model.specs.Rows.{Ask, ById, Face}
-
--- rows in order of id, each id once
-abbrev pub IsInOrder : {A : Type 0} → ById A → Type 0
-IsInOrder rows = IsStrictlySortedBy nat_cmp (keys_of rows)
-
--- an id above those of all rows
-abbrev pub IsAbove : {A : Type 0} → ℕ → ById A → Type 0
-IsAbove id rows = AllByRecursion (λ k. nat_cmp id k ≡ Greater) (keys_of rows)
 
 module _ {K : Type 0} (cmp : K → K → Ordering) where
   -- rows of which no two are of one expression

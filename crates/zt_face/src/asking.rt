@@ -7,10 +7,10 @@ ghost use Rattle.zt_model.specs.Telling.{registered};
 
 use crate::face::{AskState, FaceState};
 use crate::interest::RemoteInterest;
-use crate::rows::RowsById;
 use std::alloc::Global;
 use zt_keys::{Key, Memory};
 use zt_protocol::{InterestId, TokenId};
+use zt_rows::RowsById;
 
 // Holds an interest that asks for what comes later. The only error is want of memory.
 fn put_held<K: Key>(

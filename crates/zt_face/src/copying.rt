@@ -3,10 +3,10 @@ ghost use Rattle.std.specs.Prelude.{◌≡◌, IfOk};
 
 use crate::face::{AskState, FaceRows, FaceState, PendingInterest};
 use crate::interest::RemoteInterest;
-use crate::rows::RowsById;
 use std::alloc::Global;
 use zt_keys::{Key, Memory};
 use zt_protocol::QueryableInfo;
+use zt_rows::RowsById;
 
 /// Equal keys. The only error is want of memory.
 pub fn copy_keys<K: Key>(alloc: Global, keys: &[K]) -> Result<Vec<K>, Memory>

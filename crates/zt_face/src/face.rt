@@ -5,12 +5,12 @@ ghost use Rattle.zt_model.specs.Parts.{new_face};
 use crate::interest::RemoteInterest;
 use crate::local_interests::LocalInterests;
 use crate::local_tokens::LocalTokens;
-use crate::rows::RowsById;
 use std::alloc::Global;
 use std::marker::Model;
 use zt_keys::{Key, Memory};
 use zt_protocol::{InterestMode, QueryableInfo};
 use zt_region::{Bound, Region, WhatAmI, Zid};
+use zt_rows::RowsById;
 
 /// A current-mode interest that was sent upstream and isn't finished, with the gateway's moment
 /// when it was sent: Zenoh's pending current interest.

@@ -9,10 +9,10 @@ ghost use Rattle.zt_protocol.specs.Interest.{is_current, is_future};
 use crate::face::{AskState, FaceState, PendingInterest};
 use crate::interest::RemoteInterest;
 use crate::local_interests::LocalInterests;
-use crate::rows::RowsById;
 use std::alloc::Global;
 use zt_keys::{Key, Memory};
 use zt_protocol::{InterestMode, InterestOptions, Message, copy_expression};
+use zt_rows::RowsById;
 
 // The next id after one was sent. Ids that run out count as want of memory.
 fn next_after(id: u32, next: u32) -> Result<u32, Memory>
@@ -31,7 +31,8 @@ pub fn is_among<K: Key>(expr: &K, exprs: &[K]) -> bool
     exprs.iter().any(|other| expr == other)
 }
 
-// The ask of the id is answered an expression. The only error is want of memory.
+// The ask of the id is answered an expression. The only error is want of memory, and then the ask
+// may be gone.
 fn answer_asks<K: Key>(
     alloc: Global,
     asks: &mut RowsById<AskState<K>>,
@@ -40,9 +41,12 @@ fn answer_asks<K: Key>(
 ) -> Result<(), Memory>
     ensures { OnOk result (asks.new ≡ map (with_answer K.cmp id expr.now) asks.old) }
 {
-    match asks.rows.get_mut(&id) {
+    match asks.take(id) {
         None => Ok(()),
-        Some(ask) => ask.answer(alloc, expr),
+        Some(mut ask) => {
+            ask.answer(alloc, expr)?;
+            asks.put(id, ask)
+        }
     }
 }
 

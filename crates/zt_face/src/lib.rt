@@ -13,8 +13,6 @@ mod ids;
 mod interest;
 mod local_interests;
 mod local_tokens;
-mod rising;
-mod rows;
 
 pub use copying::{Duplicate, copy_all, copy_keys, copy_queryables};
 pub use face::{AskState, FaceState, PendingInterest};
@@ -22,4 +20,4 @@ pub use hearing::is_among;
 pub use interest::RemoteInterest;
 pub use local_interests::LocalInterests;
 pub use local_tokens::LocalTokens;
-pub use rows::RowsById;
+pub use zt_rows::RowsById;

@@ -4,20 +4,20 @@ ghost use Rattle.std.specs.List.{list_any};
 ghost use Rattle.std.specs.Map.Iter.{ShowsInOrder, deref_pair};
 ghost use Rattle.std.specs.Ordering.{nat_cmp};
 ghost use Rattle.std.specs.Prelude.{◌≡◌, ℕ, [], None, filter, map, IfOk, OnErr, OnOk};
-ghost use Rattle.zt_face.specs.Told.{IsInOrder};
 ghost use Rattle.zt_model.specs.Lists.{at_id, has_id, without_id};
 ghost use Rattle.zt_model.specs.Routing.{asks_same};
 ghost use Rattle.zt_model.specs.Rows.{InterestRow};
+ghost use Rattle.zt_rows.specs.ById.{IsInOrder};
 
 use crate::ids::{add_id, drop_id, has_ids, ids_of};
 use crate::interest::RemoteInterest;
-use crate::rows::RowsById;
 use std::alloc::Global;
 use std::collections::btree_map::Iter;
 use std::collections::{BTreeSet, HashMap};
 use std::marker::Model;
 use zt_keys::{Key, Memory};
 use zt_protocol::InterestOptions;
+use zt_rows::RowsById;
 
 /// The interests that a face was sent, by id, and found by what they ask for: an expression, or all
 /// keys, with the options.

@@ -1,15 +1,16 @@
 // What a face was told: Zenoh's local tokens.
 ghost use Rattle.std.specs.Option.{option_copied};
 ghost use Rattle.std.specs.Prelude.{◌≡◌, [], IfOk, OnOk};
-ghost use Rattle.zt_face.specs.Places.{rows_in};
-ghost use Rattle.zt_face.specs.Told.{IsInOrder, untold_known, with_pair};
+ghost use Rattle.zt_face.specs.Told.{untold_known, with_pair};
 ghost use Rattle.zt_model.specs.Hearing.{told_pair};
 ghost use Rattle.zt_model.specs.Lists.{at_id};
+ghost use Rattle.zt_rows.specs.ById.{IsInOrder};
+ghost use Rattle.zt_rows.specs.Places.{rows_in};
 
-use crate::rising::RisingRows;
 use std::alloc::Global;
 use std::marker::Model;
 use zt_keys::{Key, Memory};
+use zt_rows::RisingRows;
 
 /// The tokens that a face was told, by id. Ids rise from token to token. Which faces were told an
 /// expression, and under which id, the gateway finds for all faces at once.

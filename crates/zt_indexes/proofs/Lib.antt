@@ -2,6 +2,7 @@ mod Apart
 mod Changed
 mod Copied
 mod Counting
+mod Gathered
 mod Hashed
 mod InOrder
 mod Kept

@@ -1,3 +1,4 @@
+pub mod Anchored
 pub mod Counted
 pub mod Grouped
 pub mod Held

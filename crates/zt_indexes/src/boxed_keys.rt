@@ -1,6 +1,6 @@
 // Keys in a box.
-ghost use Rattle.std.specs.Prelude.{◌≡◌, ◌==◌, ◌+◌, ◌<◌, ◌^◌, [], false, if◌then◌else◌, length, true};
-ghost use Rattle.std.specs.Prelude.{IfNone, IfSome, OnErr, OnOk};
+ghost use Rattle.std.specs.Prelude.{◌≡◌, ◌==◌, ◌+◌, ◌<◌, ◌^◌, [], false, if◌then◌else◌, length};
+ghost use Rattle.std.specs.Prelude.{true, IfNone, IfSome, OnErr, OnOk};
 ghost use Rattle.std.specs.BTreeMap.{is_at};
 ghost use Rattle.zt_indexes.specs.Grouped.{is_in};
 

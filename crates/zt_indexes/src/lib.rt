@@ -2,6 +2,7 @@
 //! region. The containers know keys and regions, and no gateway.
 #![tactic(auto)]
 
+mod anchored;
 mod boxed_keys;
 mod groups;
 mod live;

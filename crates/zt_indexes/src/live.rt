@@ -3,21 +3,27 @@ ghost use Rattle.std.specs.Prelude.{◌≡◌, [], None, false, filter, true, If
 ghost use Rattle.std.specs.BTreeMap.{is_at};
 ghost use Rattle.std.specs.List.Sorted.{IsStrictlySortedBy};
 ghost use Rattle.std.specs.Map.{keys_of, lookup};
-ghost use Rattle.zt_keys.specs.declared.anchor.Anchor.TheVariants.{First, Last, Whole};
+ghost use Rattle.zt_keys.specs.declared.anchor.Anchor.TheVariants.{Whole};
 ghost use Rattle.zt_indexes.specs.Counted.{is_shown_in};
-ghost use Rattle.zt_indexes.specs.Grouped.{Grows, HasKeyMore, HasSameKeys, is_grouped};
+ghost use Rattle.zt_indexes.specs.Grouped.{HasKeyMore, HasSameKeys};
 ghost use Rattle.zt_indexes.specs.Live.{HasOneLess, HasOneMore, HasRowsOrNoKey, IsWith, IsWithout};
 ghost use Rattle.zt_indexes.specs.Live.{counts_at, shown_keys};
 ghost use Rattle.zt_indexes.specs.Wild.{HasWildChanged};
 
-use crate::groups::{KeyGroups, KeySet};
+use crate::anchored::{
+    AnchoredKeys, anchored_keys, drop_anchored, is_sought_by_anchors, put_anchored, try_anchored,
+};
+use crate::groups::KeySet;
 use crate::regions::RegionCounts;
-use crate::search::{is_shown_at, try_all, try_at, try_plain, try_shown};
+use crate::search::{is_shown_at, try_all, try_plain, try_shown};
 use std::alloc::Global;
 use std::collections::HashMap;
 use std::marker::Model;
 use zt_keys::{Anchor, Key, Memory};
 use zt_region::Region;
+
+// So few expressions are tried one by one.
+const FEW: usize = 32;
 
 /// A test of regions.
 pub trait RegionTest {
@@ -35,19 +41,19 @@ pub trait RegionTest {
 /// How many live rows of each expression stand in each region: an index beside rows that are kept
 /// elsewhere, one row more or less at a time. Contracts see the expressions in key order, each with
 /// its counts by region; the definitions say when these are what the rows give from scratch, and
-/// that each call keeps it. The expressions are found by their numbers at the anchors too, and
-/// those with wildcards stand apart, so that those that match a key are looked for among few.
+/// that each call keeps it. Expressions with wildcards stand apart, and once `prepare` was called
+/// for a key with wildcards, all are found by their numbers at the anchors too: so those that match
+/// a key are looked for among few.
 #[derive(Drop)]
 pub struct LiveCounts<K: Key> {
     keys: HashMap<K, RegionCounts>,
-    firsts: KeyGroups<K>,
-    lasts: KeyGroups<K>,
     wilds: KeySet<K>,
+    anchored: Option<AnchoredKeys<K>>,
 }
 
 impl<K: Key> Model for LiveCounts<K> {
     ghost use Rattle.std.specs.Prelude.{ℕ, List};
-    ghost use Rattle.zt_indexes.specs.Grouped.{AreGrouped};
+    ghost use Rattle.zt_indexes.specs.Anchored.{AreGroupsOf};
     ghost use Rattle.zt_indexes.specs.Ordered.{ordered_entries};
     ghost use Rattle.zt_indexes.specs.Wild.{HoldsWild};
     ghost use Rattle.zt_keys.specs.declared.anchor.Anchor.TheVariants.{Whole};
@@ -58,7 +64,7 @@ impl<K: Key> Model for LiveCounts<K> {
     ghost view = { λ a. ordered_entries K.cmp a.keys.entries };
 
     ghost invariant = { λ a. record {
-      grouped : AreGrouped K.cmp K.anchored a.firsts a.lasts a.keys.entries;
+      grouped : AreGroupsOf K.cmp K.anchored a.anchored a.keys.entries;
       wild : HoldsWild K.cmp (K.anchored Whole) a.wilds a.keys.entries;
     } };
 }
@@ -132,26 +138,6 @@ fn put_first<K: Key>(
     put_counts(alloc, keys, expr, counts)
 }
 
-// The expression stands at its numbers. The only error is want of memory, and then it may stand at
-// one.
-fn put_at_anchors<K: Key>(
-    alloc: Global,
-    firsts: &mut KeyGroups<K>,
-    lasts: &mut KeyGroups<K>,
-    expr: &K,
-) -> Result<(), Memory>
-    ensures first { Grows K.cmp firsts.old firsts.new }
-    ensures last { Grows K.cmp lasts.old lasts.new }
-    ensures at_first { OnOk result
-        (is_grouped K.cmp (K.anchored First expr.now) expr.now firsts.new ≡ true) }
-    ensures at_last { OnOk result
-        (is_grouped K.cmp (K.anchored Last expr.now) expr.now lasts.new ≡ true) }
-{
-    firsts.put(alloc, Anchor::First, expr)?;
-    lasts.put(alloc, Anchor::Last, expr)?;
-    Ok(())
-}
-
 // The expression stands among those with wildcards, if it has any. The only error is want of
 // memory, and then all stays.
 fn put_wild<K: Key>(alloc: Global, wilds: &mut KeySet<K>, expr: &K) -> Result<(), Memory>
@@ -206,9 +192,22 @@ impl<K: Key> LiveCounts<K> {
     {
         LiveCounts {
             keys: HashMap::new(alloc),
-            firsts: KeyGroups::new(alloc),
-            lasts: KeyGroups::new(alloc),
             wilds: KeySet::new(),
+            anchored: None,
+        }
+    }
+
+    /// The expressions that match the key can be looked for by its numbers at the anchors from here
+    /// on, if it has wildcards and a number at the first part or at the last, expressions aren't
+    /// few, and memory suffices.
+    pub fn prepare(&mut self, alloc: Global, key: &K)
+        ensures { self.new ≡ self.old }
+    {
+        if self.anchored.is_some() || self.keys.len() <= FEW || !is_sought_by_anchors(key) {
+            return;
+        }
+        if let Ok(anchored) = anchored_keys(alloc, &self.keys) {
+            self.anchored = Some(anchored);
         }
     }
 
@@ -221,7 +220,7 @@ impl<K: Key> LiveCounts<K> {
         if add_to(alloc, &mut self.keys, region, expr)? {
             return Ok(());
         }
-        put_at_anchors(alloc, &mut self.firsts, &mut self.lasts, expr)?;
+        put_anchored(alloc, &mut self.anchored, expr)?;
         put_wild(alloc, &mut self.wilds, expr)?;
         put_first(alloc, &mut self.keys, region, expr)?;
         Ok(())
@@ -235,8 +234,7 @@ impl<K: Key> LiveCounts<K> {
     {
         if lessen(&mut self.keys, region, expr) {
             drop_key(&mut self.keys, expr);
-            self.firsts.remove(Anchor::First, expr);
-            self.lasts.remove(Anchor::Last, expr);
+            drop_anchored(&mut self.anchored, expr);
             drop_wild(&mut self.wilds, expr);
         }
     }
@@ -260,8 +258,8 @@ impl<K: Key> LiveCounts<K> {
 
     /// The expressions that match the key, of rows in regions that pass, in key order, each once.
     /// A key without wildcards is looked up as itself, beside the expressions with wildcards. For
-    /// another those alone are tried that may match by their numbers, unless these are many. The
-    /// only error is want of memory.
+    /// another, after `prepare`, those alone are tried that may match by their numbers, unless
+    /// these are many. The only error is want of memory.
     pub fn matching_keys<T: RegionTest>(
         &self,
         alloc: Global,
@@ -275,41 +273,26 @@ impl<K: Key> LiveCounts<K> {
         if key.anchor(Anchor::Whole).is_some() {
             return try_plain(alloc, &self.wilds, &self.keys, test, key);
         }
-        let many = self.keys.len() / 2;
-        let first = key.anchor(Anchor::First);
-        let last = key.anchor(Anchor::Last);
-        if let Some(number) = last {
-            let count = self.lasts.count(last);
-            if count < many && (first.is_none() || count <= self.firsts.count(first)) {
-                return try_at(alloc, &self.lasts, number, &self.keys, test, key);
-            }
+        match &self.anchored {
+            Some(anchored) => try_anchored(alloc, anchored, &self.keys, test, key),
+            None => try_all(alloc, &self.keys, test, key),
         }
-        if let Some(number) = first {
-            if self.firsts.count(first) < many {
-                return try_at(alloc, &self.firsts, number, &self.keys, test, key);
-            }
-        }
-        try_all(alloc, &self.keys, test, key)
     }
 
-    /// Equal counts. The only error is want of memory.
+    /// Equal counts, which aren't prepared for any key. The only error is want of memory.
     pub fn copy(&self, alloc: Global) -> Result<Self, Memory>
         ensures { IfOk result (λ copy. copy ≡ self.now) }
     {
-        let mut keys = HashMap::new(alloc);
-        let mut firsts = KeyGroups::new(alloc);
-        let mut lasts = KeyGroups::new(alloc);
+        let mut keys = HashMap::with_capacity(alloc, self.keys.len())?;
         let mut wilds = KeySet::new();
         for (expr, counts) in &self.keys {
-            put_at_anchors(alloc, &mut firsts, &mut lasts, expr)?;
             put_wild(alloc, &mut wilds, expr)?;
             put_copy(alloc, &mut keys, expr, counts)?;
         }
         Ok(LiveCounts {
             keys,
-            firsts,
-            lasts,
             wilds,
+            anchored: None,
         })
     }
 }

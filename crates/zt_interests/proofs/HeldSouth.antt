@@ -13,14 +13,14 @@ use Rattle.std.specs.declared.cmp.Ordering.TheVariants.{Less, Equal, Greater}
 use Rattle.zt_keys.specs.Test.{by_test}
 use Rattle.zt_region.specs.Region.{is_north}
 use Rattle.zt_protocol.specs.Interest.{has_tokens}
-use Rattle.zt_face.specs.Told.{IsInOrder}
+use Rattle.zt_rows.specs.ById.{IsInOrder}
 use Rattle.zt_interest_index.specs.Held.{any_kept}
 use Rattle.zt_seekers.specs.Seekers.{TokenRow, token_rows}
 use Rattle.zt_model.specs.Lists.{at_id, first_where, is_some_and}
 use Rattle.zt_model.specs.Parts.{find_face}
 use Rattle.zt_model.specs.Routing.{asks_same, expression_order, is_held_south}
 use Rattle.zt_model.specs.Rows.{ById, Face, InterestRow, Rows}
-use Rattle.zt_state.specs.Rising.{IsRising}
+use Rattle.zt_faces.specs.Rising.{IsRising}
 use Rattle.zt_tokens.proofs.Chosen.{all-found}
 use Rattle.zt_interests.specs.Held.{holds_south_as, is_held_as}
 

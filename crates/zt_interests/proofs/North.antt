@@ -13,7 +13,7 @@ use Rattle.zt_model.specs.Lists.{first_where, is_some_and}
 use Rattle.zt_model.specs.Parts.{find_face}
 use Rattle.zt_model.specs.Routing.{asks_same, end_upstream_to, is_held_south, is_target, is_target_of, leads_up, route_to}
 use Rattle.zt_model.specs.Rows.{Face, InterestRow, Rows}
-use Rattle.zt_state.specs.Rising.{IsRising}
+use Rattle.zt_faces.specs.Rising.{IsRising}
 use Rattle.zt_interests.specs.Chosen.{all_chosen, chosen}
 use Rattle.zt_tokens.proofs.Chosen.{all-found}
 

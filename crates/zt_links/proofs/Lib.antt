@@ -1,11 +1,13 @@
-pub mod Refusing
+pub mod Above
 pub mod Accepted
 pub mod Carried
 pub mod Climbing
 pub mod Closings
 pub mod Firsts
-pub mod LinkCauses
 pub mod Joined
+pub mod Leading
+pub mod LinkCauses
 pub mod Linked
+pub mod Refusing
 pub mod Turned
 pub mod Walks

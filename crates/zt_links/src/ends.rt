@@ -84,6 +84,13 @@ pub(crate) fn takes_north<K: Key>(
     }
 }
 
+// Whether the region leads up from a client gateway: whether it is its north.
+fn leads_up<K: Key>(rows: &GatewayState<K>, region: Region) -> bool
+    ensures { result ≡ (whatami_eq rows.now.mode Client && is_north region) }
+{
+    rows.mode() == WhatAmI::Client && region == Region::North
+}
+
 /// Whether an end would close a loop of client gateways. The only error is want of memory.
 pub(crate) fn closes_loop<K: Key>(
     s: &FabricState<K>,
@@ -99,7 +106,7 @@ pub(crate) fn closes_loop<K: Key>(
     let rows = node.rows()?;
     match answer {
         Ok((region, _)) => {
-            if rows.mode() != WhatAmI::Client || *region != Region::North {
+            if !leads_up(rows, *region) {
                 return Ok(false);
             }
             climbs_to(s, s.gateways().len(), beyond, gateway)

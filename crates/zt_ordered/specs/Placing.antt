@@ -1,15 +1,16 @@
 -- What stands at a place among rows in order, and what an edit there does.
-use Rattle.std.specs.Prelude.{◌≡◌, ℕ, suc, ◌<◌, ◌≤◌, true, List, [], ◌∷◌, ◌++◌, length, Some, None, Result, Ok, Err, refl}
+use native.Mathlib.Numerals.{unary_clauses}
+use Rattle.std.specs.Prelude.{◌≡◌, ℕ, suc, ◌<◌, ◌≤◌, true, List, [], ◌∷◌, length, Some, None, Result, Ok, Err, refl}
 use Rattle.std.specs.declared.cmp.Ordering.{Ordering}
 use Rattle.std.specs.declared.cmp.Ordering.TheVariants.{Less, Equal, Greater}
 use Rattle.std.specs.Ordering.{is_eq, is_lt, ordering_reverse}
 use Rattle.std.specs.Cmp.{IsTotalOrder, alike_right}
-use Rattle.std.specs.List.{insert, remove}
+use Rattle.std.specs.List.{AllByRecursion, insert, remove}
 use Rattle.std.specs.Option.{option_map}
 use Rattle.std.specs.List.Sorted.{IsBinarySearchResult, IsSearchInRange}
 use Rattle.std.specs.FinMap.Entries.{put, find, is_sorted, below_all}
-use Rattle.std.proofs.Common.{ap, sym, ◌∙◌, arith, get_or, set, zero, add-one}
-use Rattle.std.proofs.lemmas.Bool.{false≢true}
+use Rattle.std.proofs.Common.{◌-◌, ap, sym, subst, ◌∙◌, arith, get_or, set, slice_get, zero, add-one}
+use Rattle.std.proofs.lemmas.List.{get_or_default}
 use Rattle.std.proofs.lemmas.List.Sorted.{searchable_from_sorted}
 use Rattle.zt_ordered.specs.Test.{by_ordering, is_lt-Less, and_first, and_second, and_both}
 use Rattle.zt_ordered.specs.Rows.{without, place, next_place}
@@ -72,6 +73,27 @@ module _ {P X : Type 0} (cmp : P → P → Ordering) where
     place-gap q (e ∷ es) (suc i) l below above =
         place-Greater q e es (turned o e.0 q Less (below 0 e (omega arith)))
         ∙ ap next_place (place-gap q es i (omega arith) (λ k d h. below (suc k) d (omega arith)) (λ k d h m. above (suc k) d (omega arith) (omega arith)))
+
+    -- a place that is known to be that of the key
+    pub place-known : (q : P) (es : List (P × X)) (i : ℕ) (row : P × X) → is_sorted cmp es ≡ true → i < length es → row ≡ get_or es i row → cmp row.0 q ≡ Equal → place cmp q es ≡ Ok i
+    place-known q es i row h l read tie = place-hit q es i h l (λ d. ap (λ (r : P × X). cmp r.0 q) (get_or_default es i d row l ∙ sym read) ∙ tie)
+
+    -- a key behind those of all rows
+    pub place-behind : (q : P) (es : List (P × X)) → AllByRecursion (λ (e : P × X). cmp e.0 q ≡ Less) es → place cmp q es ≡ Err (length es)
+    place-behind q [] behind = refl
+    place-behind q (e ∷ es) behind = place-Greater q e es (turned o e.0 q Less behind.0) ∙ ap next_place (place-behind q es behind.1)
+
+    -- so are all where the last is
+    pub behind-last : (q : P) (es : List (P × X)) (last : P × X) → is_sorted cmp es ≡ true → slice_get es (length es - 1) ≡ Some last → cmp last.0 q ≡ Less → AllByRecursion (λ (e : P × X). cmp e.0 q ≡ Less) es
+    behind-last q [] last rising is below = tt
+    behind-last q (e ∷ []) last rising is below = (subst (λ (r : P × X). cmp r.0 q ≡ Less) (sym (same-some e last is)) below, tt)
+      where
+        same-some : (a b : P × X) → Some a ≡ Some b → a ≡ b
+        same-some a b t = cc
+    behind-last q (e ∷ f ∷ es) last rising is below =
+        let later : slice_get (f ∷ es) (length (f ∷ es) - 1) ≡ Some last = simp unary_clauses (simp unary_clauses at is) in
+        let rest = behind-last q (f ∷ es) last (sorted-tail cmp e (f ∷ es) rising) later below in
+        (o.trans e.0 f.0 q (is_lt-Less _ (and_first _ _ (sorted-head cmp e (f ∷ es) rising))) rest.0, rest)
 
     -- what a binary search answers among rows in order
     pub place-searched : (q : P) (es : List (P × X)) (r : Result ℕ ℕ) → is_sorted cmp es ≡ true → IsSearchInRange r (length es) → IsBinarySearchResult (λ (e : P × X). cmp e.0 q) es r → r ≡ place cmp q es

@@ -1,5 +1,5 @@
 -- A proof by cases of a test, and what tests say.
-use Rattle.std.specs.Prelude.{◌≡◌, ◌≢◌, Bool, true, false, ◌&&◌, refl}
+use Rattle.std.specs.Prelude.{◌≡◌, Bool, true, false, ◌&&◌, refl}
 use Rattle.std.specs.declared.cmp.Ordering.{Ordering}
 use Rattle.std.specs.declared.cmp.Ordering.TheVariants.{Less, Equal, Greater}
 use Rattle.std.specs.Ordering.{is_lt}

@@ -6,4 +6,4 @@
 
 mod search;
 
-pub use search::place_of;
+pub use search::{place_of, place_of_number};

@@ -1,6 +1,7 @@
 // Searches among rows in order.
-ghost use Rattle.std.specs.Prelude.{◌≡◌, length, IsTrue};
+ghost use Rattle.std.specs.Prelude.{◌≡◌, ◌<◌, false, length, true, Err, IsTrue, Ok};
 ghost use Rattle.std.specs.List.Sorted.{IsSearchInRange};
+ghost use Rattle.std.specs.Ordering.{nat_cmp};
 ghost use Rattle.std.specs.FinMap.Entries.{is_sorted};
 ghost use Rattle.zt_ordered.specs.Rows.{place};
 
@@ -12,4 +13,47 @@ pub fn place_of<P: Ord, X>(rows: &[(P, X)], key: &P) -> Result<usize, usize>
     ensures in_range { IsSearchInRange result (length rows.now) }
 {
     rows.binary_search_by(|row| row.0.cmp(key))
+}
+
+// Whether all rows stand under numbers below this one.
+fn are_below<X>(rows: &[(u32, X)], number: u32) -> bool
+    requires { IsTrue (is_sorted nat_cmp rows.now) }
+    ensures behind { result ≡ true → place nat_cmp number rows.now ≡ Err (length rows.now) }
+    ensures some { result ≡ false → 0 < length rows.now }
+{
+    match rows.last() {
+        None => true,
+        Some(last) => last.0 < number,
+    }
+}
+
+// Whether the row under the number stands at the place.
+fn stands_at<X>(rows: &[(u32, X)], number: u32, at: usize) -> bool
+    requires { IsTrue (is_sorted nat_cmp rows.now) }
+    ensures found { result ≡ true → place nat_cmp number rows.now ≡ Ok at }
+    ensures within { result ≡ true → at < length rows.now }
+{
+    match rows.get(at) {
+        None => false,
+        Some(row) => row.0 == number,
+    }
+}
+
+/// Where the row under a number stands among rows in order, or, as an `Err`, where it would go.
+/// Numbers mostly come in order and follow one another, so it is tried first behind all rows, and
+/// as far behind the first row as the number is above that row's; then it is searched for by
+/// halves.
+pub fn place_of_number<X>(rows: &[(u32, X)], number: u32) -> Result<usize, usize>
+    requires { IsTrue (is_sorted nat_cmp rows.now) }
+    ensures place { result ≡ place nat_cmp number rows.now }
+    ensures in_range { IsSearchInRange result (length rows.now) }
+{
+    if are_below(rows, number) {
+        return Err(rows.len());
+    }
+    let at = number.saturating_sub(rows[0].0) as usize;
+    if stands_at(rows, number, at) {
+        return Ok(at);
+    }
+    place_of(rows, &number)
 }

@@ -11,7 +11,7 @@ use Rattle.zt_model.specs.Places.{Link, Place, number_from}
 
 -- ---- numbers
 
--- a face is told by its gateway, and its number there
+-- a face is known by its gateway, and its number there
 abbrev pub is_face : ℕ × ℕ → ℕ × ℕ → Bool
 is_face a b = (a.0 == b.0) && (a.1 == b.1)
 

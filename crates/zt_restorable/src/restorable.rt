@@ -19,14 +19,15 @@ const LEAST_HELD: usize = 64;
 
 // How much calls may hold for each row. To copy a row costs about a quarter of a call, and a
 // row and a call take about as much memory: so a call costs an eighth more for being kept, and the
-// calls take at most about twice as much memory as the copy.
+// calls take at most about twice as much memory as the copy, where there is memory to copy.
 const HELD_FOR_A_ROW: usize = 2;
 
 /// What a gateway keeps, with the way back to it: what it kept earlier, and the calls that were
 /// carried out since. A call is carried out on what the gateway keeps, in place. One that lacks
 /// memory leaves that half changed: it is dropped, and got back from what was kept earlier by the
-/// calls since, before the next call. When the calls hold twice as much as what was copied
-/// last, and 64 more, all is copied, and the calls are forgotten.
+/// calls since, before the next call. When the calls hold twice as much as the gateway had rows
+/// when it was copied last, and 64 more, all is copied, and the calls are forgotten; where memory
+/// lacks for that, they go on growing, and so does the way back.
 #[derive(Drop)]
 pub struct RestorableState<K: Key> {
     // What the gateway kept earlier.
@@ -178,6 +179,11 @@ fn rows_in<K: Key>(state: &GatewayState<K>) -> usize {
     rows
 }
 
+// How much calls may hold before a state is copied that was just copied.
+fn held_at_most<K: Key>(state: &GatewayState<K>) -> usize {
+    LEAST_HELD.saturating_add(rows_in(state).saturating_mul(HELD_FOR_A_ROW))
+}
+
 // A call behind others. The only error is want of memory, and then the others stay.
 fn push_call<K: Key>(alloc: Global, calls: &mut Vec<Call<K>>, call: &Call<K>) -> Result<(), Memory>
     ensures ok { OnOk result (map plain_call calls.new.items
@@ -244,28 +250,32 @@ impl<K: Key> RestorableState<K> {
         ensures { self.new ≡ self.old }
     {
         if self.current.is_none() {
-            self.current = Some(self.restored(alloc)?);
+            let state = self.restored(alloc)?;
+            if self.calls.is_empty() {
+                self.left = held_at_most(&*state.inner);
+            }
+            self.current = Some(state);
         }
         Ok(())
     }
 
-    // Copies all, where the calls hold twice as much as what was kept, and forgets them. The only
-    // error is want of memory.
-    fn save(&mut self, alloc: Global) -> Result<(), Memory>
+    // Copies all, where the calls hold as much as they may, and forgets them. Where memory lacks
+    // for the copy nothing is lost: the calls stay, and as much again may come before it is tried
+    // anew.
+    fn save(&mut self, alloc: Global)
         ensures { self.new ≡ self.old }
     {
         if self.left > 0 {
-            return Ok(());
+            return;
         }
         let Some(current) = &self.current else {
-            return Ok(());
+            return;
         };
-        let mut copy = boxed_copy(alloc, &*current.inner)?;
-        let held = rows_in(&*current.inner).saturating_mul(HELD_FOR_A_ROW);
-        self.left = LEAST_HELD.saturating_add(held);
-        exchange(&mut self.earlier, &mut copy);
-        self.calls.clear();
-        Ok(())
+        self.left = held_at_most(&*current.inner);
+        if let Ok(mut copy) = boxed_copy(alloc, &*current.inner) {
+            exchange(&mut self.earlier, &mut copy);
+            self.calls.clear();
+        }
     }
 
     /// Carries a call out on what the gateway keeps, which isn't committed: the gateway is as
@@ -279,7 +289,7 @@ impl<K: Key> RestorableState<K> {
         ensures same { self.new ≡ self.old }
     {
         self.restore(alloc)?;
-        self.save(alloc)?;
+        self.save(alloc);
         let Some(mut state) = self.current.take() else {
             return Err(Memory);
         };
@@ -336,11 +346,13 @@ impl<K: Key> RestorableState<K> {
     pub fn copy(&self, alloc: Global) -> Result<Self, Memory>
         ensures { IfOk result (λ copy. copy ≡ self.now) }
     {
-        Ok(RestorableState {
+        let mut copy = RestorableState {
             earlier: self.earlier.copy(alloc)?,
             calls: copy_calls(alloc, &self.calls)?,
             left: self.left,
-            current: Some(self.restored(alloc)?),
-        })
+            current: None,
+        };
+        copy.restore(alloc)?;
+        Ok(copy)
     }
 }

@@ -22,7 +22,8 @@ use Rattle.std.proofs.lemmas.List.Folds.{list_any-append}
 use Rattle.zt_protocol.specs.Interest.{is_future}
 use Rattle.zt_protocol.specs.declared.messages.Message.{Message}
 use Rattle.zt_protocol.specs.declared.messages.Message.TheVariants.{DeclareToken, UndeclareToken, DeclareFinal, Interest, InterestFinal, DeclareSubscriber, DeclareQueryable}
-use Rattle.zt_face.specs.Told.{AreApart, IsInOrder, untold_known}
+use Rattle.zt_face.specs.Told.{AreApart, untold_known}
+use Rattle.zt_rows.specs.ById.{IsInOrder}
 use Rattle.zt_face.proofs.Told.{dropped_without, none_dropped, told_at as row-told}
 use Rattle.zt_interest_index.specs.Holdings.{is_of}
 use Rattle.zt_interest_index.specs.declared.bucket.Bucket.{Bucket}

@@ -15,7 +15,7 @@ use Rattle.std.specs.declared.cmp.Ordering.TheVariants.{Less, Equal, Greater}
 use Rattle.zt_keys.specs.Test.{by_test}
 use Rattle.zt_keys.specs.declared.anchor.Anchor.{Anchor}
 use Rattle.zt_protocol.specs.Interest.{has_tokens}
-use Rattle.zt_face.specs.Told.{IsInOrder}
+use Rattle.zt_rows.specs.ById.{IsInOrder}
 use Rattle.zt_interest_index.specs.Buckets.{bucket_of}
 use Rattle.zt_interest_index.specs.Held.{any_kept, belongs-own, indexed-put, indexed-removed}
 use Rattle.zt_interest_index.specs.Holders.{IsIndexOf, any_alike, belongs}

@@ -9,7 +9,8 @@ use Rattle.std.specs.Ordering.{is_eq, nat_cmp}
 use Rattle.std.specs.declared.cmp.Ordering.{Ordering}
 use Rattle.std.specs.declared.cmp.Ordering.TheVariants.{Less, Equal, Greater}
 use Rattle.zt_keys.specs.Test.{by_test}
-use Rattle.zt_face.specs.Told.{AreApart, IsInOrder}
+use Rattle.zt_face.specs.Told.{AreApart}
+use Rattle.zt_rows.specs.ById.{IsInOrder}
 use Rattle.zt_face.proofs.Told.{apart_added, apart_dropped, dropped_without, none_dropped, none_without, told_added, told_at as row-told, told_dropped, with_again, with_first}
 use Rattle.zt_model.specs.Hearing.{told_pair}
 use Rattle.zt_model.specs.Lists.{at_id, same, without_id}

@@ -1,7 +1,7 @@
 // What an index of told tokens finds, as one face hears a message or goes.
 ghost use Rattle.std.specs.Prelude.{◌≡◌, ℕ, [], None, Some, IfOk, IfSome, OnOk};
-ghost use Rattle.zt_face.specs.Told.{IsInOrder};
 ghost use Rattle.zt_model.specs.Hearing.{heard, told_pair, untold};
+ghost use Rattle.zt_rows.specs.ById.{IsInOrder};
 ghost use Rattle.zt_seekers.specs.Told.{IsRetold, gone_id};
 ghost use Rattle.zt_told.specs.Told.{id_of, told_at};
 

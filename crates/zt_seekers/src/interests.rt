@@ -1,11 +1,11 @@
 // The interests in tokens, as they come and go.
 ghost use Rattle.std.specs.Prelude.{◌≡◌, ◌++◌, ◌∷◌, ◌==◌, [], filter, not, List, OnOk};
 ghost use Rattle.std.specs.List.{flat_map};
-ghost use Rattle.zt_face.specs.Told.{IsInOrder};
 ghost use Rattle.zt_interest_index.specs.Holders.{IsIndexOf};
 ghost use Rattle.zt_interest_index.specs.Holdings.{is_of};
 ghost use Rattle.zt_model.specs.Rows.{Face};
 ghost use Rattle.zt_protocol.specs.Interest.{has_tokens};
+ghost use Rattle.zt_rows.specs.ById.{IsInOrder};
 ghost use Rattle.zt_seekers.specs.Seekers.{IsOnlyOne, TokenRow, token_rows, token_rows_of};
 
 use bitflags::Flags;

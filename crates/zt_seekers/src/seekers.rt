@@ -110,7 +110,8 @@ impl<K: Key> Seekers<K> {
 
     /// The face hears a message. Where this says that an expression is gone, the answer is the id
     /// under which the face was told it, if it was. The only error is want of memory; an expression
-    /// that is told anew under another id never comes up in a gateway, and counts as that.
+    /// that is told anew under another id never comes up in a gateway, and counts as that. Nothing
+    /// is said of the look-ups after it.
     pub fn hear(
         &mut self,
         alloc: Global,
@@ -134,8 +135,8 @@ impl<K: Key> Seekers<K> {
         self.told.at(expr)
     }
 
-    /// The id under which the face was told the expression, if it was. A look-up, and a search by
-    /// halves.
+    /// The id under which the face was told the expression, if it was. A look-up, and a search
+    /// among the faces that were told it.
     pub fn told_id(&self, expr: &K, face: u32) -> Option<u32>
         ensures { result ≡ id_of face (told_at K.cmp expr.now self.now.told) }
     {

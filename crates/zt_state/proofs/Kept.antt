@@ -16,9 +16,9 @@ use Rattle.zt_keys.specs.declared.anchor.Anchor.{Anchor}
 use Rattle.zt_seekers.specs.Seekers.{AreSeekers, Seeking, no_seekers}
 use Rattle.zt_seekers.proofs.Changed.{seekers-none, seekers-quiet}
 use Rattle.zt_state.specs.Indexed.{HasLiveInOrder, IsIndexed, KeepsDeclared, KeepsLive, routed_live}
-use Rattle.zt_state.specs.Rising.{AreUpTo, IsRising}
+use Rattle.zt_faces.specs.Rising.{AreUpTo, IsRising}
 use Rattle.zt_state.proofs.Recounted.{all-changed, others, quiet-order, quiet-rows}
-use Rattle.zt_state.proofs.Rising.{changed-rising, changed-up-to, filtered-all, filtered-rising, pushed-rising, pushed-up-to}
+use Rattle.zt_faces.proofs.Rising.{changed-rising, changed-up-to, filtered-all, filtered-rising, pushed-rising, pushed-up-to}
 
 holds-from : (b : Bool) → b ≡ true → T b
 holds-from b h = subst T (sym h) tt

@@ -21,8 +21,8 @@ use Rattle.zt_model.specs.Lists.{at_id, first_where, without_id}
 use Rattle.zt_model.specs.Rows.{ById, Face, RoutedRow}
 use Rattle.zt_model.specs.Visible.{rows_of_face}
 use Rattle.zt_state.specs.Indexed.{HasLiveInOrder, KeepsDeclared, routed_live}
-use Rattle.zt_state.specs.Rising.{IsRising}
-use Rattle.zt_state.proofs.Rising.{none-above, none-changed, none-dropped}
+use Rattle.zt_faces.specs.Rising.{IsRising}
+use Rattle.zt_faces.proofs.Rising.{none-above, none-changed, none-dropped}
 
 by_ordering : {G : Type 0} (r : Ordering) → (r ≡ Less → G) → (r ≡ Equal → G) → (r ≡ Greater → G) → G
 by_ordering Less less equal greater = less refl

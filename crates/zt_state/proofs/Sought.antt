@@ -16,8 +16,8 @@ use Rattle.zt_protocol.specs.declared.messages.Message.{Message}
 use Rattle.zt_face.specs.Told.{heard_known}
 use Rattle.zt_model.specs.Hearing.{heard}
 use Rattle.zt_seekers.specs.Seekers.{AreSeekers, IsKnown, IsOnlyOne, Leaves, Reseeks, Seeking}
-use Rattle.zt_state.specs.Rising.{IsRising}
-use Rattle.zt_state.proofs.Rising.{all-weaker, none-above}
+use Rattle.zt_faces.specs.Rising.{IsRising}
+use Rattle.zt_faces.proofs.Rising.{all-weaker, none-above}
 
 below : (a b : ℕ) → a < b → nat_cmp a b ≡ Less
 below a b h = grind (arith, nat_tests)

@@ -2,8 +2,8 @@
 --     routed_live zid routed                      the tokens of other routers, each under its region
 --     IsIndexed cmp anchored zid made routed faces live seeking
 --                                                 numbers rise up to `made`, each face's tokens stand in order of id, the
---                                                 counts are those of the live tokens, and the faces that may be told of
---                                                 tokens are found
+--                                                 counts are those of the live tokens, and the look-ups find which faces
+--                                                 may be told of tokens, and what faces were told
 --     KeepsDeclared f g                           the face keeps its number, its region and its tokens
 --     KeepsLive f g                               the face keeps its number, its region, its tokens, its interests and
 --                                                 what it was told
@@ -20,7 +20,7 @@ use Rattle.zt_indexes.specs.Rows.{AreCountsOf}
 use Rattle.zt_seekers.specs.Seekers.{AreSeekers, Seeking}
 use Rattle.zt_model.specs.Rows.{Face, RoutedRow}
 use Rattle.zt_model.specs.Visible.{rows_of_face}
-use Rattle.zt_state.specs.Rising.{AreUpTo, IsRising}
+use Rattle.zt_faces.specs.Rising.{AreUpTo, IsRising}
 
 abbrev pub routed_live : {K : Type 0} → Zid → List (RoutedRow K) → List (Region × K)
 routed_live zid routed = map (λ row. (row.region, row.expr)) (filter (λ row. not (zid_eq row.source zid)) routed)

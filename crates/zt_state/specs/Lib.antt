@@ -1,5 +1,4 @@
 pub mod Indexed
 pub mod Keeps
 pub mod OwnRows
-pub mod Rising
 pub mod Told

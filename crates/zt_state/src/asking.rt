@@ -4,11 +4,11 @@ ghost use Rattle.zt_model.specs.Parts.{with_face};
 ghost use Rattle.zt_model.specs.Routing.{asked_as, unheld};
 ghost use Rattle.zt_seekers.specs.Seekers.{AreSeekers};
 
-use crate::by_number::Faces;
 use crate::gateway::GatewayState;
-use crate::walk::{FaceAddition, FaceChange, empty};
+use crate::walk::empty;
 use std::alloc::Global;
 use zt_face::{FaceState, RemoteInterest};
+use zt_faces::{FaceAddition, FaceChange, Faces};
 use zt_keys::{Key, Memory};
 use zt_protocol::InterestId;
 use zt_seekers::Seekers;

@@ -5,8 +5,9 @@ ghost use Rattle.zt_model.specs.Parts.{with_face};
 ghost use Rattle.zt_model.specs.Routing.{ended, initial_finalised};
 
 use crate::gateway::GatewayState;
-use crate::walk::{FaceChange, QuietChange};
+use crate::walk::QuietChange;
 use zt_face::FaceState;
+use zt_faces::FaceChange;
 use zt_keys::Key;
 use zt_protocol::InterestId;
 

@@ -2,6 +2,7 @@
 ghost use Rattle.std.specs.Prelude.{◌≡◌, [], filter, map, IfOk, IfSome};
 ghost use Rattle.std.specs.List.{flat_map};
 ghost use Rattle.std.specs.Option.{option_copied};
+ghost use Rattle.zt_faces.specs.Rising.{AreUpTo, IsRising};
 ghost use Rattle.zt_model.specs.Fabric.{new_rows};
 ghost use Rattle.zt_model.specs.Parts.{find_face};
 ghost use Rattle.zt_model.specs.Visible.{live_rows};
@@ -11,14 +12,13 @@ ghost use Rattle.zt_interest_index.specs.Holders.{HasAllIn};
 ghost use Rattle.zt_seekers.specs.Seekers.{token_rows};
 ghost use Rattle.zt_seekers.specs.Told.{told_id_at};
 ghost use Rattle.zt_region.specs.Region.{is_north};
-ghost use Rattle.zt_state.specs.Rising.{AreUpTo, IsRising};
 ghost use Rattle.zt_state.specs.Told.{AreToldIds};
 ghost use Rattle.zt_told.specs.Told.{AreRising};
 
-use crate::by_number::Faces;
 use std::alloc::Global;
 use std::marker::Model;
 use zt_face::FaceState;
+use zt_faces::Faces;
 use zt_indexes::LiveCounts;
 use zt_keys::{Key, Memory};
 use zt_region::{Admission, Region, WhatAmI, Zid};
@@ -184,6 +184,14 @@ impl<K: Key> GatewayState<K> {
         &self.live
     }
 
+    /// The live expressions that match the key can be looked for among few from here on, where
+    /// memory suffices: see `LiveCounts::prepare`.
+    pub fn prepare_live(&mut self, alloc: Global, key: &K)
+        ensures { self.new ≡ self.old }
+    {
+        self.live.prepare(alloc, key);
+    }
+
     /// The numbers of the faces to the north, in order.
     pub fn north(&self) -> &[u32]
         ensures rising { IsRising (λ f. f.number) self.now.faces }
@@ -213,8 +221,8 @@ impl<K: Key> GatewayState<K> {
         self.seekers.told_at(expr)
     }
 
-    /// The id under which a face was told the expression, if it was. A look-up, and a search by
-    /// halves.
+    /// The id under which a face was told the expression, if it was. A look-up, and a search among
+    /// the faces that were told it.
     pub fn told_id(&self, expr: &K, face: u32) -> Option<u32>
         ensures { result ≡ told_id_at K.cmp expr.now self.now.faces face }
     {
@@ -231,7 +239,7 @@ impl<K: Key> GatewayState<K> {
         self.seekers.interests_in(about)
     }
 
-    /// The open face of this number. A search by halves.
+    /// The open face of this number. Found at once where none below it was closed, else by halves.
     pub fn find_face(&self, number: u32) -> Option<&FaceState<K>>
         ensures { option_copied result ≡ find_face number self.now }
     {

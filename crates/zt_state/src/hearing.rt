@@ -4,11 +4,11 @@ ghost use Rattle.zt_model.specs.Hearing.{heard, rows_heard};
 ghost use Rattle.zt_model.specs.Parts.{with_face};
 ghost use Rattle.zt_seekers.specs.Seekers.{AreSeekers};
 
-use crate::by_number::Faces;
 use crate::gateway::GatewayState;
-use crate::walk::{FaceAddition, empty};
+use crate::walk::empty;
 use std::alloc::Global;
 use zt_face::FaceState;
+use zt_faces::{FaceAddition, Faces};
 use zt_keys::{Key, Memory};
 use zt_protocol::Message;
 use zt_seekers::Seekers;

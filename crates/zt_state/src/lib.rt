@@ -3,7 +3,6 @@
 #![tactic(auto)]
 
 mod asking;
-mod by_number;
 mod copying;
 mod faces;
 mod gateway;

@@ -14,11 +14,11 @@ ghost use Rattle.zt_model.specs.Visible.{rows_of_face};
 ghost use Rattle.zt_seekers.specs.Seekers.{AreSeekers};
 ghost use Rattle.zt_state.specs.Indexed.{HasLiveInOrder};
 
-use crate::by_number::Faces;
 use crate::gateway::GatewayState;
-use crate::walk::{FaceAddition, FaceChange, empty};
+use crate::walk::empty;
 use std::alloc::Global;
 use zt_face::FaceState;
+use zt_faces::{FaceAddition, FaceChange, Faces};
 use zt_indexes::LiveCounts;
 use zt_keys::{Key, Memory};
 use zt_protocol::TokenId;

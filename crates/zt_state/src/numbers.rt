@@ -6,9 +6,10 @@ ghost use Rattle.zt_model.specs.Lists.{is_among};
 ghost use Rattle.zt_model.specs.Parts.{with_face};
 
 use crate::gateway::GatewayState;
-use crate::walk::{FaceAddition, QuietAddition};
+use crate::walk::QuietAddition;
 use std::alloc::Global;
 use zt_face::{FaceState, is_among};
+use zt_faces::FaceAddition;
 use zt_keys::{Key, Memory};
 use zt_protocol::QueryableInfo;
 

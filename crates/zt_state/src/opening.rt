@@ -1,15 +1,15 @@
 // Faces that open.
 ghost use Rattle.std.specs.Prelude.{◌≡◌, ◌<◌, ◌+◌, ◌++◌, ◌∷◌, ◌^◌, [], OnOk};
+ghost use Rattle.zt_faces.specs.Rising.{AreUpTo};
 ghost use Rattle.zt_model.specs.Parts.{opened_session};
 ghost use Rattle.zt_model.specs.Routing.{initial_of, opened};
 ghost use Rattle.zt_seekers.specs.Seekers.{AreSeekers};
-ghost use Rattle.zt_state.specs.Rising.{AreUpTo};
 
-use crate::by_number::Faces;
 use crate::gateway::GatewayState;
 use crate::walk::empty;
 use std::alloc::Global;
 use zt_face::FaceState;
+use zt_faces::Faces;
 use zt_keys::{Key, Memory};
 use zt_region::{Bound, Region, WhatAmI, Zid};
 use zt_seekers::Seekers;

@@ -1,51 +1,15 @@
-// Changes of one face.
+// Changes of one face of a gateway.
 ghost use Rattle.std.specs.Prelude.{◌≡◌, [], OnOk};
 ghost use Rattle.zt_model.specs.Parts.{with_face};
 ghost use Rattle.zt_seekers.specs.Seekers.{no_seekers};
 
-use crate::by_number::Faces;
 use crate::gateway::GatewayState;
 use std::alloc::Global;
-use zt_face::FaceState;
+use zt_faces::{FaceAddition, FaceChange, Faces};
 use zt_indexes::LiveCounts;
 use zt_keys::{Key, Memory};
 use zt_routed::RoutedTokens;
 use zt_seekers::Seekers;
-
-/// A change of a face that takes no memory.
-pub trait FaceChange<K: Key> {
-    ghost use Rattle.std.specs.Prelude.{◌≡◌};
-    ghost use Rattle.zt_model.specs.Rows.{Face};
-
-    /// The face after the change.
-    ghost changed: { Self → Face K → Face K };
-
-    /// Changes the face.
-    fn change(&self, f: &mut FaceState<K>)
-        ensures { f.new ≡ changed self.now f.old };
-
-    /// The face keeps its number.
-    ghost keeps_number: { (c : Self) (f : Face K) → (changed c f).number ≡ f.number };
-
-    /// The face draws no id.
-    ghost keeps_next: { (c : Self) (f : Face K) → (changed c f).next ≡ f.next };
-}
-
-/// A change of a face that takes memory.
-pub trait FaceAddition<K: Key> {
-    ghost use Rattle.std.specs.Prelude.{◌≡◌, OnOk};
-    ghost use Rattle.zt_model.specs.Rows.{Face};
-
-    /// The face after the change.
-    ghost added: { Self → Face K → Face K };
-
-    /// Changes the face. The only error is want of memory.
-    fn add(&self, alloc: Global, f: &mut FaceState<K>) -> Result<(), Memory>
-        ensures { OnOk result (f.new ≡ added self.now f.old) };
-
-    /// The face keeps its number.
-    ghost keeps_number: { (c : Self) (f : Face K) → (added c f).number ≡ f.number };
-}
 
 /// A change of a face that keeps what it declares, holds and was told.
 pub trait QuietChange<K: Key>: FaceChange<K> {

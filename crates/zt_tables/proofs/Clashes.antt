@@ -1,8 +1,6 @@
 -- Entries clash where keys of theirs are among those of entries that count.
 use Rattle.std.proofs.Common.{◌≡◌, ◌&&◌, ◌||◌, ◌==◌, ◌++◌, ◌∷◌, ℕ, Bool, true, false, List, [], ap, arith, cond, refl, sym, ◌∙◌}
 use Rattle.std.proofs.lemmas.Bool.Decides.{nat_tests}
-use Rattle.std.proofs.lemmas.Cmp.{nat_cmp_total, on_total, then_total}
-use Rattle.std.specs.Cmp.{IsTotalOrder}
 use Rattle.std.specs.HashSet.{HashSet, Updates}
 use Rattle.std.specs.List.{list_any}
 use Rattle.std.specs.Ordering.{is_eq, nat_cmp, ordering_then}
@@ -11,7 +9,7 @@ use Rattle.std.specs.declared.cmp.Ordering.TheVariants.{Less, Equal, Greater}
 use Rattle.zt_region.specs.declared.region.Zid.{Zid}
 use Rattle.zt_region.specs.Region.{zid_eq}
 use Rattle.zt_model.specs.Trees.{is_same_link, is_same_router}
-use Rattle.zt_tables.specs.KeysOf.{AreKeysOf, node_key_cmp, node_key_eq, zid_key_eq}
+use Rattle.zt_tables.specs.KeysOf.{AreKeysOf, node_key_eq, zid_key_eq}
 
 or_last : (a b : Bool) → cond a true b ≡ (b || (a || false))
 or_last true true = refl
@@ -71,9 +69,6 @@ node_key-turned a b = ap (λ t. t && (a.1 == b.1)) (nat-turned a.0 b.0) ∙ ap (
 
 pub zid_key-turned : (a b : ℕ × Zid) → zid_key_eq a b ≡ zid_key_eq b a
 zid_key-turned a b = ap (λ t. t && zid_eq a.1 b.1) (nat-turned a.0 b.0) ∙ ap (λ t. (b.0 == a.0) && t) (zid-turned a.1 b.1)
-
-pub node_key_total : IsTotalOrder node_key_cmp
-node_key_total = then_total (on_total (λ p. p.0) nat_cmp_total) (on_total (λ p. p.1) nat_cmp_total)
 
 pub nat_is : (a b : ℕ) → is_eq (nat_cmp a b) ≡ (a == b)
 nat_is a b = grind (arith, nat_tests)

@@ -10,7 +10,7 @@ use Rattle.zt_region.specs.Region.{zid_cmp, zid_eq}
 pub record AreKeysOf {K A : Type 0} (eq : K → K → Bool) (key : A → K) (keys : List K) (xs : List A) : Type 0 where
   pub finds : (q : K) → list_any (eq q) keys ≡ list_any (λ x. eq q (key x)) xs
 
--- a face with a node id is told by both, and so a face with a router
+-- a face with a node id is known by both, and so a face with a router
 abbrev pub node_key_eq : ℕ × ℕ → ℕ × ℕ → Bool
 node_key_eq a b = (a.0 == b.0) && (a.1 == b.1)
 

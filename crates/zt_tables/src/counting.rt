@@ -33,7 +33,8 @@ fn count_router(
     ensures counted { OnOk result (counted.new.items
         ≡ (if list_any (is_same_router router.now) counted.old.items then counted.old.items
         else counted.old.items ++ router.now ∷ [])) }
-    ensures nodes { OnOk result (AreKeysOf (λ a b. a == b) (λ x. x.0) nodes.new.keys counted.new.items) }
+    ensures nodes { OnOk result
+        (AreKeysOf (λ a b. a == b) (λ x. x.0) nodes.new.keys counted.new.items) }
     ensures zids { OnOk result (AreKeysOf zid_eq (λ x. x.1) zids.new.keys counted.new.items) }
 {
     if is_taken(router, nodes, zids) {

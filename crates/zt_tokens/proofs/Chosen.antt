@@ -7,7 +7,7 @@ use Rattle.zt_protocol.specs.declared.messages.Message.{Message}
 use Rattle.zt_model.specs.Lists.{first_where}
 use Rattle.zt_model.specs.Parts.{to_each}
 use Rattle.zt_model.specs.Rows.{Face}
-use Rattle.zt_state.specs.Rising.{IsRising}
+use Rattle.zt_faces.specs.Rising.{IsRising}
 use Rattle.zt_tokens.specs.Walks.{given_at, sent_to}
 
 same-number : (n : ℕ) → (n == n) ≡ true

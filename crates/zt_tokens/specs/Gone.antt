@@ -24,9 +24,9 @@ module _ {K : Type 0} (cmp : K → K → Ordering) where
     -- what a face hears that was told the expression under an id, or not at all, where it is known whether
     -- the expression is gone
     abbrev pub forget_by : Face K → Option ℕ → List (Message K)
-    forget_by f told =
+    forget_by f known =
         if is_routed g f || is_seen is_gone g f.region e then []
-        else elim told [ None ↦ forget_untold cmp matching g source e f | Some id ↦ message.UndeclareToken id None 0 ∷ [] ]
+        else elim known [ None ↦ forget_untold cmp matching g source e f | Some id ↦ message.UndeclareToken id None 0 ∷ [] ]
 
     -- the same, by pairs of face and id
     abbrev pub forget_told : List (ℕ × ℕ) → Face K → List (Message K)

@@ -11,7 +11,7 @@ ghost use Rattle.zt_seekers.specs.Told.{told_id_at};
 ghost use Rattle.zt_told.specs.Told.{AreRising};
 ghost use Rattle.zt_tokens.specs.Answered.{answer_message, answer_of, answer_told, id_after};
 
-use crate::questions::{find_face, told_in};
+use crate::questions::find_face;
 use crate::visibility::{visible_expressions, visible_matches};
 use bitflags::Flags;
 use std::alloc::Global;
@@ -19,6 +19,7 @@ use zt_keys::{Key, Memory};
 use zt_protocol::{InterestId, InterestMode, InterestOptions, Message, TokenId};
 use zt_region::Region;
 use zt_state::{AskState, FaceState, GatewayState, RemoteInterest, is_among};
+use zt_told::id_in;
 
 // Whether the interest asks for tokens that are there now.
 fn asks_now<K: Key>(interest: &RemoteInterest<K>) -> bool
@@ -65,11 +66,11 @@ pub fn answered_expressions<K: Key>(
 
 // The id of an answer: 0 where what comes later isn't asked for, else the one under which the face
 // was told the expression, or a new one.
-fn answer_id(next: u32, told: Option<TokenId>, mode: InterestMode) -> TokenId
-    ensures { result ≡ (if is_future mode then unwrap_or told next else 0) }
+fn answer_id(next: u32, known: Option<TokenId>, mode: InterestMode) -> TokenId
+    ensures { result ≡ (if is_future mode then unwrap_or known next else 0) }
 {
     if mode.is_future() {
-        told.unwrap_or(next)
+        known.unwrap_or(next)
     } else {
         0
     }
@@ -77,10 +78,10 @@ fn answer_id(next: u32, told: Option<TokenId>, mode: InterestMode) -> TokenId
 
 // The id that is drawn after the answer of an expression that the face was told under an id, or not
 // at all. Ids that run out count as want of memory.
-fn id_after(next: u32, told: Option<TokenId>, mode: InterestMode) -> Result<u32, Memory>
-    ensures { IfOk result (λ after. after ≡ id_after next told mode) }
+fn id_after(next: u32, known: Option<TokenId>, mode: InterestMode) -> Result<u32, Memory>
+    ensures { IfOk result (λ after. after ≡ id_after next known mode) }
 {
-    if mode.is_future() && told.is_none() {
+    if mode.is_future() && known.is_none() {
         return next.checked_add(1).ok_or(Memory);
     }
     Ok(next)
@@ -91,17 +92,17 @@ fn answer_one<K: Key>(
     alloc: Global,
     face: u32,
     next: u32,
-    told: Option<TokenId>,
+    known: Option<TokenId>,
     mode: InterestMode,
     id: InterestId,
     expr: &K,
     sends: &mut Vec<(u32, Message<K>)>,
 ) -> Result<(), Memory>
     ensures { OnOk result (sends.new.items
-        ≡ sends.old.items ++ (face, answer_message next told mode id expr.now) ∷ []) }
+        ≡ sends.old.items ++ (face, answer_message next known mode id expr.now) ∷ []) }
 {
     let message = Message::DeclareToken {
-        id: answer_id(next, told, mode),
+        id: answer_id(next, known, mode),
         expr: expr.copy(alloc)?,
         interest_id: Some(id),
         node_id: 0,
@@ -140,11 +141,22 @@ fn answer_all<K: Key>(
     let mut sends = Vec::new(alloc);
     let mut next = f.next();
     for expr in exprs {
-        let told = told_for(g, face, mode, expr);
-        answer_one(alloc, face, next, told, mode, id, expr, &mut sends)?;
-        next = id_after(next, told, mode)?;
+        let known = told_for(g, face, mode, expr);
+        answer_one(alloc, face, next, known, mode, id, expr, &mut sends)?;
+        next = id_after(next, known, mode)?;
     }
     Ok(sends)
+}
+
+/// What the interest asks for now can be looked for among few from here on, where memory suffices.
+pub fn prepare_answers<K: Key>(alloc: Global, g: &mut GatewayState<K>, interest: &RemoteInterest<K>)
+    ensures { g.new ≡ g.old }
+{
+    if let Some(key) = interest.expr() {
+        if asks_now(interest) {
+            g.prepare_live(alloc, key);
+        }
+    }
 }
 
 /// What the face's own interest is answered at once. The only error is want of memory; ids that run
@@ -200,7 +212,7 @@ fn answer_ask<K: Key>(
         (answer_of K.cmp K.matching face id expr.now told.now f.now (under, ask.now))) }
 {
     if is_answered_by(face, id, expr, ask) {
-        let known = told_in(told, f.number());
+        let known = id_in(told, f.number());
         let mode = ask.interest().mode();
         answer_one(alloc, f.number(), f.next(), known, mode, under, expr, sends)?;
     }

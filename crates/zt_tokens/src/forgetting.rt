@@ -11,13 +11,14 @@ ghost use Rattle.zt_told.specs.Told.{AreRising, id_of};
 ghost use Rattle.zt_tokens.specs.Gone.{IsGone, forget_by, forget_told, is_seen};
 ghost use Rattle.zt_tokens.specs.Walks.{given_at, is_told_at, sent_to};
 
-use crate::questions::{find_face, is_client_region, is_routed, is_visible, shows, told_in, wants};
+use crate::questions::{find_face, is_client_region, is_routed, is_visible, shows, wants};
 use crate::walking::{FaceRule, say_each};
 use std::alloc::Global;
 use zt_keys::{Key, Memory};
 use zt_protocol::{Message, TokenId};
 use zt_region::Region;
 use zt_state::{FaceState, GatewayState};
+use zt_told::id_in;
 
 // Whether faces of no region see the expression: those of `Local` see each live token.
 fn is_gone<K: Key>(g: &GatewayState<K>, expr: &K) -> bool
@@ -106,17 +107,17 @@ impl<'a, K: Key> Forgets<'a, K> {
         alloc: Global,
         g: &GatewayState<K>,
         f: &FaceState<K>,
-        told: Option<TokenId>,
+        known: Option<TokenId>,
         sends: &mut Vec<(u32, Message<K>)>,
     ) -> Result<(), Memory>
         ensures { OnOk result (sends.new.items ≡ sends.old.items ++ map (λ m. (f.now.number, m))
             (forget_by K.cmp K.matching self.now.is_gone g.now self.now.source self.now.expr.now
-            f.now told)) }
+            f.now known)) }
     {
         if is_routed(g, f) {
             return Ok(());
         }
-        match told {
+        match known {
             Some(id) => self.say_told(g, f, id, sends),
             None => self.say_untold(alloc, g, f, sends),
         }
@@ -136,9 +137,9 @@ impl<'a, K: Key> Forgets<'a, K> {
         ensures was_told { IfOk result (λ was_told. was_told
             ≡ is_some (id_of f.now.number self.now.told.now)) }
     {
-        let told = told_in(self.told, f.number());
-        self.say_by(alloc, g, f, told, sends)?;
-        Ok(told.is_some())
+        let known = id_in(self.told, f.number());
+        self.say_by(alloc, g, f, known, sends)?;
+        Ok(known.is_some())
     }
 
     // Adds what the face of a number hears, if it is open, and answers whether it was told the
@@ -199,7 +200,7 @@ impl<'a, K: Key> FaceRule<K> for Forgets<'a, K> {
         f: &FaceState<K>,
         sends: &mut Vec<(u32, Message<K>)>,
     ) -> Result<(), Memory> {
-        self.say_by(alloc, g, f, told_in(self.told, f.number()), sends)
+        self.say_by(alloc, g, f, id_in(self.told, f.number()), sends)
     }
 }
 

@@ -10,12 +10,13 @@ mod telling;
 mod visibility;
 mod walking;
 
-pub use answering::{answer, answer_interest, answered_expressions, is_answered_by};
+pub use answering::{
+    answer, answer_interest, answered_expressions, is_answered_by, prepare_answers,
+};
 pub use forgetting::forget;
 pub use ordering::{KeysInOrder, insert_in_order};
 pub use questions::{
-    find_face, is_client_region, is_routed, is_router_region, is_told, is_visible, shows, told_in,
-    wants,
+    find_face, is_client_region, is_routed, is_router_region, is_told, is_visible, shows, wants,
 };
 pub use telling::tell;
 pub use visibility::visible_expressions;

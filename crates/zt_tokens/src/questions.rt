@@ -5,12 +5,10 @@ ghost use Rattle.zt_model.specs.Parts.{find_face, is_routed};
 ghost use Rattle.zt_model.specs.Strategy.{strategy_of, is_client_hat, is_router_hat};
 ghost use Rattle.zt_model.specs.Visible.{is_visible, shows};
 ghost use Rattle.zt_model.specs.Wants.{seeks, wants};
-ghost use Rattle.zt_told.specs.Told.{AreRising, id_of};
 ghost use Rattle.zt_tokens.specs.Seeking.{is_seeker_told, is_told_by};
 
 use zt_indexes::RegionTest;
 use zt_keys::Key;
-use zt_ordered::place_of;
 use zt_protocol::TokenId;
 use zt_region::{Region, WhatAmI};
 use zt_state::{FaceState, GatewayState};
@@ -20,17 +18,6 @@ pub fn find_face<K: Key>(g: &GatewayState<K>, number: u32) -> Option<&FaceState<
     ensures { option_copied result ≡ find_face number g.now }
 {
     g.find_face(number)
-}
-
-/// The id of a face among pairs of face and id, which are in order of face. A search by halves.
-pub fn told_in(pairs: &[(u32, TokenId)], face: u32) -> Option<TokenId>
-    requires { AreRising pairs.now }
-    ensures { result ≡ id_of face pairs.now }
-{
-    match place_of(pairs, &face) {
-        Ok(place) => Some(pairs[place].1),
-        Err(_) => None,
-    }
 }
 
 /// Whether the face holds an interest in the expression's tokens.
@@ -91,33 +78,33 @@ pub fn is_routed<K: Key>(g: &GatewayState<K>, f: &FaceState<K>) -> bool
 }
 
 /// Whether a face that seeks an expression is told of a token of it that was declared in the region
-/// `source`. The face was told the expression under the id `told`, or not at all.
+/// `source`. The face was told the expression under the id `known`, or not at all.
 pub fn is_seeker_told<K: Key>(
     g: &GatewayState<K>,
     source: Region,
     f: &FaceState<K>,
-    told: Option<TokenId>,
+    known: Option<TokenId>,
 ) -> bool
-    ensures { result ≡ is_seeker_told g.now source f.now told }
+    ensures { result ≡ is_seeker_told g.now source f.now known }
 {
     !is_routed(g, f)
         && g.admission().admits(source, f.region())
         && shows(f.region(), source)
-        && told.is_none()
+        && known.is_none()
 }
 
 /// Whether the face is told of a token of the expression that was declared in the region `source`.
-/// It was told the expression under the id `told`, or not at all.
+/// It was told the expression under the id `known`, or not at all.
 pub fn is_told<K: Key>(
     g: &GatewayState<K>,
     source: Region,
     expr: &K,
     f: &FaceState<K>,
-    told: Option<TokenId>,
+    known: Option<TokenId>,
 ) -> bool
-    ensures { result ≡ is_told_by K.matching g.now source expr.now f.now told }
+    ensures { result ≡ is_told_by K.matching g.now source expr.now f.now known }
 {
-    is_seeker_told(g, source, f, told) && seeks(f, expr)
+    is_seeker_told(g, source, f, known) && seeks(f, expr)
 }
 
 /// Of regions those whose tokens faces of this region are shown.

@@ -4,13 +4,14 @@ ghost use Rattle.zt_model.specs.Telling.{tell};
 ghost use Rattle.zt_told.specs.Told.{AreRising};
 ghost use Rattle.zt_tokens.specs.Seeking.{declared_to};
 
-use crate::questions::{is_seeker_told, is_told, told_in};
+use crate::questions::{is_seeker_told, is_told};
 use crate::walking::{FaceRule, say_at, say_each};
 use std::alloc::Global;
 use zt_keys::{Key, Memory};
 use zt_protocol::{Message, TokenId};
 use zt_region::Region;
 use zt_state::{FaceState, GatewayState};
+use zt_told::id_in;
 
 // Adds the declaration of a token of the expression.
 fn declare_to<K: Key>(
@@ -43,9 +44,9 @@ struct Tells<'a, K: Key> {
 }
 
 impl<'a, K: Key> FaceRule<K> for Tells<'a, K> {
-    ghost use Rattle.zt_tokens.specs.Seeking.{tell_by};
+    ghost use Rattle.zt_tokens.specs.Seeking.{tell_among};
 
-    ghost given = { λ t g. tell_by K.matching g t.source t.expr.now t.told.now };
+    ghost given = { λ t g. tell_among K.matching g t.source t.expr.now t.told.now };
 
     fn say(
         &self,
@@ -54,8 +55,8 @@ impl<'a, K: Key> FaceRule<K> for Tells<'a, K> {
         f: &FaceState<K>,
         sends: &mut Vec<(u32, Message<K>)>,
     ) -> Result<(), Memory> {
-        let told = told_in(self.told, f.number());
-        if is_told(g, self.source, self.expr, f, told) {
+        let known = id_in(self.told, f.number());
+        if is_told(g, self.source, self.expr, f, known) {
             declare_to(alloc, self.expr, f, sends)?;
         }
         Ok(())
@@ -83,8 +84,8 @@ impl<'a, K: Key> FaceRule<K> for TellsSeeker<'a, K> {
         f: &FaceState<K>,
         sends: &mut Vec<(u32, Message<K>)>,
     ) -> Result<(), Memory> {
-        let told = told_in(self.told, f.number());
-        if is_seeker_told(g, self.source, f, told) {
+        let known = id_in(self.told, f.number());
+        if is_seeker_told(g, self.source, f, known) {
             declare_to(alloc, self.expr, f, sends)?;
         }
         Ok(())

@@ -9,14 +9,15 @@ use std::cmp::Ordering;
 use std::marker::Model;
 use std::slice;
 use zt_keys::Memory;
-use zt_ordered::place_of;
+use zt_ordered::place_of_number;
 
-// The id of the face. A search by halves.
-fn find_in(pairs: &[(u32, u32)], face: u32) -> Option<u32>
+/// The id of a face among pairs of face and id, which are in order of face. Found at once where
+/// faces follow one another, else by halves.
+pub fn id_in(pairs: &[(u32, u32)], face: u32) -> Option<u32>
     requires { AreRising pairs.now }
     ensures { result ≡ id_of face pairs.now }
 {
-    match place_of(pairs, &face) {
+    match place_of_number(pairs, face) {
         Ok(place) => Some(pairs[place].1),
         Err(_) => None,
     }
@@ -92,11 +93,11 @@ impl ToldFaces {
         }
     }
 
-    /// The id under which the face was told. A search by halves.
+    /// The id under which the face was told.
     pub(crate) fn id_of(&self, face: u32) -> Option<u32>
         ensures { result ≡ id_of face self.now }
     {
-        find_in(self.as_slice(), face)
+        id_in(self.as_slice(), face)
     }
 
     /// Whether there is no face.

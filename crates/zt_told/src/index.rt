@@ -130,8 +130,8 @@ impl<K: Key> ToldIndex<K> {
         pairs_at(&self.faces, expr)
     }
 
-    /// The id under which the face was told the expression, if it was. A look-up, and a search by
-    /// halves.
+    /// The id under which the face was told the expression, if it was. A look-up, and a search
+    /// among the faces that were told it.
     pub fn id_at(&self, expr: &K, face: u32) -> Option<u32>
         ensures { result ≡ id_of face (told_at K.cmp expr.now self.now) }
     {
@@ -170,7 +170,7 @@ impl<K: Key> ToldIndex<K> {
     pub fn copy(&self, alloc: Global) -> Result<Self, Memory>
         ensures { IfOk result (λ copy. copy ≡ self.now) }
     {
-        let mut faces = HashMap::new(alloc);
+        let mut faces = HashMap::with_capacity(alloc, self.faces.len())?;
         for (expr, told) in &self.faces {
             let copy = told.copy(alloc)?;
             put_faces(alloc, &mut faces, expr, copy)?;

@@ -1,6 +1,6 @@
 // Many faces, of which the first ones mostly go first.
 ghost use Rattle.std.specs.List.{remove};
-ghost use Rattle.std.specs.Prelude.{◌≡◌, ℕ, ◌<◌, ◌++◌, ◌∷◌, [], length, true, None};
+ghost use Rattle.std.specs.Prelude.{◌≡◌, ◌<◌, ◌∷◌, [], length};
 ghost use Rattle.std.specs.Prelude.{IfOk, OnErr, OnOk};
 ghost use Rattle.zt_told.specs.Told.{AreRising, id_of, with_face, without_face};
 
@@ -8,27 +8,14 @@ use std::alloc::Global;
 use std::marker::Model;
 use std::mem;
 use zt_keys::Memory;
-use zt_ordered::place_of;
+use zt_ordered::place_of_number;
 
 // So many pairs that are gone are left alone.
 const FEW: usize = 16;
 
-// Whether the face is above those of all pairs, so that its pair goes behind them.
-fn is_above(pairs: &[(u32, u32)], face: u32) -> bool
-    requires { AreRising pairs.now }
-    ensures behind { result ≡ true → (id : ℕ) →
-        with_face face id pairs.now ≡ pairs.now ++ (face, id) ∷ [] }
-    ensures unknown { result ≡ true → id_of face pairs.now ≡ None }
-{
-    match pairs.last() {
-        None => true,
-        Some(last) => last.0 < face,
-    }
-}
-
-/// Pairs of face and id in order of face, each face once. The first pair stays in its place when it
-/// goes, as one that is gone, so that the others don't move. Those that are gone are dropped at
-/// once when they are most.
+/// Pairs of face and id in order of face, each face once. A first pair that goes keeps its place,
+/// counted as gone, so that the others don't move. When most places are of such pairs, these are
+/// dropped at once.
 #[derive(Drop)]
 pub(crate) struct Many {
     pairs: Vec<(u32, u32)>,
@@ -63,19 +50,14 @@ impl Many {
     }
 
     /// The face with the id, in its place. It answers the id that the face had, if it had one.
-    /// Faces mostly come in order, so the end is tried first. The only error is want of memory, and
-    /// then the pairs stay.
+    /// The only error is want of memory, and then the pairs stay.
     pub(crate) fn put(&mut self, face: u32, id: u32) -> Result<Option<u32>, Memory>
         requires { AreRising self.old }
         ensures ok { OnOk result (self.new ≡ with_face face id self.old) }
         ensures known { IfOk result (λ known. known ≡ id_of face self.old) }
         ensures err { OnErr result (self.new ≡ self.old) }
     {
-        if is_above(self.as_slice(), face) {
-            self.pairs.push((face, id))?;
-            return Ok(None);
-        }
-        match place_of(self.as_slice(), &face) {
+        match place_of_number(self.as_slice(), face) {
             Ok(place) => Ok(Some(mem::replace(&mut self.pairs[self.gone + place].1, id))),
             Err(place) => {
                 self.pairs.insert(self.gone + place, (face, id))?;
@@ -89,7 +71,7 @@ impl Many {
         requires { AreRising self.old }
         ensures { self.new ≡ without_face face self.old }
     {
-        if let Ok(place) = place_of(self.as_slice(), &face) {
+        if let Ok(place) = place_of_number(self.as_slice(), face) {
             self.remove_at(place);
             self.tidy();
         }

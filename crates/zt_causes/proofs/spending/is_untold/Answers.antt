@@ -7,6 +7,6 @@ turned a true h = rw h refl
 turned a false h = rw h refl
 
 pub returns : goal.returns
-returns g c =
-    let told = rw c.requires at c.told_id.ensures in
-    turned _ c.is_none.result (sym (ap is_some told ∙ told_is_some g.K.Ord.cmp c.args.expr.now c.args.f.now.told) ∙ c.is_none.ensures)
+returns g c = λ f open_.
+    let told = rw open_ at c.told_id.ensures in
+    turned _ c.is_none.result (sym (ap is_some told ∙ told_is_some g.K.Ord.cmp c.args.expr.now f.told) ∙ c.is_none.ensures)

@@ -1,7 +1,7 @@
 use Rattle.std.proofs.Common.{ℕ, ap, ◌∙◌}
 use Rattle.std.specs.FinMap.Entries.{put}
 use Rattle.std.specs.Ordering.{nat_cmp}
-use Rattle.zt_face.proofs.ById.{copied_more}
+use Rattle.zt_rows.proofs.ById.{copied_more}
 use Rattle.zt_face.proofs.copying.copy_rows.Goals as goal
 
 pub loop-id-preserved : goal.loop-id-preserved

@@ -1,7 +1,7 @@
 use Rattle.std.proofs.Common.{map, ◌∙◌}
 use Rattle.std.proofs.lemmas.Result.{IfOk-weaker}
-use Rattle.zt_face.specs.Places.{rows_in}
-use Rattle.zt_face.proofs.Places.{last-empty, last-row, none-left}
+use Rattle.zt_rows.specs.Places.{rows_in}
+use Rattle.zt_rows.proofs.Places.{last-empty, last-row, none-left}
 use Rattle.zt_tokens.proofs.Gathering.{in_key_order_is, with_keys-last}
 use Rattle.zt_interests.proofs.untelling.told_in_order.Goals as goal
 

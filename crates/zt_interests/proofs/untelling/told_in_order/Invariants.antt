@@ -1,5 +1,5 @@
 use Rattle.std.proofs.Common.{◌≡◌, [], map}
-use Rattle.zt_face.specs.Places.{rows_in}
+use Rattle.zt_rows.specs.Places.{rows_in}
 use Rattle.zt_tokens.specs.Gathered.{with_keys}
 use Rattle.zt_interests.proofs.untelling.told_in_order.Given as goal
 

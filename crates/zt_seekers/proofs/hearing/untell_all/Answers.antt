@@ -1,6 +1,6 @@
 use Rattle.std.proofs.Common.{◌+◌, drop, arith}
-use Rattle.zt_face.proofs.Places.{left-done, left-empty, left-row}
-use Rattle.zt_face.specs.Places.{rows_in}
+use Rattle.zt_rows.proofs.Places.{left-done, left-empty, left-row}
+use Rattle.zt_rows.specs.Places.{rows_in}
 use Rattle.zt_seekers.proofs.Retold.{leaves-all, leaves-less, leaves-none}
 use Rattle.zt_seekers.proofs.hearing.untell_all.Goals.{in-Some, in_default}
 use Rattle.zt_seekers.proofs.hearing.untell_all.Goals as goal

@@ -1,5 +1,5 @@
 use Rattle.std.proofs.Common.{drop}
-use Rattle.zt_face.specs.Places.{rows_in}
+use Rattle.zt_rows.specs.Places.{rows_in}
 use Rattle.zt_seekers.proofs.Retold.{LeavesFound}
 use Rattle.zt_seekers.proofs.hearing.untell_all.Given as goal
 

@@ -4,7 +4,7 @@ use Rattle.std.specs.List.Sorted.{IsStrictlySortedBy}
 use Rattle.std.specs.Map.{keys_of}
 use Rattle.std.specs.Ordering.{nat_cmp}
 use Rattle.std.specs.declared.cmp.Ordering.TheVariants.{Less}
-use Rattle.zt_face.specs.Told.{IsInOrder}
+use Rattle.zt_rows.specs.ById.{IsInOrder}
 use Rattle.zt_interest_index.specs.Holders.{IsIndexOf}
 use Rattle.zt_model.specs.Rows.{ById, InterestRow}
 use Rattle.zt_seekers.specs.Seekers.{token_rows}

@@ -1,6 +1,6 @@
 use Rattle.std.proofs.Common.{◌≡◌, Some, filter, flat_map, List}
 use Rattle.std.specs.List.{AllByRecursion}
-use Rattle.zt_face.specs.Told.{IsInOrder}
+use Rattle.zt_rows.specs.ById.{IsInOrder}
 use Rattle.zt_interest_index.specs.Holders.{IsIndexOf}
 use Rattle.zt_model.specs.Lists.{at_id}
 use Rattle.zt_model.specs.Rows.{Face}

@@ -4,7 +4,7 @@ use Rattle.zt_model.specs.Routing.{asked_as}
 use Rattle.zt_model.specs.Rows.{Face}
 use Rattle.zt_seekers.specs.Seekers.{AreSeekers}
 use Rattle.zt_state.proofs.Recounted.{not-found}
-use Rattle.zt_state.proofs.Rising.{none-changed}
+use Rattle.zt_faces.proofs.Rising.{none-changed}
 use Rattle.zt_state.proofs.Sought.{sought-changed}
 use Rattle.zt_state.proofs.asking.ask_in.Goals as goal
 

@@ -2,7 +2,7 @@ use Rattle.std.proofs.Common.{sym}
 use Rattle.zt_model.specs.Routing.{unheld}
 use Rattle.zt_model.specs.Rows.{Face}
 use Rattle.zt_state.proofs.Recounted.{not-found}
-use Rattle.zt_state.proofs.Rising.{none-changed}
+use Rattle.zt_faces.proofs.Rising.{none-changed}
 use Rattle.zt_state.proofs.Sought.{sought-changed}
 use Rattle.zt_state.proofs.asking.unhold_in.Goals as goal
 

@@ -5,7 +5,7 @@ use Rattle.zt_model.specs.Hearing.{heard}
 use Rattle.zt_model.specs.Rows.{Face}
 use Rattle.zt_seekers.specs.Seekers.{AreSeekers}
 use Rattle.zt_state.proofs.Recounted.{not-found}
-use Rattle.zt_state.proofs.Rising.{none-changed}
+use Rattle.zt_faces.proofs.Rising.{none-changed}
 use Rattle.zt_state.proofs.Sought.{known-heard, sought-changed}
 use Rattle.zt_state.proofs.hearing.hear_in.Goals as goal
 

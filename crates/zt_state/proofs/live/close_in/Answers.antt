@@ -1,7 +1,7 @@
 use Rattle.std.proofs.Common.{sym}
 use Rattle.zt_model.specs.Rows.{Face}
 use Rattle.zt_state.proofs.Recounted.{face-gone, not-found}
-use Rattle.zt_state.proofs.Rising.{none-dropped}
+use Rattle.zt_faces.proofs.Rising.{none-dropped}
 use Rattle.zt_state.proofs.Sought.{sought-closed}
 use Rattle.zt_state.proofs.live.close_in.Goals as goal
 

@@ -6,7 +6,7 @@ use Rattle.zt_model.specs.Telling.{registered}
 use Rattle.zt_model.specs.Visible.{rows_of_face}
 use Rattle.zt_state.specs.Indexed.{HasLiveInOrder}
 use Rattle.zt_state.proofs.Recounted.{all-found, face-recounted, not-found}
-use Rattle.zt_state.proofs.Rising.{none-changed}
+use Rattle.zt_faces.proofs.Rising.{none-changed}
 use Rattle.zt_state.proofs.live.register_in.Goals as goal
 
 pub returns-in_default-clause-faces : goal.returns-in_default-clause-faces

@@ -3,7 +3,7 @@ use Rattle.zt_model.specs.Rows.{Face}
 use Rattle.zt_model.specs.Telling.{unregistered}
 use Rattle.zt_state.specs.Indexed.{HasLiveInOrder}
 use Rattle.zt_state.proofs.Recounted.{all-found, face-recounted, not-found}
-use Rattle.zt_state.proofs.Rising.{none-changed}
+use Rattle.zt_faces.proofs.Rising.{none-changed}
 use Rattle.zt_state.proofs.live.unregister_in.Goals as goal
 
 pub returns-in_default-clause-faces : goal.returns-in_default-clause-faces

@@ -4,7 +4,7 @@ use Rattle.zt_told.specs.Told.{id_of}
 use Rattle.zt_model.specs.Parts.{told_id}
 use Rattle.zt_model.specs.Telling.{tell_to}
 use Rattle.zt_model.specs.Wants.{seeks}
-use Rattle.zt_tokens.specs.Seeking.{tell_by, tell_seeker}
+use Rattle.zt_tokens.specs.Seeking.{tell_among, tell_seeker}
 use Rattle.zt_tokens.specs.Walks.{given_at, sent_to}
 use Rattle.zt_tokens.proofs.Chosen.{chosen_alike, each-then, each_alike, everywhere}
 use Rattle.zt_tokens.proofs.Unsought.{sought-told, tells-by, unsought-untold}
@@ -39,7 +39,7 @@ returns-in-None g c =
     let source = c.args.source in
     let pairs = c.told_at-told.result.now in
     let rule = tell_to cmp matching rows source e in
-    let by = tell_by matching rows source e pairs in
+    let by = tell_among matching rows source e pairs in
     IfOk-weaker c.say_each.result _ _
     (λ sends given.
     given

@@ -3,8 +3,9 @@ use Rattle.std.specs.FinMap.Entries.{put}
 use Rattle.std.specs.HashMap.{get}
 use Rattle.std.specs.Ordering.{nat_cmp}
 use Rattle.zt_face.specs.Locals.{asked_eq}
-use Rattle.zt_face.specs.Told.{IsInOrder}
-use Rattle.zt_face.proofs.Found.{found_added, found_same, put_undone}
+use Rattle.zt_rows.specs.ById.{IsInOrder}
+use Rattle.zt_face.proofs.Found.{found_added, found_same}
+use Rattle.zt_rows.proofs.Found.{put_undone}
 use Rattle.zt_model.specs.Lists.{at_id, without_id}
 use Rattle.zt_face.proofs.local_interests.LocalInterests.add.Goals as goal
 

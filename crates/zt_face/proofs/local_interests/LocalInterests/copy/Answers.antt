@@ -1,7 +1,7 @@
 use Rattle.std.proofs.Common.{ℕ, ap, ◌∙◌}
 use Rattle.std.specs.FinMap.Entries.{put}
 use Rattle.std.specs.Ordering.{nat_cmp}
-use Rattle.zt_face.proofs.ById.{copied_more}
+use Rattle.zt_rows.proofs.ById.{copied_more}
 use Rattle.zt_model.specs.Rows.{InterestRow}
 use Rattle.zt_face.proofs.local_interests.LocalInterests.copy.Goals as goal
 

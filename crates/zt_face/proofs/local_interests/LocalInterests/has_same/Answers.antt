@@ -4,7 +4,8 @@ use Rattle.std.specs.List.Sorted.{IsStrictlySortedBy}
 use Rattle.std.specs.Ordering.{nat_cmp}
 use Rattle.zt_face.specs.Ids.{ids_under}
 use Rattle.zt_face.specs.Locals.{asked_by, asked_eq}
-use Rattle.zt_face.proofs.Found.{found_ids, some_pass}
+use Rattle.zt_face.proofs.Found.{found_ids}
+use Rattle.zt_rows.proofs.Found.{some_pass}
 use Rattle.zt_model.specs.Routing.{asks_same}
 use Rattle.zt_face.proofs.local_interests.LocalInterests.has_same.Goals as goal
 

@@ -2,7 +2,7 @@ use Rattle.std.proofs.Common.{None, ap, eq-eqb, if◌then◌else◌, refl, ◌�
 use Rattle.std.proofs.lemmas.Result.{on_ok_weaker}
 use Rattle.std.specs.FinMap.Entries.{put}
 use Rattle.std.specs.Ordering.{nat_cmp}
-use Rattle.zt_face.proofs.Found.{at_without, put_again}
+use Rattle.zt_rows.proofs.Found.{at_without, put_again}
 use Rattle.zt_model.specs.Lists.{at_id}
 use Rattle.zt_face.proofs.local_interests.LocalInterests.put.Goals as goal
 

@@ -1,5 +1,5 @@
 use Rattle.std.proofs.Common.{◌++◌, append_assoc, ap, sym, ◌∙◌}
-use Rattle.zt_face.proofs.Places.{left-empty, left-row}
+use Rattle.zt_rows.proofs.Places.{left-empty, left-row}
 use Rattle.zt_face.proofs.local_tokens.LocalTokens.copy.Goals.{in-Some+in_ok-copy+in_ok-push, in_default}
 use Rattle.zt_face.proofs.local_tokens.LocalTokens.copy.Goals as goal
 

@@ -1,5 +1,5 @@
 use Rattle.std.proofs.Common.{◌≡◌, ◌++◌, drop}
-use Rattle.zt_face.specs.Places.{rows_in}
+use Rattle.zt_rows.specs.Places.{rows_in}
 use Rattle.zt_face.proofs.local_tokens.LocalTokens.copy.Given as goal
 
 -- those so far and those left are all

@@ -4,7 +4,7 @@ use Rattle.std.specs.BTreeMap.{is_at}
 use Rattle.std.specs.Map.{keys_of, lookup}
 use Rattle.std.specs.Ordering.{eq_by_cmp}
 use Rattle.zt_keys.specs.declared.anchor.Anchor.TheVariants.{Whole}
-use Rattle.zt_indexes.specs.Grouped.{grouped-grown, grouped-more, grouped-none, key-with}
+use Rattle.zt_indexes.specs.Grouped.{key-with}
 use Rattle.zt_indexes.specs.Wild.{wild-more, wild-none}
 use Rattle.zt_indexes.proofs.Copied.{one-copied, or-none}
 use Rattle.zt_indexes.proofs.Hashed.{distinct-tied_by}
@@ -17,10 +17,9 @@ loop-expr-init g c =
     record {
       distinct = rw gives.0 (distinct-tied_by g.K.Ord.cmp g.met.K.Ord.matches_eq _ gives.4);
       found = λ q.
-          rw (c.new-keys.ensures.empty, gives.0, ← c.self.view_is)
+          rw (c.in_ok-keys.ensures.empty, gives.0, ← c.self.view_is)
           (or-none (lookup (is_at (g.K.Ord.cmp q)) c.self.inside.keys.entries) ∙ sym (ordered-found g.K.Ord.cmp g.met.K.Ord.total q c.self.inside.keys.entries));
-      grouped = rw (c.new-keys.ensures.empty, c.new-firsts.ensures, c.new-lasts.ensures) (grouped-none g.K.Ord.cmp g.K.Key.anchored);
-      wild = rw (c.new-keys.ensures.empty, c.new-wilds.ensures) (wild-none g.K.Ord.cmp (g.K.Key.anchored Whole));
+      wild = rw (c.in_ok-keys.ensures.empty, c.new-wilds.ensures) (wild-none g.K.Ord.cmp (g.K.Key.anchored Whole));
     }
 
 pub loop-expr-preserved : goal.loop-expr-preserved
@@ -31,16 +30,11 @@ loop-expr-preserved g c =
     let expr = c.in-Some.expr.now in
     let before = c.loop-expr.keys.entries in
     let after = c.put_copy.new.keys.entries in
-    let firsts = c.put_at_anchors.new.firsts in
-    let lasts = c.put_at_anchors.new.lasts in
     let with = c.in_ok-put_copy.ensures in
     let more = key-with cmp expr c.in-Some.counts.now before after with in
     record {
       distinct = IsDistinct-tail (eq_by_cmp cmp) expr (keys_of c.next.new.self) distinct;
       found = λ q. one-copied cmp g.met.K.Ord.total (c.in-Some.expr.now, c.in-Some.counts.now) c.next.new.self before after distinct with q ∙ rw step at (c.loop-expr.invariant.found q);
-      grouped = grouped-more cmp g.K.Key.anchored g.met.K.Key.laws.equal_is_same expr firsts lasts before after
-          (grouped-grown cmp g.K.Key.anchored c.loop-expr.firsts firsts c.loop-expr.lasts lasts before c.loop-expr.invariant.grouped c.put_at_anchors.ensures.first c.put_at_anchors.ensures.last)
-          c.in_ok-put_at_anchors.ensures.at_first c.in_ok-put_at_anchors.ensures.at_last more;
       wild = wild-more cmp (g.K.Key.anchored Whole) g.met.K.Key.laws.equal_is_same expr c.loop-expr.wilds c.put_wild.new.wilds before after c.loop-expr.invariant.wild c.in_ok-put_wild.ensures.ok more;
     }
 

@@ -4,7 +4,6 @@ use Rattle.std.specs.List.{IsDistinct}
 use Rattle.std.specs.Map.{keys_of, lookup}
 use Rattle.std.specs.Ordering.{eq_by_cmp}
 use Rattle.zt_keys.specs.declared.anchor.Anchor.TheVariants.{Whole}
-use Rattle.zt_indexes.specs.Grouped.{AreGrouped}
 use Rattle.zt_indexes.specs.Wild.{HoldsWild}
 use Rattle.zt_indexes.proofs.Copied.{found_either}
 use Rattle.zt_indexes.proofs.live.LiveCounts.copy.Given as goal
@@ -14,6 +13,5 @@ abbrev pub invariant-loop-expr : goal.invariant-loop-expr
 invariant-loop-expr g l = record {
   distinct : IsDistinct (eq_by_cmp g.K.Ord.cmp) (keys_of l.expr-iterator);
   found : (q : g.row.K.Denot) → found_either g.K.Ord.cmp q l.expr-iterator l.keys.entries ≡ lookup (is_at (g.K.Ord.cmp q)) l.self;
-  grouped : AreGrouped g.K.Ord.cmp g.K.Key.anchored l.firsts l.lasts l.keys.entries;
   wild : HoldsWild g.K.Ord.cmp (g.K.Key.anchored Whole) l.wilds l.keys.entries;
 }

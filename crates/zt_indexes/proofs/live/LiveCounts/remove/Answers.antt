@@ -1,6 +1,6 @@
 use Rattle.std.proofs.Common.{inr}
 use Rattle.zt_keys.specs.declared.anchor.Anchor.TheVariants.{Whole}
-use Rattle.zt_indexes.specs.Grouped.{grouped-less, grouped-same}
+use Rattle.zt_indexes.specs.Anchored.{groups-same}
 use Rattle.zt_indexes.specs.Wild.{wild-less, wild-same}
 use Rattle.zt_indexes.proofs.Less.{key-gone, less-dropped}
 use Rattle.zt_indexes.proofs.Ordered.{ordered-less, ordered-tidy}
@@ -44,9 +44,7 @@ invariant_of-self g c =
     let less = c.lessen.new.keys.entries in
     let new = c.drop_key.new.keys.entries in
     record {
-      grouped = grouped-less cmp anchored expr own.firsts c.remove.new.self own.lasts c.remove-then-lessen.new.self less new
-          (grouped-same cmp anchored own.firsts own.lasts old less c.self.invariant.grouped c.lessen.ensures.stay)
-          c.remove.ensures c.remove-then-lessen.ensures c.drop_key.ensures;
+      grouped = c.drop_anchored.ensures less new (groups-same cmp anchored own.anchored old less c.self.invariant.grouped c.lessen.ensures.stay) c.drop_key.ensures;
       wild = wild-less cmp (anchored Whole) expr own.wilds c.drop_wild.new.wilds less new
           (wild-same cmp (anchored Whole) own.wilds old less c.self.invariant.wild c.lessen.ensures.stay)
           c.drop_wild.ensures c.drop_key.ensures;

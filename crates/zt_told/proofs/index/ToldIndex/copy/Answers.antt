@@ -14,7 +14,7 @@ loop-expr-init g c =
     record {
       distinct = rw gives.0 (distinct-tied_by g.K.Ord.cmp g.met.K.Ord.matches_eq _ gives.4);
       found = λ q.
-          rw (c.new-faces.ensures.empty, gives.0, ← c.self.view_is)
+          rw (c.in_ok-faces.ensures.empty, gives.0, ← c.self.view_is)
           (or-none (lookup (is_at (g.K.Ord.cmp q)) c.self.inside.faces.entries) ∙ sym (ordered-found g.K.Ord.cmp g.met.K.Ord.total q c.self.inside.faces.entries));
     }
 

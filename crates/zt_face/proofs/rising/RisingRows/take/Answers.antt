@@ -1,8 +1,0 @@
-use Rattle.zt_face.proofs.Places.{ordered-in}
-use Rattle.zt_face.proofs.rising.RisingRows.take.Goals as goal
-
-pub returns-then-is_some-clause-ordered : goal.returns-then-is_some-clause-ordered
-returns-then-is_some-clause-ordered g c = rw (← c.self.view_is) (ordered-in c.self.inside.places.items c.self.invariant)
-
-pub returns-else-is_some-clause-ordered : goal.returns-else-is_some-clause-ordered
-returns-else-is_some-clause-ordered g c = rw (← c.self.view_is) (ordered-in c.self.inside.places.items c.self.invariant)

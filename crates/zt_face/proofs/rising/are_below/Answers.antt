@@ -1,9 +1,0 @@
-use Rattle.std.proofs.Common.{Some, sym}
-use Rattle.std.proofs.lemmas.Bool.{ltb-true}
-use Rattle.zt_face.proofs.Places.{behind-last, pushed-rising}
-use Rattle.zt_face.proofs.rising.are_below.Goals as goal
-
-pub returns-in-Some : goal.returns-in-Some
-returns-in-Some g c = λ above row.
-    let places = c.args.places.now in
-    pushed-rising c.args.id (Some row) places c.requires (behind-last c.args.id places c.in-Some.last.now c.requires (sym c.in-Some.ensures.value) (ltb-true _ _ above))

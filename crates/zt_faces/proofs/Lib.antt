@@ -1,0 +1,2 @@
+mod Highest
+pub mod Rising

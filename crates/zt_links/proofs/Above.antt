@@ -1,0 +1,32 @@
+-- The gateway above a client gateway, by its first face to the north.
+use Rattle.std.proofs.Common.{◌≡◌, ℕ, true, if◌then◌else◌, Option, Some, None, option_map, ap, sym, ◌∙◌}
+use Rattle.zt_region.specs.Region.{is_north, whatami_eq}
+use Rattle.zt_region.specs.declared.region.WhatAmI.TheVariants.{Client}
+use Rattle.zt_model.specs.Fabric.{Fabric, Node, number_of_place}
+use Rattle.zt_model.specs.Linking.{gateway_above, gateway_beyond}
+use Rattle.zt_model.specs.Lists.{first_where, nth}
+use Rattle.zt_model.specs.Rows.{Face}
+
+some-same : (a b : ℕ) → Some a ≡ Some b → a ≡ b
+some-same a b h = cc
+
+module _ {K : Type 0} (s : Fabric K) (n : ℕ) where
+  abbrev beyond-first : Option (Face K) → Option ℕ
+  beyond-first None = None
+  beyond-first (Some f) = gateway_beyond s (number_of_place s n f.number)
+
+  abbrev above-of : Option (Node K) → Option ℕ
+  above-of None = None
+  above-of (Some node) = if whatami_eq node.rows.mode Client then beyond-first (first_where (λ f. is_north f.region) node.rows.faces) else None
+
+  first-is : (face : ℕ) (found : Option (Face K)) → Some face ≡ option_map (λ f. f.number) found → gateway_beyond s (number_of_place s n face) ≡ beyond-first found
+  first-is face None absent = cc
+  first-is face (Some f) is = ap (λ k. gateway_beyond s (number_of_place s n k)) (some-same face f.number is)
+
+  pub above_is : (face : ℕ) (node : Node K) → nth n s.gateways ≡ Some node → whatami_eq node.rows.mode Client ≡ true
+      → Some face ≡ option_map (λ f. f.number) (first_where (λ f. is_north f.region) node.rows.faces) → gateway_beyond s (number_of_place s n face) ≡ gateway_above s n
+  above_is face node at client first =
+      let found = first_where (λ f. is_north f.region) node.rows.faces in
+      first-is face found first
+      ∙ sym (ap (λ b. if b then beyond-first found else None) client)
+      ∙ sym (ap above-of at)

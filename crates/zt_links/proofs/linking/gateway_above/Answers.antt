@@ -1,0 +1,22 @@
+use Rattle.std.proofs.Common.{◌≡◌, ap, option_map, rules, sym, true, ◌∙◌}
+use Rattle.zt_region.specs.Region.{is_north, whatami_eq}
+use Rattle.zt_region.specs.declared.region.WhatAmI.TheVariants.{Client}
+use Rattle.zt_model.specs.Fabric.{number_from}
+use Rattle.zt_model.specs.Linking.{gateway_beyond}
+use Rattle.zt_model.specs.Lists.{first_where, nth}
+use Rattle.zt_model.specs.Rows.{Rows}
+use Rattle.zt_links.proofs.Above.{above_is}
+use Rattle.zt_links.proofs.linking.gateway_above.Goals as goal
+
+pub returns-in-Some-north_face : goal.returns-in-Some-north_face
+returns-in-Some-north_face g c =
+    let s = c.args.s.now in
+    let node = c.in-Some.node.now in
+    let kept = c.in_ok-rows.ensures in
+    let client : whatami_eq c.mode.result Client ≡ true = search rules in
+    c.gateway_beyond.ensures
+    ∙ ap (gateway_beyond s) (c.number.ensures ∙ ap (number_from 1 c.args.gateway c.in-Some-north_face.face) c.places.ensures)
+    ∙ above_is s c.args.gateway c.in-Some-north_face.face node
+    (ap (nth c.args.gateway) (sym c.gateways.ensures) ∙ sym c.in-Some.ensures)
+    (ap (λ m. whatami_eq m Client) (sym (c.mode.ensures ∙ ap (λ (r : Rows g.row.K.Denot). r.mode) kept)) ∙ client)
+    (c.in-Some-north_face.ensures ∙ ap (λ (r : Rows g.row.K.Denot). option_map (λ f. f.number) (first_where (λ f. is_north f.region) r.faces)) kept)

@@ -1,0 +1,6 @@
+use Rattle.std.proofs.Common.{◌∙◌}
+use Rattle.zt_rows.proofs.ById.{at_is}
+use Rattle.zt_rows.proofs.rows.RowsById.at.Goals as goal
+
+pub returns : goal.returns
+returns g c = rw (← c.self.view_is) (c.get.ensures.value ∙ at_is c.args.id c.self.inside.rows.entries)
