@@ -16,7 +16,7 @@ mod turning;
 pub use carrying::{carry_at, next_face, open_at, take_message};
 pub use gateways::{add_gateway, peer_of};
 pub use links::{is_linked_face, is_open_link, oldest, sending_end, speaking_end};
-pub use places::{member_at, place_of_number};
+pub use places::{member_at, member_place};
 pub use sorting::sort_by_face;
 pub use state::{FabricState, NodeState};
 pub use turning::{Turned, hear_call, undo, undo_opening};

@@ -4,7 +4,7 @@ ghost use Rattle.std.specs.Option.{option_copied};
 ghost use Rattle.zt_model.specs.Lists.{nth};
 
 /// The place of the member of a number, counted from 1, where there is one.
-pub fn place_of_number<A>(members: &[A], number: u32) -> Option<usize>
+pub fn member_place<A>(members: &[A], number: u32) -> Option<usize>
     ensures within { IfSome result (λ place. place < length members.now) }
     ensures counted { IfSome result (λ place. number ≡ place + 1) }
     ensures found { IfSome result
@@ -22,7 +22,7 @@ pub fn place_of_number<A>(members: &[A], number: u32) -> Option<usize>
 pub fn member_at<A>(members: &[A], number: u32) -> Option<&A>
     ensures { option_copied result ≡ nth number members.now }
 {
-    match place_of_number(members, number) {
+    match member_place(members, number) {
         None => None,
         Some(place) => Some(&members[place]),
     }

@@ -7,7 +7,7 @@ ghost use Rattle.zt_laws.specs.Sound.{rows_after_call};
 ghost use Rattle.zt_places.specs.Found.{AreBelow};
 ghost use Rattle.zt_fabric_state.specs.Changes.{undone, without_last_place};
 
-use crate::places::place_of_number;
+use crate::places::member_place;
 use crate::printing::print_all;
 use crate::state::FabricState;
 use std::alloc::Global;
@@ -42,7 +42,7 @@ pub fn hear_call<K: Key>(
     ensures back { IfOk result (λ turned. undone turned.former turned.gateway s.new ≡ s.old) }
     ensures err { OnErr result (s.new ≡ s.old) }
 {
-    match place_of_number(s.gateways(), gateway) {
+    match member_place(s.gateways(), gateway) {
         None => Ok(Turned {
             gateway,
             former: None,
@@ -78,7 +78,7 @@ pub fn undo<K: Key>(s: &mut FabricState<K>, gateway: u32, former: Option<BoxedSt
 fn put_back<K: Key>(s: &mut FabricState<K>, gateway: u32, rows: BoxedState<K>)
     ensures { s.new ≡ with_rows gateway (λ _. rows) s.old }
 {
-    match place_of_number(s.gateways(), gateway) {
+    match member_place(s.gateways(), gateway) {
         None => {}
         Some(at) => s.put_rows(at, rows),
     }

@@ -99,25 +99,26 @@ impl Duplicate for PendingInterest {
 
 impl<K: Key> Duplicate for FaceState<K> {
     fn duplicate(&self, alloc: Global) -> Result<Self, Memory> {
-        let rows = FaceRows {
-            bound: self.rows.bound,
-            mode: self.rows.mode,
-            zid: self.rows.zid,
-            next: self.rows.next,
-            live: copy_key_rows(alloc, &self.rows.live)?,
-            told: self.rows.told.copy(alloc)?,
-            held: copy_rows(alloc, &self.rows.held)?,
-            locals: self.rows.locals.copy(alloc)?,
-            pendings: copy_rows(alloc, &self.rows.pendings)?,
-            asks: copy_rows(alloc, &self.rows.asks)?,
-            initial: self.rows.initial,
-            subscribers: copy_keys(alloc, self.rows.subscribers.as_slice())?,
-            queryables: copy_queryables(alloc, self.rows.queryables.as_slice())?,
+        let rows = &*self.rows;
+        let copy = FaceRows {
+            bound: rows.bound,
+            mode: rows.mode,
+            zid: rows.zid,
+            next: rows.next,
+            live: copy_key_rows(alloc, &rows.live)?,
+            told: rows.told.copy(alloc)?,
+            held: copy_rows(alloc, &rows.held)?,
+            locals: rows.locals.copy(alloc)?,
+            pendings: copy_rows(alloc, &rows.pendings)?,
+            asks: copy_rows(alloc, &rows.asks)?,
+            initial: rows.initial,
+            subscribers: copy_keys(alloc, rows.subscribers.as_slice())?,
+            queryables: copy_queryables(alloc, rows.queryables.as_slice())?,
         };
         Ok(FaceState {
             number: self.number,
             region: self.region,
-            rows: Box::new(alloc, rows)?,
+            rows: Box::new(alloc, copy)?,
         })
     }
 }

@@ -12,12 +12,11 @@ ghost use Rattle.zt_rows.specs.ById.{IsInOrder};
 use crate::ids::{add_id, drop_id, has_ids, ids_of};
 use crate::interest::RemoteInterest;
 use std::alloc::Global;
-use std::collections::btree_map::Iter;
 use std::collections::{BTreeSet, HashMap};
 use std::marker::Model;
 use zt_keys::{Key, Memory};
 use zt_protocol::InterestOptions;
-use zt_rows::RowsById;
+use zt_rows::{Iter, RowsById};
 
 /// The interests that a face was sent, by id, and found by what they ask for: an expression, or all
 /// keys, with the options.
@@ -58,7 +57,7 @@ impl<K: Key> LocalInterests<K> {
     }
 
     /// The interests, each with its id, in order of id.
-    pub fn iter(&self) -> Iter<'_, u32, RemoteInterest<K>>
+    pub fn iter(&self) -> Iter<'_, RemoteInterest<K>>
         ensures rest { result ≡ self.now }
         ensures runs { ShowsInOrder (deref_pair {K = ℕ} {X = InterestRow K}) }
         ensures ordered { IsInOrder self.now }

@@ -142,7 +142,7 @@ impl<K: Key> Gateway<K> {
 
     /// Carries out a call as `commit` does, one that `prepare` accepted, and keeps a copy of the
     /// call, where memory is there for that. Then the next call copies nothing, unless such calls
-    /// hold twice as much as the gateway had rows when it was copied last, and 64 more.
+    /// have come to hold too much for the rows that there are.
     pub fn commit_call(&mut self, prepared: Prepared<K>, call: &Call<K>) -> Option<u32>
         requires accepted { cause_of K.cmp K.matching (plain_call call.now) self.old.rows ≡ None }
         requires planned { prepared ≡ planned K.cmp K.matching (plain_call call.now) self.old }

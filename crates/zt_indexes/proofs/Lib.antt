@@ -8,5 +8,6 @@ mod InOrder
 mod Kept
 mod Less
 mod Ordered
+mod Regrouped
 mod Seeking
 mod Sets

@@ -4,14 +4,9 @@
 use Rattle.std.specs.Prelude.{ℕ, List, Option, Some, None}
 use Rattle.std.specs.declared.cmp.Ordering.{Ordering}
 use Rattle.zt_keys.specs.declared.anchor.Anchor.{Anchor}
-use Rattle.zt_indexes.specs.Grouped.{AreGrouped, HasSameKeys, grouped-same}
+use Rattle.zt_indexes.specs.Grouped.{AreGrouped}
 
 module _ {K X : Type 0} (cmp : K → K → Ordering) (anchored : Anchor → K → Option ℕ) where
   abbrev pub AreGroupsOf : Option (List (Option ℕ × List K) × List (Option ℕ × List K)) → List (K × X) → Type 0
   AreGroupsOf None entries = Unit
   AreGroupsOf (Some groups) entries = AreGrouped cmp anchored groups.0 groups.1 entries
-
-  -- they stay those where the keys do
-  pub groups-same : (groups : Option (List (Option ℕ × List K) × List (Option ℕ × List K))) (old new : List (K × X)) → AreGroupsOf groups old → HasSameKeys cmp old new → AreGroupsOf groups new
-  groups-same None old new are same = tt
-  groups-same (Some groups) old new are same = grouped-same cmp anchored groups.0 groups.1 old new are same

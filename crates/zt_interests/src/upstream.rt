@@ -48,7 +48,7 @@ fn holds_as<K: Key>(f: &FaceState<K>, id: InterestId, interest: &RemoteInterest<
     ensures { result ≡ list_any (λ row. id == row.0
         && asks_same K.cmp K.matching interest.now row.1) f.now.held }
 {
-    match f.held().find(id) {
+    match f.held().at(id) {
         None => false,
         Some(held) => interest.asks_same(held),
     }

@@ -1,5 +1,5 @@
 -- The gateway above a client gateway, by its first face to the north.
-use Rattle.std.proofs.Common.{◌≡◌, ℕ, true, if◌then◌else◌, Option, Some, None, option_map, ap, sym, ◌∙◌}
+use Rattle.std.proofs.Common.{◌≡◌, ℕ, Bool, true, false, if◌then◌else◌, Option, Some, None, option_map, ap, refl, sym, ◌∙◌}
 use Rattle.zt_region.specs.Region.{is_north, whatami_eq}
 use Rattle.zt_region.specs.declared.region.WhatAmI.TheVariants.{Client}
 use Rattle.zt_model.specs.Fabric.{Fabric, Node, number_of_place}
@@ -30,3 +30,22 @@ module _ {K : Type 0} (s : Fabric K) (n : ℕ) where
       first-is face found first
       ∙ sym (ap (λ b. if b then beyond-first found else None) client)
       ∙ sym (ap above-of at)
+
+  -- none lies above a gateway that is no client
+  pub none_above : (node : Node K) → nth n s.gateways ≡ Some node → whatami_eq node.rows.mode Client ≡ false → None ≡ gateway_above s n
+  none_above node at other =
+      sym (ap above-of at ∙ ap (λ b. if b then beyond-first (first_where (λ f. is_north f.region) node.rows.faces) else None) other)
+
+  none-first : (found : Option (Face K)) → None ≡ option_map (λ f. f.number) found → beyond-first found ≡ None
+  none-first None none = refl
+  none-first (Some f) none = cc
+
+  -- nor above one without a face to the north
+  pub none_north : (node : Node K) → nth n s.gateways ≡ Some node → None ≡ option_map (λ f. f.number) (first_where (λ f. is_north f.region) node.rows.faces) → None ≡ gateway_above s n
+  none_north node at none =
+      let found = first_where (λ f. is_north f.region) node.rows.faces in
+      sym (ap above-of at ∙ either-none (whatami_eq node.rows.mode Client) (beyond-first found) (none-first found none))
+    where
+      either-none : (b : Bool) (o : Option ℕ) → o ≡ None → (if b then o else None) ≡ None
+      either-none true o is = is
+      either-none false o is = refl

@@ -20,7 +20,7 @@ use std::alloc::Global;
 use zt_calls::carry_out;
 use zt_causes::spends_ids;
 use zt_fabric_state::{
-    FabricState, NodeState, Turned, hear_call, member_at, next_face, peer_of, place_of_number,
+    FabricState, NodeState, Turned, hear_call, member_at, member_place, next_face, peer_of,
     sort_by_face, undo_opening,
 };
 use zt_keys::{Key, Memory};
@@ -196,7 +196,7 @@ fn open_end<K: Key>(
         without_last_place (undone turned.former turned.gateway s.new) ≡ s.old) }
     ensures err { OnErr result (s.new ≡ s.old) }
 {
-    let Some(at) = place_of_number(s.gateways(), gateway) else {
+    let Some(at) = member_place(s.gateways(), gateway) else {
         unreachable!();
     };
     let face = next_face(s.gateways()[at].rows()?)?;

@@ -9,7 +9,7 @@ ghost use Rattle.zt_links.specs.Lines.{made_at};
 
 use crate::calls::CallMade;
 use std::alloc::Global;
-use zt_fabric_state::{FabricState, carry_at, open_at, place_of_number, take_message};
+use zt_fabric_state::{FabricState, carry_at, member_place, open_at, take_message};
 use zt_keys::{Key, Memory};
 use zt_protocol::Sent;
 
@@ -34,7 +34,7 @@ pub(crate) fn make_call<K: Key>(
         take_message(s, taken);
         return Ok(Vec::new(alloc));
     };
-    match place_of_number(s.gateways(), made.gateway) {
+    match member_place(s.gateways(), made.gateway) {
         None => {
             take_message(s, taken);
             Ok(Vec::new(alloc))
@@ -63,7 +63,7 @@ pub(crate) fn open_face<K: Key>(
     let Some(made) = made else {
         return Ok(Vec::new(alloc));
     };
-    match place_of_number(s.gateways(), made.gateway) {
+    match member_place(s.gateways(), made.gateway) {
         None => Ok(Vec::new(alloc)),
         Some(at) => open_at(alloc, s, at, made.gateway, &made.call),
     }

@@ -10,7 +10,7 @@ ghost use Rattle.zt_links.specs.Lines.{for_others, parted};
 ghost use Rattle.zt_laws.specs.Order.{FabricIsInOrder};
 
 use std::alloc::Global;
-use zt_fabric_state::{FabricState, Turned, hear_call, place_of_number, sort_by_face, undo};
+use zt_fabric_state::{FabricState, Turned, hear_call, member_place, sort_by_face, undo};
 use zt_keys::{Key, Memory};
 use zt_places::LinkState;
 use zt_protocol::{Call, Sent};
@@ -182,7 +182,7 @@ pub(crate) fn unlink<K: Key>(
         ≡ fabric_after K.cmp K.matching (Unlink link) (Ok sent.items) s.old) }
     ensures err { OnErr result (s.new ≡ s.old) }
 {
-    match place_of_number(s.links(), link) {
+    match member_place(s.links(), link) {
         None => Ok(Vec::new(alloc)),
         Some(at) => {
             let (one, two) = ends_of(&s.links()[at]);

@@ -4,6 +4,7 @@
 
 mod boxed;
 mod copying;
+mod kept;
 mod restorable;
 
 pub use boxed::BoxedState;

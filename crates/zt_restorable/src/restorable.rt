@@ -4,38 +4,44 @@ ghost use Rattle.zt_laws.specs.Sound.{opens_face, rows_after_call};
 ghost use Rattle.zt_model.specs.Says.{said};
 ghost use Rattle.zt_protocol.specs.Plain.{plain_call};
 ghost use Rattle.zt_restorable.specs.After.{rows_after_calls};
+ghost use Rattle.zt_restorable.specs.Kept.{kept_call};
 
 use crate::boxed::{BoxedState, boxed_copy, exchange};
-use crate::copying::copy_call;
+use crate::kept::{KeptCall, call_of, keep_call};
 use std::alloc::Global;
 use std::marker::Model;
 use zt_calls::carry_out;
 use zt_keys::{Key, Memory};
 use zt_protocol::{Call, Message, TreeTable};
+use zt_rows::Iter;
 use zt_state::{FaceState, GatewayState};
 
 // How much calls may hold at least before all is copied.
 const LEAST_HELD: usize = 64;
 
-// How much calls may hold for each row. To copy a row costs about a quarter of a call, and a
-// row and a call take about as much memory: so a call costs an eighth more for being kept, and the
-// calls take at most about twice as much memory as the copy, where there is memory to copy.
-const HELD_FOR_A_ROW: usize = 2;
+// How much calls may hold for each row. To copy a row costs about a quarter of a call, and at
+// least two calls come before it is copied again, so a call costs at most an eighth more.
+// Most calls are of tokens, and four such take 128 bytes, about what a token takes in the copy
+// with what finds it.
+const HELD_FOR_A_ROW: usize = 4;
 
 /// What a gateway keeps, with the way back to it: what it kept earlier, and the calls that were
 /// carried out since. A call is carried out on what the gateway keeps, in place. One that lacks
 /// memory leaves that half changed: it is dropped, and got back from what was kept earlier by the
-/// calls since, before the next call. When the calls hold twice as much as the gateway had rows
-/// when it was copied last, and 64 more, all is copied, and the calls are forgotten; where memory
-/// lacks for that, they go on growing, and so does the way back.
+/// calls since, before the next call. Calls may hold four times as much as the gateway has rows,
+/// and 64 more: when they hold as much as the rows allowed that were counted last, these are counted
+/// anew, and if the calls hold more than half of what they may then, all is copied, and they are
+/// forgotten. Where memory lacks for that, they go on growing, and so does the way back.
 #[derive(Drop)]
 pub struct RestorableState<K: Key> {
     // What the gateway kept earlier.
     earlier: GatewayState<K>,
     // The calls since.
-    calls: Vec<Call<K>>,
-    // How much more calls may hold before all is copied.
-    left: usize,
+    calls: Vec<KeptCall<K>>,
+    // How much the calls hold.
+    held: usize,
+    // So much they may hold before rows are counted.
+    most: usize,
     // What the gateway keeps, unless a call lacked memory or isn't committed yet. Where there is
     // none and no call came since, it is what was kept earlier.
     current: Option<BoxedState<K>>,
@@ -44,16 +50,16 @@ pub struct RestorableState<K: Key> {
 impl<K: Key> Model for RestorableState<K> {
     ghost use Rattle.std.specs.Prelude.{◌≡◌, IfSome, map};
     ghost use Rattle.zt_model.specs.Rows.{Rows};
-    ghost use Rattle.zt_protocol.specs.Plain.{plain_call};
     ghost use Rattle.zt_restorable.specs.After.{rows_after_calls};
+    ghost use Rattle.zt_restorable.specs.Kept.{kept_call};
 
     ghost Value = { Rows K };
 
     ghost view = { λ r.
-        rows_after_calls K.cmp K.matching (map plain_call r.calls.items) r.earlier };
+        rows_after_calls K.cmp K.matching (map kept_call r.calls.items) r.earlier };
 
     ghost invariant = { λ r. IfSome r.current (λ now. now
-        ≡ rows_after_calls K.cmp K.matching (map plain_call r.calls.items) r.earlier) };
+        ≡ rows_after_calls K.cmp K.matching (map kept_call r.calls.items) r.earlier) };
 }
 
 /// What a gateway keeps after a call, and what the call says. It isn't committed: the gateway
@@ -94,14 +100,15 @@ fn carry_on<K: Key>(
 fn after_calls<K: Key>(
     alloc: Global,
     earlier: &GatewayState<K>,
-    calls: &[Call<K>],
+    calls: &[KeptCall<K>],
 ) -> Result<BoxedState<K>, Memory>
     ensures { IfOk result (λ state. state
-        ≡ rows_after_calls K.cmp K.matching (map plain_call calls.now) earlier.now) }
+        ≡ rows_after_calls K.cmp K.matching (map kept_call calls.now) earlier.now) }
 {
     let mut state = boxed_copy(alloc, earlier)?;
-    for call in calls {
-        let _ = carry_on(alloc, &mut state, call)?;
+    for kept in calls {
+        let call = call_of(alloc, kept)?;
+        let _ = carry_on(alloc, &mut state, &call)?;
     }
     Ok(state)
 }
@@ -138,23 +145,23 @@ fn held_by_asks<K: Key>(f: &FaceState<K>) -> usize {
     held
 }
 
-// How many interests the face was sent and not told that they end.
-fn interests_sent_to<K: Key>(f: &FaceState<K>) -> usize {
-    let mut sent = 0usize;
-    for _ in f.locals().iter() {
-        sent = sent.saturating_add(1);
+// How many rows there are.
+fn how_many<X>(rows: Iter<'_, X>) -> usize {
+    let mut count = 0usize;
+    for _ in rows {
+        count = count.saturating_add(1);
     }
-    sent
+    count
 }
 
 // How many rows a face keeps, with the places of tokens that are gone, and one for itself.
 fn rows_at<K: Key>(f: &FaceState<K>) -> usize {
     let counts = [
-        f.live().iter().count(),
+        how_many(f.live().iter()),
         f.told().places().len(),
-        f.held().iter().count(),
-        interests_sent_to(f),
-        f.pendings().iter().count(),
+        how_many(f.held().iter()),
+        how_many(f.locals().iter()),
+        how_many(f.pendings().iter()),
         held_by_asks(f),
         f.subscribers().len(),
         f.queryables().len(),
@@ -179,28 +186,32 @@ fn rows_in<K: Key>(state: &GatewayState<K>) -> usize {
     rows
 }
 
-// How much calls may hold before a state is copied that was just copied.
+// How much calls may hold beside a state.
 fn held_at_most<K: Key>(state: &GatewayState<K>) -> usize {
     LEAST_HELD.saturating_add(rows_in(state).saturating_mul(HELD_FOR_A_ROW))
 }
 
 // A call behind others. The only error is want of memory, and then the others stay.
-fn push_call<K: Key>(alloc: Global, calls: &mut Vec<Call<K>>, call: &Call<K>) -> Result<(), Memory>
-    ensures ok { OnOk result (map plain_call calls.new.items
-        ≡ map plain_call calls.old.items ++ plain_call call.now ∷ []) }
+fn push_call<K: Key>(
+    alloc: Global,
+    calls: &mut Vec<KeptCall<K>>,
+    call: &Call<K>,
+) -> Result<(), Memory>
+    ensures ok { OnOk result (map kept_call calls.new.items
+        ≡ map kept_call calls.old.items ++ plain_call call.now ∷ []) }
     ensures err { OnErr result (calls.new.items ≡ calls.old.items) }
 {
-    calls.push(copy_call(alloc, call)?)?;
+    calls.push(keep_call(alloc, call)?)?;
     Ok(())
 }
 
 // Equal calls. The only error is want of memory.
-fn copy_calls<K: Key>(alloc: Global, calls: &[Call<K>]) -> Result<Vec<Call<K>>, Memory>
-    ensures { IfOk result (λ copies. map plain_call copies.items ≡ map plain_call calls.now) }
+fn copy_calls<K: Key>(alloc: Global, calls: &[KeptCall<K>]) -> Result<Vec<KeptCall<K>>, Memory>
+    ensures { IfOk result (λ copies. map kept_call copies.items ≡ map kept_call calls.now) }
 {
     let mut copies = Vec::new(alloc);
-    for call in calls {
-        copies.push(copy_call(alloc, call)?)?;
+    for kept in calls {
+        copies.push(keep_call(alloc, &call_of(alloc, kept)?)?)?;
     }
     Ok(copies)
 }
@@ -220,7 +231,8 @@ impl<K: Key> RestorableState<K> {
         RestorableState {
             earlier: state,
             calls: Vec::new(alloc),
-            left: LEAST_HELD,
+            held: 0,
+            most: LEAST_HELD,
             current: None,
         }
     }
@@ -250,31 +262,34 @@ impl<K: Key> RestorableState<K> {
         ensures { self.new ≡ self.old }
     {
         if self.current.is_none() {
-            let state = self.restored(alloc)?;
-            if self.calls.is_empty() {
-                self.left = held_at_most(&*state.inner);
-            }
-            self.current = Some(state);
+            self.current = Some(self.restored(alloc)?);
         }
         Ok(())
     }
 
-    // Copies all, where the calls hold as much as they may, and forgets them. Where memory lacks
-    // for the copy nothing is lost: the calls stay, and as much again may come before it is tried
-    // anew.
+    // Copies all, where the calls hold too much for the rows that there are, and forgets them.
+    // Where there are as many more rows by now that they may hold twice as much, they stay, and so
+    // they do where memory lacks for the copy: no call fails for that.
     fn save(&mut self, alloc: Global)
         ensures { self.new ≡ self.old }
     {
-        if self.left > 0 {
+        if self.held < self.most {
             return;
         }
         let Some(current) = &self.current else {
             return;
         };
-        self.left = held_at_most(&*current.inner);
-        if let Ok(mut copy) = boxed_copy(alloc, &*current.inner) {
-            exchange(&mut self.earlier, &mut copy);
-            self.calls.clear();
+        self.most = held_at_most(&*current.inner);
+        if self.held <= self.most / 2 {
+            return;
+        }
+        match boxed_copy(alloc, &*current.inner) {
+            Ok(mut copy) => {
+                exchange(&mut self.earlier, &mut copy);
+                self.calls.clear();
+                self.held = 0;
+            }
+            Err(_) => self.most = self.most.saturating_add(self.held),
         }
     }
 
@@ -303,7 +318,8 @@ impl<K: Key> RestorableState<K> {
     {
         exchange(&mut self.earlier, &mut state);
         self.calls.clear();
-        self.left = LEAST_HELD;
+        self.held = 0;
+        self.most = LEAST_HELD;
         self.current = None;
     }
 
@@ -315,7 +331,7 @@ impl<K: Key> RestorableState<K> {
     {
         match push_call(alloc, &mut self.calls, call) {
             Ok(()) => {
-                self.left = self.left.saturating_sub(held_by(call));
+                self.held = self.held.saturating_add(held_by(call));
                 self.current = Some(state);
             }
             Err(_) => self.put(state),
@@ -333,12 +349,13 @@ impl<K: Key> RestorableState<K> {
         ensures err { OnErr result (self.new ≡ self.old) }
     {
         self.restore(alloc)?;
+        self.save(alloc);
         let Some(former) = self.current.take() else {
             return Err(Memory);
         };
         let mut state = boxed_copy(alloc, &*former.inner)?;
         let said = carry_on(alloc, &mut state, call)?;
-        self.put(state);
+        self.commit(alloc, state, call);
         Ok(Turn { former, said })
     }
 
@@ -349,7 +366,8 @@ impl<K: Key> RestorableState<K> {
         let mut copy = RestorableState {
             earlier: self.earlier.copy(alloc)?,
             calls: copy_calls(alloc, &self.calls)?,
-            left: self.left,
+            held: self.held,
+            most: self.most,
             current: None,
         };
         copy.restore(alloc)?;

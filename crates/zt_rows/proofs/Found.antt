@@ -88,11 +88,11 @@ module _ {A : Type 0} where
         | Greater ↦ λ is. let there : (id == row.0) ≡ false = sym (unsigned_tied id row.0) ∙ ap is_eq is in rw there (ap (λ r. row ∷ r) (put_undone id v rows (rw there at absent)))
       ] refl
 
-  put_below : (id : ℕ) (v : A) (rows : ById A) → IsBelow id rows → put nat_cmp id v rows ≡ (id, v) ∷ rows
+  pub put_below : (id : ℕ) (v : A) (rows : ById A) → IsBelow id rows → put nat_cmp id v rows ≡ (id, v) ∷ rows
   put_below id v [] below = refl
   put_below id v (row ∷ rows) below = ap (λ o. by_order o ((id, v) ∷ row ∷ rows) ((row.0, v) ∷ rows) (row ∷ put nat_cmp id v rows)) below.0
 
-  below_absent : (id : ℕ) (rows : ById A) → IsBelow id rows → at_id id rows ≡ None
+  pub below_absent : (id : ℕ) (rows : ById A) → IsBelow id rows → at_id id rows ≡ None
   below_absent id [] below = refl
   below_absent id (row ∷ rows) below = rw (sym (unsigned_tied id row.0) ∙ ap is_eq below.0) (below_absent id rows below.1)
 

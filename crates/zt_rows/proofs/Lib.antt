@@ -1,3 +1,4 @@
 pub mod ById
 pub mod Found
+pub mod Mapped
 pub mod Places

@@ -15,6 +15,7 @@ use Rattle.std.specs.declared.cmp.Ordering.TheVariants.{Less}
 use Rattle.zt_rows.specs.Places.{AreRising, rows_in}
 use Rattle.zt_rows.specs.ById.{IsInOrder}
 use Rattle.zt_rows.proofs.ById.{below_all_absent}
+use Rattle.zt_rows.proofs.Found.{below_absent}
 use Rattle.zt_keys.specs.Test.{by_test}
 use Rattle.zt_model.specs.Lists.{at_id, without_id}
 use Rattle.zt_model.specs.Rows.{ById}
@@ -30,7 +31,7 @@ module _ {A : Type 0} where
   found_row None = None
   found_row (Some row) = row
 
-  below-in : (n : ℕ) (places : ById (Option A)) → below_all nat_cmp n places ≡ true → IsBelow n (rows_in places)
+  pub below-in : (n : ℕ) (places : ById (Option A)) → below_all nat_cmp n places ≡ true → IsBelow n (rows_in places)
   below-in n [] below = tt
   below-in n ((id, None) ∷ places) below = below-in n places (and_second _ _ below)
   below-in n ((id, Some row) ∷ places) below = (is_lt-Less _ (and_first _ _ below), below-in n places (and_second _ _ below))
@@ -42,15 +43,11 @@ module _ {A : Type 0} where
   ordered-in ((id, None) ∷ places) rising = ordered-in places (and_second _ _ rising)
   ordered-in ((id, Some row) ∷ places) rising = (below-in id places (and_first _ _ rising), ordered-in places (and_second _ _ rising))
 
-  below_none : (n : ℕ) (rows : ById A) → IsBelow n rows → at_id n rows ≡ None
-  below_none n [] below = refl
-  below_none n (row ∷ rows) below = rw (sym (unsigned_tied n row.0) ∙ ap is_eq below.0) (below_none n rows below.1)
-
   -- what a search finds
   pub found-in : (id : ℕ) (places : ById (Option A)) → AreRising places → found_row (find nat_cmp id places) ≡ at_id id (rows_in places)
   found-in id [] rising = refl
   found-in id ((n, None) ∷ places) rising = by_test (id == n)
-      (λ t. rw (unsigned_tied id n ∙ t) (sym (below_none id (rows_in places) (below-in id places (subst (λ k. below_all nat_cmp k places ≡ true) (sym (eqb-true id n t)) (and_first _ _ rising))))))
+      (λ t. rw (unsigned_tied id n ∙ t) (sym (below_absent id (rows_in places) (below-in id places (subst (λ k. below_all nat_cmp k places ≡ true) (sym (eqb-true id n t)) (and_first _ _ rising))))))
       (λ t. rw (unsigned_tied id n ∙ t) (found-in id places (and_second _ _ rising)))
   found-in id ((n, Some row) ∷ places) rising = by_test (id == n)
       (λ t. rw (unsigned_tied id n ∙ t, t) refl)

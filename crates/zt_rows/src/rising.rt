@@ -1,72 +1,14 @@
 // Rows under rising ids.
 ghost use Rattle.std.specs.Option.{option_copied};
-ghost use Rattle.std.specs.Prelude.{◌≡◌, ◌++◌, ◌∷◌, [], is_some, true, Some, OnErr, OnOk};
+ghost use Rattle.std.specs.Prelude.{◌≡◌, ◌++◌, ◌∷◌, [], OnErr, OnOk};
 ghost use Rattle.zt_model.specs.Lists.{at_id, without_id};
 ghost use Rattle.zt_rows.specs.ById.{IsInOrder};
-ghost use Rattle.zt_rows.specs.Places.{AreRising, rows_in};
+ghost use Rattle.zt_rows.specs.Places.{rows_in};
 
+use crate::placing::{are_below, find_in, take_in, tidy};
 use std::alloc::Global;
 use std::marker::Model;
 use zt_keys::Memory;
-use zt_ordered::place_of_number;
-
-// So many empty places are left alone.
-const FEW: usize = 16;
-
-// Whether the id is above those of all places, also of empty ones.
-fn are_below<X>(places: &[(u32, Option<X>)], id: u32) -> bool
-    requires { AreRising places.now }
-    ensures { result ≡ true → (row : X) → AreRising (places.now ++ (id, Some row) ∷ []) }
-{
-    match places.last() {
-        None => true,
-        Some(last) => last.0 < id,
-    }
-}
-
-// The row under the id. Found at once where ids follow one another, else by halves.
-fn find_in<X>(places: &[(u32, Option<X>)], id: u32) -> Option<&X>
-    requires { AreRising places.now }
-    ensures { option_copied result ≡ at_id id (rows_in places.now) }
-{
-    match place_of_number(places, id) {
-        Ok(place) => places[place].1.as_ref(),
-        Err(_) => None,
-    }
-}
-
-// Takes the row under the id, whose place is empty then.
-fn take_in<X: Drop>(places: &mut Vec<(u32, Option<X>)>, id: u32) -> Option<X>
-    requires { AreRising places.old.items }
-    ensures row { result ≡ at_id id (rows_in places.old.items) }
-    ensures rest { rows_in places.new.items ≡ without_id id (rows_in places.old.items) }
-    ensures rising { AreRising places.new.items }
-{
-    match place_of_number(places.as_slice(), id) {
-        Ok(place) => places[place].1.take(),
-        Err(_) => None,
-    }
-}
-
-// Whether a row stands in the place.
-fn is_taken<X>(place: &(u32, Option<X>)) -> bool
-    ensures { result ≡ is_some place.now.1 }
-{
-    place.1.is_some()
-}
-
-// Drops the empty places once they are most, and answers how many are left.
-fn tidy<X: Drop>(places: &mut Vec<(u32, Option<X>)>, empty: usize) -> usize
-    requires { AreRising places.old.items }
-    ensures rows { rows_in places.new.items ≡ rows_in places.old.items }
-    ensures rising { AreRising places.new.items }
-{
-    if empty <= FEW || empty <= places.len() / 2 {
-        return empty;
-    }
-    places.retain(|place| is_taken(place));
-    0
-}
 
 /// Rows by id, each put behind the others, in order of id. A row that goes leaves its place empty,
 /// so that none moves.

@@ -23,7 +23,7 @@ pub(crate) fn drop_held<K: Key>(index: &mut InterestIndex<K>, f: &FaceState<K>, 
         → IsIndexOf K.anchored index.new
         (filter (λ row. not (is_of f.now.number id row)) (flat_map token_rows fs)) }
 {
-    if let Some(held) = f.held().find(id) {
+    if let Some(held) = f.held().at(id) {
         index.remove(f.number(), id, held.expr());
     }
 }

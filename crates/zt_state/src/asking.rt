@@ -4,8 +4,8 @@ ghost use Rattle.zt_model.specs.Parts.{with_face};
 ghost use Rattle.zt_model.specs.Routing.{asked_as, unheld};
 ghost use Rattle.zt_seekers.specs.Seekers.{AreSeekers};
 
+use crate::changes::empty;
 use crate::gateway::GatewayState;
-use crate::walk::empty;
 use std::alloc::Global;
 use zt_face::{FaceState, RemoteInterest};
 use zt_faces::{FaceAddition, FaceChange, Faces};

@@ -4,8 +4,8 @@ ghost use Rattle.zt_model.specs.Closing.{without_asks};
 ghost use Rattle.zt_model.specs.Parts.{with_face};
 ghost use Rattle.zt_model.specs.Routing.{ended, initial_finalised};
 
+use crate::changes::QuietChange;
 use crate::gateway::GatewayState;
-use crate::walk::QuietChange;
 use zt_face::FaceState;
 use zt_faces::FaceChange;
 use zt_keys::Key;

@@ -4,8 +4,8 @@ ghost use Rattle.zt_model.specs.Hearing.{heard, rows_heard};
 ghost use Rattle.zt_model.specs.Parts.{with_face};
 ghost use Rattle.zt_seekers.specs.Seekers.{AreSeekers};
 
+use crate::changes::empty;
 use crate::gateway::GatewayState;
-use crate::walk::empty;
 use std::alloc::Global;
 use zt_face::FaceState;
 use zt_faces::{FaceAddition, Faces};

@@ -3,6 +3,7 @@
 #![tactic(auto)]
 
 mod asking;
+mod changes;
 mod copying;
 mod faces;
 mod gateway;
@@ -12,7 +13,6 @@ mod numbers;
 mod opening;
 mod routed;
 mod rows;
-mod walk;
 
 pub use gateway::GatewayState;
 pub use zt_face::{

@@ -14,8 +14,8 @@ ghost use Rattle.zt_model.specs.Visible.{rows_of_face};
 ghost use Rattle.zt_seekers.specs.Seekers.{AreSeekers};
 ghost use Rattle.zt_state.specs.Indexed.{HasLiveInOrder};
 
+use crate::changes::empty;
 use crate::gateway::GatewayState;
-use crate::walk::empty;
 use std::alloc::Global;
 use zt_face::FaceState;
 use zt_faces::{FaceAddition, FaceChange, Faces};

@@ -5,8 +5,8 @@ ghost use Rattle.zt_model.specs.Entities.{with_numbers};
 ghost use Rattle.zt_model.specs.Lists.{is_among};
 ghost use Rattle.zt_model.specs.Parts.{with_face};
 
+use crate::changes::QuietAddition;
 use crate::gateway::GatewayState;
-use crate::walk::QuietAddition;
 use std::alloc::Global;
 use zt_face::{FaceState, is_among};
 use zt_faces::FaceAddition;

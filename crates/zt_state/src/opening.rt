@@ -5,8 +5,8 @@ ghost use Rattle.zt_model.specs.Parts.{opened_session};
 ghost use Rattle.zt_model.specs.Routing.{initial_of, opened};
 ghost use Rattle.zt_seekers.specs.Seekers.{AreSeekers};
 
+use crate::changes::empty;
 use crate::gateway::GatewayState;
-use crate::walk::empty;
 use std::alloc::Global;
 use zt_face::FaceState;
 use zt_faces::Faces;

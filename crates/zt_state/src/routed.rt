@@ -11,9 +11,9 @@ ghost use Rattle.zt_routed.specs.Routed.{rows_of};
 ghost use Rattle.zt_state.specs.Indexed.{routed_live};
 ghost use Rattle.zt_state.specs.OwnRows.{listed_rows, without_own_in};
 
+use crate::changes::empty;
 use crate::gateway::GatewayState;
 use crate::rows::put_row;
-use crate::walk::empty;
 use std::alloc::Global;
 use std::collections::BTreeSet;
 use zt_indexes::LiveCounts;

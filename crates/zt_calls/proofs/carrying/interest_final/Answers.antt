@@ -23,7 +23,7 @@ returns-in_default-at g c =
     let id = c.args.id in
     let f = c.in-Some.f.now in
     let is = sym c.find_face.ensures ∙ ap option_copied c.in-Some.is in
-    let none = sym (c.at.ensures ∙ ap (at_id id) c.held.ensures) ∙ ap option_copied c.in_default-at.is in
+    let none = sym (c.at.ensures.row ∙ ap (at_id id) c.held.ensures) ∙ ap option_copied c.in_default-at.is in
     let parts = interest_final_at_face cmp matching n id c.args.g.now f is ∙ nobody (λ (interest : InterestRow g.row.K.Denot). finalising cmp matching n id interest) (at_id id f.held) none in
     subst (λ (ps : List (Part g.row.K.Denot)). Does cmp matching ps c.args.g.now c.args.g.now c.args.speech.now c.args.speech.now) (sym parts)
     (does-nothing cmp matching c.args.g.now c.args.speech.now)
@@ -37,7 +37,7 @@ returns g c =
     let f = c.in-Some.f.now in
     let r = c.finalise.result in
     let is = sym c.find_face.ensures ∙ ap option_copied c.in-Some.is in
-    let held = sym (c.at.ensures ∙ ap (at_id id) c.held.ensures) ∙ ap option_copied c.in-Some-at.is in
+    let held = sym (c.at.ensures.row ∙ ap (at_id id) c.held.ensures) ∙ ap option_copied c.in-Some-at.is in
     let done = subst (λ (interest : InterestRow g.row.K.Denot). OnOk r (Does cmp matching (finalising cmp matching n id interest) c.args.g.now c.finalise.new.g c.args.speech.now c.finalise.new.speech)) c.in_ok-interest.ensures c.finalise.ensures in
     let parts = interest_final_at_face cmp matching n id c.args.g.now f is ∙ somebody (λ (interest : InterestRow g.row.K.Denot). finalising cmp matching n id interest) (at_id id f.held) c.in-Some-at.held.now held in
     subst (λ (ps : List (Part g.row.K.Denot)). OnOk r (Does cmp matching ps c.args.g.now c.finalise.new.g c.args.speech.now c.finalise.new.speech)) (sym parts) done

@@ -1,11 +1,11 @@
-use Rattle.std.proofs.Common.{◌≡◌, ap, option_map, rules, sym, true, ◌∙◌}
+use Rattle.std.proofs.Common.{◌≡◌, ap, false, option_map, rules, sym, true, ◌∙◌}
 use Rattle.zt_region.specs.Region.{is_north, whatami_eq}
 use Rattle.zt_region.specs.declared.region.WhatAmI.TheVariants.{Client}
 use Rattle.zt_model.specs.Fabric.{number_from}
 use Rattle.zt_model.specs.Linking.{gateway_beyond}
 use Rattle.zt_model.specs.Lists.{first_where, nth}
 use Rattle.zt_model.specs.Rows.{Rows}
-use Rattle.zt_links.proofs.Above.{above_is}
+use Rattle.zt_links.proofs.Above.{above_is, none_above, none_north}
 use Rattle.zt_links.proofs.linking.gateway_above.Goals as goal
 
 pub returns-in-Some-north_face : goal.returns-in-Some-north_face
@@ -20,3 +20,16 @@ returns-in-Some-north_face g c =
     (ap (nth c.args.gateway) (sym c.gateways.ensures) ∙ sym c.in-Some.ensures)
     (ap (λ m. whatami_eq m Client) (sym (c.mode.ensures ∙ ap (λ (r : Rows g.row.K.Denot). r.mode) kept)) ∙ client)
     (c.in-Some-north_face.ensures ∙ ap (λ (r : Rows g.row.K.Denot). option_map (λ f. f.number) (first_where (λ f. is_north f.region) r.faces)) kept)
+
+pub returns-then-ne : goal.returns-then-ne
+returns-then-ne g c =
+    let other : whatami_eq c.mode.result Client ≡ false = search rules in
+    none_above c.args.s.now c.args.gateway c.in-Some.node.now
+    (ap (nth c.args.gateway) (sym c.gateways.ensures) ∙ sym c.in-Some.ensures)
+    (ap (λ m. whatami_eq m Client) (sym (c.mode.ensures ∙ ap (λ (r : Rows g.row.K.Denot). r.mode) c.in_ok-rows.ensures)) ∙ other)
+
+pub returns-in-None : goal.returns-in-None
+returns-in-None g c =
+    none_north c.args.s.now c.args.gateway c.in-Some.node.now
+    (ap (nth c.args.gateway) (sym c.gateways.ensures) ∙ sym c.in-Some.ensures)
+    (c.in-None.ensures ∙ ap (λ (r : Rows g.row.K.Denot). option_map (λ f. f.number) (first_where (λ f. is_north f.region) r.faces)) c.in_ok-rows.ensures)

@@ -25,13 +25,13 @@ returns-in-None-clause-does g c =
     let nowhere = made_nowhere c.args.s.now c.gateways.result.now c.args.made.now c.in-Some.made c.made.inside.gateway c.in-Some.is (ap (λ m. m.0) c.made.view_is) c.gateways.ensures c.in-None.ensures.none in
     rw (c.new-in-None.ensures.items, nowhere) (nothing_carried g.K.Ord.cmp c.args.taken c.args.s.now c.take_message-in-None.new.s c.take_message-in-None.ensures)
 
-pub returns-in-Some-place_of_number-clause-does : goal.returns-in-Some-place_of_number-clause-does
-returns-in-Some-place_of_number-clause-does g c =
+pub returns-in-Some-member_place-clause-does : goal.returns-in-Some-member_place-clause-does
+returns-in-Some-member_place-clause-does g c =
     let cmp = g.K.Ord.cmp in
     let matching = g.K.Key.matching in
     let s = c.args.s.now in
     let m = c.in-Some.made in
-    let found = c.in-Some-place_of_number in
+    let found = c.in-Some-member_place in
     let member = some_member c.made.inside.gateway found.at s.gateways found.ensures.counted (rw c.gateways.ensures at found.ensures.within) in
     let there = subst (λ n. nth n s.gateways ≡ Some member.0) (ap (λ m. m.0) c.made.view_is) member.1 in
     ok_both (λ sent. sent.items ≡ said_sorted cmp matching c.made.inside.gateway _ s) _ _ c.carry_at.result

@@ -25,26 +25,26 @@ returns-in-None-clause-does g c =
     let nowhere = made_nowhere c.args.s.now c.gateways.result.now c.args.made.now c.in-Some.made c.made.inside.gateway c.in-Some.is (ap (λ m. m.0) c.made.view_is) c.gateways.ensures c.in-None.ensures.none in
     rw (c.new-in-None.ensures.items, nowhere) (nothing_carried g.K.Ord.cmp None c.args.s.now c.args.s.now refl)
 
-pub returns-in-Some-place_of_number-clause-says : goal.returns-in-Some-place_of_number-clause-says
-returns-in-Some-place_of_number-clause-says g c =
+pub returns-in-Some-member_place-clause-says : goal.returns-in-Some-member_place-clause-says
+returns-in-Some-member_place-clause-says g c =
     let cmp = g.K.Ord.cmp in
     let matching = g.K.Key.matching in
     let s = c.args.s.now in
     let m = c.in-Some.made in
-    let found = c.in-Some-place_of_number in
+    let found = c.in-Some-member_place in
     let member = some_member c.made.inside.gateway found.at s.gateways found.ensures.counted (rw c.gateways.ensures at found.ensures.within) in
     let there = subst (λ n. nth n s.gateways ≡ Some member.0) (ap (λ m. m.0) c.made.view_is) member.1 in
     IfOk-weaker c.open_at.result _ _
     (λ sent says. opening_says cmp matching g.met.K.Ord.total s c.args.made.now m member.0 sent.items c.in-Some.is there (says ∙ ap (λ m. said_sorted cmp matching m.0 m.1 (with_place m.0 s)) c.made.view_is))
     c.open_at.ensures.says
 
-pub returns-in-Some-place_of_number-clause-does : goal.returns-in-Some-place_of_number-clause-does
-returns-in-Some-place_of_number-clause-does g c =
+pub returns-in-Some-member_place-clause-does : goal.returns-in-Some-member_place-clause-does
+returns-in-Some-member_place-clause-does g c =
     let cmp = g.K.Ord.cmp in
     let matching = g.K.Key.matching in
     let s = c.args.s.now in
     let m = c.in-Some.made in
-    let found = c.in-Some-place_of_number in
+    let found = c.in-Some-member_place in
     let member = some_member c.made.inside.gateway found.at s.gateways found.ensures.counted (rw c.gateways.ensures at found.ensures.within) in
     let there = subst (λ n. nth n s.gateways ≡ Some member.0) (ap (λ m. m.0) c.made.view_is) member.1 in
     ok_both (λ sent. sent.items ≡ said_sorted cmp matching c.made.inside.gateway _ (with_place c.made.inside.gateway s)) _ _ c.open_at.result

@@ -1,6 +1,6 @@
 use Rattle.std.proofs.Common.{inr}
 use Rattle.zt_keys.specs.declared.anchor.Anchor.TheVariants.{Whole}
-use Rattle.zt_indexes.specs.Anchored.{groups-same}
+use Rattle.zt_indexes.proofs.Regrouped.{groups-same}
 use Rattle.zt_indexes.specs.Wild.{wild-less, wild-same}
 use Rattle.zt_indexes.proofs.Less.{key-gone, less-dropped}
 use Rattle.zt_indexes.proofs.Ordered.{ordered-less, ordered-tidy}

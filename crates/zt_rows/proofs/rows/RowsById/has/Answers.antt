@@ -1,8 +1,11 @@
-use Rattle.std.proofs.Common.{◌∙◌, ap, is_some}
-use Rattle.zt_rows.proofs.ById.{at_is, has_is}
+use Rattle.std.proofs.Common.{◌≡◌, ◌∙◌, Bor, Option, None, Some, ap, is_some, refl}
+use Rattle.std.specs.Option.{option_copied}
+use Rattle.zt_rows.proofs.ById.{has_is}
 use Rattle.zt_rows.proofs.rows.RowsById.has.Goals as goal
 
 pub returns : goal.returns
-returns g c =
-    let rows = c.self.inside.rows.entries in
-    rw (← c.self.view_is) (c.contains_key.ensures ∙ ap is_some (at_is c.args.id rows) ∙ has_is c.args.id rows)
+returns g c = c.is_some.ensures ∙ some-copied c.at.result ∙ ap is_some c.at.ensures.row ∙ has_is c.args.id c.args.self.now
+  where
+    some-copied : {A : Type 0} (o : Option (Bor A)) → is_some o ≡ is_some (option_copied o)
+    some-copied None = refl
+    some-copied (Some x) = refl

@@ -1,6 +1,11 @@
-use Rattle.std.proofs.Common.{◌∙◌}
-use Rattle.zt_rows.proofs.ById.{put_is}
+use Rattle.std.proofs.Common.{refl}
+use Rattle.zt_rows.proofs.Mapped.{alone-ordered}
 use Rattle.zt_rows.proofs.rows.RowsById.put.Goals as goal
 
-pub returns-clause-ok : goal.returns-clause-ok
-returns-clause-ok g c = rw (← c.self.view_is) (c.in_ok-insert.ensures.entries ∙ put_is c.args.id c.args.row c.self.inside.rows.entries)
+pub invariant_of-self-in-None : goal.invariant_of-self-in-None
+invariant_of-self-in-None g c =
+    let rising = c.in_ok-put_in.ensures.rising in
+    (rising, alone-ordered c.put_in.new.places.items c.self.inside.mapped.entries rising (c.if-not-is_empty.ensures.0 refl))
+
+pub returns-in-None-clause-ordered : goal.returns-in-None-clause-ordered
+returns-in-None-clause-ordered g c = (invariant_of-self-in-None g c).1

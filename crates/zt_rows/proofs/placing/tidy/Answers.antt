@@ -1,7 +1,7 @@
 use Rattle.std.proofs.Common.{ℕ, Option, is_some, rules, tests}
 use Rattle.std.proofs.lemmas.Fn.{filter_same}
 use Rattle.zt_rows.proofs.Places.{kept-in, kept-rising}
-use Rattle.zt_rows.proofs.rising.tidy.Goals as goal
+use Rattle.zt_rows.proofs.placing.tidy.Goals as goal
 
 pub returns-clause-rows : goal.returns-clause-rows
 returns-clause-rows g c =

@@ -1,8 +1,8 @@
 use Rattle.std.proofs.Common.{◌≡◌, ◌+◌, ◌-◌, Some, slice_index_or, arith, subst}
 use Rattle.zt_model.specs.Lists.{nth}
 use Rattle.zt_fabric_state.proofs.Members.{nth_at, nth_beyond, nth_zero}
-use Rattle.zt_fabric_state.proofs.places.place_of_number.Goals as goal
-use Rattle.zt_fabric_state.proofs.places.place_of_number.Goals.{then-number-eq0-via-then-number-eq0, then-number-eq0-via-else-number-eq0+then-number-members}
+use Rattle.zt_fabric_state.proofs.places.member_place.Goals as goal
+use Rattle.zt_fabric_state.proofs.places.member_place.Goals.{then-number-eq0-via-then-number-eq0, then-number-eq0-via-else-number-eq0+then-number-members}
 
 pub returns-then-number-eq0-clause-none : goal.returns-then-number-eq0-clause-none
 returns-then-number-eq0-clause-none g c =

@@ -5,7 +5,7 @@ use Rattle.std.specs.Ordering.{nat_cmp}
 use Rattle.zt_rows.specs.Places.{AreRising, rows_in}
 use Rattle.zt_rows.proofs.Found.{absent_kept}
 use Rattle.zt_rows.proofs.Places.{emptied-in, found-in, found_row}
-use Rattle.zt_rows.proofs.rising.take_in.Goals as goal
+use Rattle.zt_rows.proofs.placing.take_in.Goals as goal
 use Rattle.zt_ordered.specs.Placing.{find-gap, find-place, set-place}
 use Rattle.zt_ordered.specs.Test.{T-from, T-to}
 

@@ -2,7 +2,7 @@ use Rattle.std.proofs.Common.{ap, sym, ◌∙◌}
 use Rattle.std.specs.Cmp.{nat_cmp_total}
 use Rattle.std.specs.Ordering.{nat_cmp}
 use Rattle.zt_rows.proofs.Places.{found-in, found_row}
-use Rattle.zt_rows.proofs.rising.find_in.Goals as goal
+use Rattle.zt_rows.proofs.placing.find_in.Goals as goal
 use Rattle.zt_ordered.specs.Placing.{find-gap, find-place}
 
 pub returns-in-Ok : goal.returns-in-Ok

@@ -1,7 +1,7 @@
 use Rattle.std.proofs.Common.{Some, sym}
 use Rattle.std.proofs.lemmas.Bool.{ltb-true}
 use Rattle.zt_rows.proofs.Places.{behind-last, pushed-rising}
-use Rattle.zt_rows.proofs.rising.are_below.Goals as goal
+use Rattle.zt_rows.proofs.placing.are_below.Goals as goal
 
 pub returns-in-Some : goal.returns-in-Some
 returns-in-Some g c = λ above row.
