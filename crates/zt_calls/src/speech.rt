@@ -1,5 +1,5 @@
 // What a call says.
-ghost use Rattle.std.specs.Prelude.{◌≡◌, ◌∷◌, [], OnOk};
+ghost use Rattle.std.specs.Prelude.{◌≡◌, ◌++◌, ◌∷◌, [], OnOk};
 ghost use Rattle.zt_calls.specs.Does.{Does};
 ghost use Rattle.zt_model.specs.Parts.{Say, Sends};
 ghost use Rattle.zt_model.specs.Rows.{Rows};
@@ -25,6 +25,22 @@ pub(crate) fn spare<K: Key>(sends: &mut Vec<(u32, Message<K>)>, face: u32)
     sends.retain(|send| face != send.0);
 }
 
+// Messages more behind those said so far. Where none were said yet, they are taken as they are. The
+// only error is want of memory.
+fn add<K: Key>(
+    said: &mut Vec<(u32, Message<K>)>,
+    mut sends: Vec<(u32, Message<K>)>,
+) -> Result<(), Memory>
+    ensures { OnOk result (said.new.items ≡ said.old.items ++ sends.items) }
+{
+    if said.is_empty() {
+        *said = sends;
+        return Ok(());
+    }
+    said.append(&mut sends)?;
+    Ok(())
+}
+
 /// Faces are sent these messages and hear them at once, but for a face that is spared. The only
 /// error is want of memory.
 pub(crate) fn say<K: Key>(
@@ -40,6 +56,5 @@ pub(crate) fn say<K: Key>(
         spare(&mut sends, face);
     }
     g.hear_all(alloc, sends.as_slice())?;
-    speech.said.append(&mut sends)?;
-    Ok(())
+    add(&mut speech.said, sends)
 }

@@ -17,11 +17,12 @@ pub(crate) fn print_all<K: Key>(
     ensures { IfOk result (λ printed_. printed_.items
         ≡ map (printed places.now gateway) sends.items) }
 {
+    let faces = places.faces_of(gateway);
     let mut printed = Vec::with_capacity(alloc, sends.len())?;
     for (face, message) in sends {
         printed.push(Sent {
             gateway,
-            face: places.number(gateway, face),
+            face: faces.number(face),
             message,
         })?;
     }

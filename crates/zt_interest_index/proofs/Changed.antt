@@ -15,7 +15,7 @@ by_test : {G : Type 0} (b : Bool) → (b ≡ true → G) → (b ≡ false → G)
 by_test true holds fails = holds refl
 by_test false holds fails = fails refl
 
-equal-from : (r : Ordering) → is_eq r ≡ true → r ≡ Equal
+pub equal-from : (r : Ordering) → is_eq r ≡ true → r ≡ Equal
 equal-from Less h = cc
 equal-from Equal h = refl
 equal-from Greater h = cc

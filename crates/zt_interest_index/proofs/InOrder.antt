@@ -1,5 +1,5 @@
 -- Numbers that are put in order, each once.
-use Rattle.std.proofs.Common.{◌≡◌, ℕ, Bool, true, false, ◌||◌, ◌==◌, nat_eq, List, [], ◌∷◌, refl, ap, ◌∙◌, arith}
+use Rattle.std.proofs.Common.{◌≡◌, ℕ, Bool, true, false, ◌||◌, ◌&&◌, ◌==◌, nat_eq, List, [], ◌∷◌, refl, ap, sym, ◌∙◌, arith}
 use Rattle.std.proofs.lemmas.Bool.Decides.{nat_tests}
 use Rattle.std.specs.List.{dedup, dedup_from, list_any}
 use Rattle.zt_keys.specs.Test.{by_test}
@@ -33,3 +33,14 @@ among-dedup n numbers = any-dedup nat_eq (λ m. n == m) (λ x y t. ap (λ m. n =
 pub or_rest : (a b c d : Bool) → c ≡ d → ((a || b) || c) ≡ (a || (b || d))
 or_rest true b c d h = refl
 or_rest false b c d h = ap (λ x. b || x) h
+
+-- one that is found where a test passes
+pub or_where : (a b test : Bool) → test ≡ true → (a || b) ≡ (a || (b && test))
+or_where true b test h = refl
+or_where false true test h = sym h
+or_where false false test h = refl
+
+pub or_nowhere : (a b test : Bool) → test ≡ false → a ≡ (a || (b && test))
+or_nowhere true b test h = refl
+or_nowhere false true test h = sym h
+or_nowhere false false test h = refl

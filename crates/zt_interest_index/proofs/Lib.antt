@@ -1,3 +1,4 @@
+mod Alike
 mod Changed
 mod InBucket
 mod InOrder

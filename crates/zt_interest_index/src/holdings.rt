@@ -2,7 +2,8 @@
 ghost use Rattle.std.specs.Prelude.{◌≡◌, ℕ, ◌∷◌, ◌++◌, ◌&&◌, ◌||◌, ◌==◌, [], filter, length, not};
 ghost use Rattle.std.specs.Prelude.{true, IfOk, IfSome, OnErr, OnOk};
 ghost use Rattle.std.specs.List.{list_any};
-ghost use Rattle.zt_interest_index.specs.Holdings.{asks_from, is_about, is_among, is_of};
+ghost use Rattle.zt_interest_index.specs.Holdings.{AreAlike, asks_from, is_about, is_among};
+ghost use Rattle.zt_interest_index.specs.Holdings.{is_by, is_of};
 
 use std::alloc::Global;
 use std::marker::Model;
@@ -30,6 +31,18 @@ fn drop_in<K: Key>(rows: &mut Vec<((u32, u32), Option<K>)>, face: u32, id: u32)
     ensures { rows.new.items ≡ filter (λ row. not (is_of face id row)) rows.old.items }
 {
     rows.retain(|row| is_other(row, face, id));
+}
+
+// Whether interests are known to be in one expression still, with one in this expression more. It
+// is compared with the first alone.
+fn stay_alike<K: Key>(rows: &[((u32, u32), Option<K>)], are_alike: bool, about: &Option<K>) -> bool
+    requires { are_alike ≡ true → AreAlike rows.now }
+    ensures { (holder : ℕ × ℕ) → result ≡ true → AreAlike (rows.now ++ (holder, about.now) ∷ []) }
+{
+    match rows.first() {
+        Some(first) => are_alike && first.1 == *about,
+        None => true,
+    }
 }
 
 // Whether the number stands last.
@@ -61,16 +74,51 @@ fn is_about_as<K: Key>(tried: &Option<Tried<'_, K>>, about: &Option<K>, expr: &K
     }
 }
 
-// Puts a face among those found, if its interest is about the key. One that was found last isn't
-// put there again. The only error is want of memory.
-fn add_face(found: &mut Vec<u32>, face: u32, is_about: bool) -> Result<(), Memory>
+// Puts a face among those found. One that was found last isn't put there again. The only error is
+// want of memory.
+fn add_face(found: &mut Vec<u32>, face: u32) -> Result<(), Memory>
     ensures { OnOk result ((n : ℕ) → is_among n found.new.items
-        ≡ (is_among n found.old.items || (n == face && is_about))) }
+        ≡ (is_among n found.old.items || n == face)) }
 {
-    if is_about && !is_last(found.as_slice(), face) {
+    if !is_last(found.as_slice(), face) {
         found.push(face)?;
     }
     Ok(())
+}
+
+// Puts the faces that hold these interests among those found. The only error is want of memory.
+fn add_faces<K: Key>(found: &mut Vec<u32>, rows: &[((u32, u32), Option<K>)]) -> Result<(), Memory>
+    ensures { OnOk result ((n : ℕ) → is_among n found.new.items
+        ≡ (is_among n found.old.items || list_any (is_by n) rows.now)) }
+{
+    found.reserve(rows.len())?;
+    for row in rows {
+        add_face(found, row.0.0)?;
+    }
+    Ok(())
+}
+
+// Puts the faces among those found that hold interests, all in one expression, if that is about the
+// key. So it is matched once. The only error is want of memory.
+fn gather_alike<K: Key>(
+    found: &mut Vec<u32>,
+    rows: &[((u32, u32), Option<K>)],
+    expr: &K,
+) -> Result<(), Memory>
+    requires { AreAlike rows.now }
+    ensures { OnOk result ((n : ℕ) → is_among n found.new.items
+        ≡ (is_among n found.old.items || list_any (asks_from K.matching expr.now n) rows.now)) }
+{
+    match rows.first() {
+        None => Ok(()),
+        Some(first) => {
+            if is_about(&first.1, expr) {
+                add_faces(found, rows)
+            } else {
+                Ok(())
+            }
+        }
+    }
 }
 
 // Puts the faces among those found whose interests are about the key, one that holds several maybe
@@ -86,7 +134,9 @@ fn gather_in<K: Key>(
     let mut tried = None;
     for row in rows {
         let is_about = is_about_as(&tried, &row.1, expr);
-        add_face(found, row.0.0, is_about)?;
+        if is_about {
+            add_face(found, row.0.0)?;
+        }
         tried = Some(Tried {
             about: &row.1,
             is_about,
@@ -112,7 +162,7 @@ fn copy_rows<K: Key>(
 ) -> Result<Vec<((u32, u32), Option<K>)>, Memory>
     ensures { IfOk result (λ copies. copies.items ≡ rows.now) }
 {
-    let mut copies = Vec::new(alloc);
+    let mut copies = Vec::with_capacity(alloc, rows.len())?;
     for row in rows {
         copies.push((row.0, copy_about(alloc, &row.1)?))?;
     }
@@ -120,17 +170,25 @@ fn copy_rows<K: Key>(
 }
 
 /// The interests of one bucket, each under its face and id, with its expression, if it has one.
+/// Often they are all in one expression, as where many faces hold an interest in `**`. Then it is
+/// matched once for all of them.
 #[derive(Drop)]
 pub struct Holdings<K: Key> {
     rows: Vec<((u32, u32), Option<K>)>,
+
+    // Whether the interests are known to be in one expression.
+    are_alike: bool,
 }
 
 impl<K: Key> Model for Holdings<K> {
-    ghost use Rattle.std.specs.Prelude.{ℕ, List, Option};
+    ghost use Rattle.std.specs.Prelude.{◌≡◌, ℕ, List, Option, true};
+    ghost use Rattle.zt_interest_index.specs.Holdings.{AreAlike};
 
     ghost Value = { List ((ℕ × ℕ) × Option K) };
 
     ghost view = { λ a. a.rows.items };
+
+    ghost invariant = { λ a. a.are_alike ≡ true → AreAlike a.rows.items };
 }
 
 impl<K: Key> Holdings<K> {
@@ -140,7 +198,21 @@ impl<K: Key> Holdings<K> {
     {
         Holdings {
             rows: Vec::new(alloc),
+            are_alike: true,
         }
+    }
+
+    /// One interest, and room for it alone, since most buckets hold no other. The only error is
+    /// want of memory.
+    pub fn of_one(alloc: Global, face: u32, id: u32, about: Option<K>) -> Result<Self, Memory>
+        ensures { IfOk result (λ rows. rows ≡ ((face, id), about) ∷ []) }
+    {
+        let mut rows = Vec::with_capacity(alloc, 1)?;
+        rows.push(((face, id), about))?;
+        Ok(Holdings {
+            rows,
+            are_alike: true,
+        })
     }
 
     /// An interest more. The only error is want of memory, and then the interests stay.
@@ -148,7 +220,9 @@ impl<K: Key> Holdings<K> {
         ensures ok { OnOk result (self.new ≡ self.old ++ ((face, id), about) ∷ []) }
         ensures err { OnErr result (self.new ≡ self.old) }
     {
+        let are_alike = stay_alike(&self.rows, self.are_alike, &about);
         self.rows.push(((face, id), about))?;
+        self.are_alike = are_alike;
         Ok(())
     }
 
@@ -180,7 +254,11 @@ impl<K: Key> Holdings<K> {
             ≡ (is_among n found.old.items
             || list_any (asks_from K.matching expr.now n) self.now)) }
     {
-        gather_in(found, &self.rows, expr)
+        if self.are_alike {
+            gather_alike(found, &self.rows, expr)
+        } else {
+            gather_in(found, &self.rows, expr)
+        }
     }
 
     /// Equal interests. The only error is want of memory.
@@ -189,6 +267,7 @@ impl<K: Key> Holdings<K> {
     {
         Ok(Holdings {
             rows: copy_rows(alloc, &self.rows)?,
+            are_alike: self.are_alike,
         })
     }
 }

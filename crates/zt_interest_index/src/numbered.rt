@@ -26,8 +26,7 @@ pub(crate) fn put_in<K: Key>(
     match buckets.get_mut(&place) {
         Some(rows) => rows.push(face, id, about),
         None => {
-            let mut rows = Holdings::new(alloc);
-            rows.push(face, id, about)?;
+            let rows = Holdings::of_one(alloc, face, id, about)?;
             buckets.insert(place, rows)?;
             Ok(())
         }

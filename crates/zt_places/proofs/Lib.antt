@@ -1,3 +1,4 @@
 mod Ends
 pub mod Members
 mod Numbers
+mod Pairs

@@ -1,36 +1,20 @@
 -- Numbers of faces, where a place is put behind the others or taken away again.
-use Rattle.std.proofs.Common.{◌≡◌, ℕ, ◌+◌, ◌<◌, ◌≤◌, ◌==◌, ◌&&◌, Bool, true, false, if◌then◌else◌, List, [], ◌∷◌, ◌++◌, length, Option, Some, None, is_some, refl, sym, ap, ◌∙◌, arith, eq-eqb, eqb-true, ne_eqb}
+use Rattle.std.proofs.Common.{◌≡◌, ℕ, ◌+◌, ◌<◌, ◌≤◌, ◌==◌, ◌&&◌, true, false, not, cond, if◌then◌else◌, List, [], ◌∷◌, ◌++◌, length, Option, Some, None, is_some, unwrap_or, refl, sym, ap, ◌∙◌, arith, eq-eqb, eqb-true, ne_eqb}
 use Rattle.std.proofs.lemmas.Bool.Decides.{nat_tests}
+use Rattle.std.specs.Cmp.{alike_right, nat_cmp_total, unsigned_tied}
+use Rattle.std.specs.FinMap.Entries.{find, find-put, find-where_key}
 use Rattle.std.specs.Map.{lookup}
+use Rattle.std.specs.Ordering.{is_eq, nat_cmp}
 use Rattle.zt_keys.specs.Test.{by_test}
 use Rattle.zt_model.specs.Places.{Place, number_from}
-use Rattle.zt_places.specs.Found.{AreNumbers, HasNumber, LacksNumber, is_face, number_at, numbered, or_number, other_than}
+use Rattle.zt_ordered.specs.Rows.{same}
+use Rattle.zt_places.specs.Found.{AreNumbers, HasNumber, LacksNumber, faces_at, number_at, number_in, numbered, or_number, other_than, with_number, without_number}
 
 abbrev Numbers : Type 0
-Numbers = List ((ℕ × ℕ) × ℕ)
-
--- ---- tests of faces
+Numbers = List (ℕ × List (ℕ × ℕ))
 
 turned : (a b : ℕ) → (a == b) ≡ (b == a)
 turned a b = grind (arith, nat_tests)
-
--- a face is found under itself alone
-same_face : (gateway face g f : ℕ) → is_face (gateway, face) (g, f) ≡ ((g == gateway) && (f == face))
-same_face gateway face g f = ap (λ b. b && (face == f)) (turned gateway g) ∙ ap (λ b. (g == gateway) && b) (turned face f)
-
-and_first : (a b : Bool) → (a && b) ≡ true → a ≡ true
-and_first true b h = refl
-and_first false b h = cc
-
-and_second : (a b : Bool) → (a && b) ≡ true → b ≡ true
-and_second true b h = h
-and_second false b h = cc
-
--- what is found under a face that passes is what is found under the other
-number_there : (gateway face g f : ℕ) (numbers : Numbers) → ((g == gateway) && (f == face)) ≡ true → number_at g f numbers ≡ number_at gateway face numbers
-number_there gateway face g f numbers here =
-    ap (λ k. number_at k f numbers) (eqb-true g gateway (and_first (g == gateway) (f == face) here))
-    ∙ ap (λ k. number_at gateway k numbers) (eqb-true f face (and_second (g == gateway) (f == face) here))
 
 -- ---- numbers, or none
 
@@ -55,49 +39,82 @@ taken_back n number lt =
     (λ none. rw none (rw (eq-eqb number number refl) refl))
     (λ some. rw some (rw (ne_eqb n number (omega arith)) refl))
 
+none_other : (o : Option ℕ) (number : ℕ) → (unwrap_or o 0 == number) ≡ true → other_than number o ≡ None
+none_other None number this = refl
+none_other (Some n) number this = rw this refl
+
+still_other : (o : Option ℕ) (number : ℕ) → (unwrap_or o 0 == number) ≡ false → other_than number o ≡ o
+still_other None number other = refl
+still_other (Some n) number other = rw other refl
+
+-- ---- one gateway's faces
+
+find_with : (face number f : ℕ) (pairs : List (ℕ × ℕ)) → find nat_cmp f (with_number face number pairs) ≡ or_number (find nat_cmp f pairs) (if f == face then Some number else None)
+find_with face number f pairs =
+    by_test (is_some (find nat_cmp face pairs))
+    (λ there.
+    rw there (by_test (f == face)
+    (λ here. rw here (sym (or_there (find nat_cmp f pairs) (Some number) (ap (λ k. is_some (find nat_cmp k pairs)) (eqb-true f face here) ∙ there))))
+    (λ past. rw past (sym (or_none (find nat_cmp f pairs))))))
+    (λ absent.
+    let put : find nat_cmp f (with_number face number pairs) ≡ (if f == face then Some number else find nat_cmp f pairs) =
+    rw absent (find-put nat_cmp nat_cmp_total f face number pairs ∙ ap (λ b. cond b (Some number) (find nat_cmp f pairs)) (unsigned_tied f face))
+    in
+    put
+    ∙ by_test (f == face)
+    (λ here. rw here (sym (or_absent (find nat_cmp f pairs) (Some number) (ap (λ k. is_some (find nat_cmp k pairs)) (eqb-true f face here) ∙ absent))))
+    (λ past. rw past (sym (or_none (find nat_cmp f pairs)))))
+
+find_without : (face number f : ℕ) (pairs : List (ℕ × ℕ)) → find nat_cmp f (without_number face number pairs) ≡ (if f == face then other_than number (find nat_cmp f pairs) else find nat_cmp f pairs)
+find_without face number f pairs =
+    by_test (number_in face pairs == number)
+    (λ this.
+    let less : find nat_cmp f (without_number face number pairs) ≡ cond (not (f == face)) (find nat_cmp f pairs) None =
+    rw this (find-where_key nat_cmp (λ k. not (same nat_cmp face k)) f (λ x tied. ap (λ o. not (is_eq o)) (sym (alike_right nat_cmp_total f x face tied))) pairs
+    ∙ ap (λ b. cond (not b) (find nat_cmp f pairs) None) (unsigned_tied face f ∙ turned face f))
+    in
+    less
+    ∙ by_test (f == face)
+    (λ here. rw here (sym (none_other (find nat_cmp f pairs) number (ap (λ k. number_in k pairs == number) (eqb-true f face here) ∙ this))))
+    (λ past. rw past refl))
+    (λ other.
+    rw other (by_test (f == face)
+    (λ here. rw here (sym (still_other (find nat_cmp f pairs) number (ap (λ k. number_in k pairs == number) (eqb-true f face here) ∙ other))))
+    (λ past. rw past refl)))
+
 -- ---- what the map's calls leave
 
--- a face has a number already
-pub number_kept : (gateway face number : ℕ) (numbers : Numbers) → is_some (number_at gateway face numbers) ≡ true → HasNumber gateway face number numbers numbers
-number_kept gateway face number numbers there = record {
+-- a gateway's faces are written
+written : (gateway g : ℕ) (pairs : List (ℕ × ℕ)) (old new : Numbers) → ((q : ℕ) → lookup (λ k. q == k) new ≡ (if gateway == q then Some pairs else lookup (λ k. q == k) old))
+    → faces_at g new ≡ (if g == gateway then pairs else faces_at g old)
+written gateway g pairs old new puts =
+    let now : faces_at g new ≡ unwrap_or (if g == gateway then Some pairs else lookup (λ k. g == k) old) [] =
+    ap (λ o. unwrap_or o []) (puts g ∙ ap (λ b. if b then Some pairs else lookup (λ k. g == k) old) (turned gateway g))
+    in
+    by_test (g == gateway) (λ here. rw here (rw here at now)) (λ past. rw past (rw past at now))
+
+pub number_put : (gateway face number : ℕ) (pairs : List (ℕ × ℕ)) (old new : Numbers) → pairs ≡ with_number face number (faces_at gateway old)
+    → ((q : ℕ) → lookup (λ k. q == k) new ≡ (if gateway == q then Some pairs else lookup (λ k. q == k) old)) → HasNumber gateway face number old new
+number_put gateway face number pairs old new is puts = record {
   at = λ g f.
-      by_test ((g == gateway) && (f == face))
-      (λ here. sym (or_there (number_at g f numbers) _ (ap is_some (number_there gateway face g f numbers here) ∙ there)))
-      (λ past. rw past (sym (or_none (number_at g f numbers))));
+      let now = ap (find nat_cmp f) (written gateway g pairs old new puts) in
+      by_test (g == gateway)
+      (λ here.
+      let same : faces_at gateway old ≡ faces_at g old = ap (λ k. faces_at k old) (sym (eqb-true g gateway here)) in
+      rw here (rw here at now ∙ ap (find nat_cmp f) (is ∙ ap (with_number face number) same) ∙ find_with face number f (faces_at g old)))
+      (λ past. rw past (rw past at now ∙ sym (or_none (number_at g f old))));
 }
 
-pub number_put : (gateway face number : ℕ) (old new : Numbers) → is_some (number_at gateway face old) ≡ false
-    → ((q : ℕ × ℕ) → lookup (is_face q) new ≡ (if is_face (gateway, face) q then Some number else lookup (is_face q) old)) → HasNumber gateway face number old new
-number_put gateway face number old new absent puts = record {
+pub number_dropped : (gateway face number : ℕ) (pairs : List (ℕ × ℕ)) (old new : Numbers) → pairs ≡ without_number face number (faces_at gateway old)
+    → ((q : ℕ) → lookup (λ k. q == k) new ≡ (if gateway == q then Some pairs else lookup (λ k. q == k) old)) → LacksNumber gateway face number old new
+number_dropped gateway face number pairs old new is puts = record {
   at = λ g f.
-      let now : number_at g f new ≡ (if (g == gateway) && (f == face) then Some number else number_at g f old) =
-      puts (g, f) ∙ ap (λ b. if b then Some number else number_at g f old) (same_face gateway face g f)
-      in
-      by_test ((g == gateway) && (f == face))
-      (λ here. rw here at now ∙ sym (rw here (or_absent (number_at g f old) (Some number) (ap is_some (number_there gateway face g f old here) ∙ absent))))
-      (λ past. rw past at now ∙ sym (rw past (or_none (number_at g f old))));
-}
-
--- a face's number is another, or none
-pub number_stays : (gateway face number : ℕ) (numbers : Numbers) → other_than number (number_at gateway face numbers) ≡ number_at gateway face numbers → LacksNumber gateway face number numbers numbers
-number_stays gateway face number numbers other = record {
-  at = λ g f.
-      by_test ((g == gateway) && (f == face))
-      (λ here. let there = number_there gateway face g f numbers here in rw here (there ∙ sym other ∙ ap (other_than number) (sym there)))
-      (λ past. rw past refl);
-}
-
-pub number_dropped : (gateway face number : ℕ) (old new : Numbers) → number_at gateway face old ≡ Some number
-    → ((q : ℕ × ℕ) → lookup (is_face q) new ≡ (if is_face (gateway, face) q then None else lookup (is_face q) old)) → LacksNumber gateway face number old new
-number_dropped gateway face number old new is drops = record {
-  at = λ g f.
-      let now : number_at g f new ≡ (if (g == gateway) && (f == face) then None else number_at g f old) =
-      drops (g, f) ∙ ap (λ b. if b then None else number_at g f old) (same_face gateway face g f)
-      in
-      let gone : other_than number (Some number) ≡ None = rw (eq-eqb number number refl) refl in
-      by_test ((g == gateway) && (f == face))
-      (λ here. rw here at now ∙ sym (rw here (ap (other_than number) (number_there gateway face g f old here ∙ is) ∙ gone)))
-      (λ past. rw past at now ∙ sym (rw past refl));
+      let now = ap (find nat_cmp f) (written gateway g pairs old new puts) in
+      by_test (g == gateway)
+      (λ here.
+      let same : faces_at gateway old ≡ faces_at g old = ap (λ k. faces_at k old) (sym (eqb-true g gateway here)) in
+      rw here (rw here at now ∙ ap (find nat_cmp f) (is ∙ ap (without_number face number) same) ∙ find_without face number f (faces_at g old)))
+      (λ past. rw past (rw past at now));
 }
 
 -- ---- a place more, and one less

@@ -1,35 +1,56 @@
 -- Which number a gateway's face has in scripts, and in which order links stand, so that both are found by look-ups.
+--     AreRising pairs                        pairs of face and number stand in order of face, each face once
+--     number_in face pairs                   the number of a face there; 0 where there is none
+--     with_number face number pairs          a face has a number, where it had none
+--     without_number face number pairs       a face has a number no more, where it was this one
+--     faces_at gateway numbers               the faces of a gateway with their numbers
 --     number_at gateway face numbers         the number that stands under a gateway's face
 --     AreNumbers numbers places              each face has its number in scripts, and no other face one
 --     HasNumber, LacksNumber                 a face has a number, where it had none, or has it no more; all else stays
 --     FacesRise n links                      the faces that links join rise, from n on
 --     AreBelow face links                    all of them are below a face
-use Rattle.std.specs.Prelude.{◌≡◌, ℕ, Bool, ◌+◌, ◌<◌, ◌≤◌, ◌==◌, ◌&&◌, if◌then◌else◌, List, [], ◌∷◌, Option, Some, None, length, get_or}
+use Rattle.std.specs.Prelude.{◌≡◌, ℕ, ◌+◌, ◌<◌, ◌≤◌, ◌==◌, ◌&&◌, if◌then◌else◌, List, [], ◌∷◌, Option, Some, None, is_some, unwrap_or, true, length, get_or}
+use Rattle.std.specs.FinMap.Entries.{find, is_sorted, put}
 use Rattle.std.specs.List.{AllByRecursion}
 use Rattle.std.specs.Map.{lookup}
+use Rattle.std.specs.Ordering.{nat_cmp}
 use Rattle.zt_model.specs.Places.{Link, Place, number_from}
+use Rattle.zt_ordered.specs.Rows.{without}
 
 -- ---- numbers
 
--- a face is known by its gateway, and its number there
-abbrev pub is_face : ℕ × ℕ → ℕ × ℕ → Bool
-is_face a b = (a.0 == b.0) && (a.1 == b.1)
+abbrev pub AreRising : List (ℕ × ℕ) → Type 0
+AreRising pairs = is_sorted nat_cmp pairs ≡ true
 
-abbrev pub number_at : ℕ → ℕ → List ((ℕ × ℕ) × ℕ) → Option ℕ
-number_at gateway face numbers = lookup (is_face (gateway, face)) numbers
+-- the number of a face; 0 where there is none
+abbrev pub number_in : ℕ → List (ℕ × ℕ) → ℕ
+number_in face pairs = unwrap_or (find nat_cmp face pairs) 0
+
+-- a face that has a number keeps it
+abbrev pub with_number : ℕ → ℕ → List (ℕ × ℕ) → List (ℕ × ℕ)
+with_number face number pairs = if is_some (find nat_cmp face pairs) then pairs else put nat_cmp face number pairs
+
+abbrev pub without_number : ℕ → ℕ → List (ℕ × ℕ) → List (ℕ × ℕ)
+without_number face number pairs = if number_in face pairs == number then without nat_cmp face pairs else pairs
+
+abbrev pub faces_at : ℕ → List (ℕ × List (ℕ × ℕ)) → List (ℕ × ℕ)
+faces_at gateway numbers = unwrap_or (lookup (λ g. gateway == g) numbers) []
+
+abbrev pub number_at : ℕ → ℕ → List (ℕ × List (ℕ × ℕ)) → Option ℕ
+number_at gateway face numbers = find nat_cmp face (faces_at gateway numbers)
 
 -- a number, where it is one: 0 is none
 abbrev pub numbered : ℕ → Option ℕ
 numbered n = if n == 0 then None else Some n
 
-pub record AreNumbers (numbers : List ((ℕ × ℕ) × ℕ)) (places : List Place) : Type 0 where
+pub record AreNumbers (numbers : List (ℕ × List (ℕ × ℕ))) (places : List Place) : Type 0 where
   pub at : (gateway face : ℕ) → number_at gateway face numbers ≡ numbered (number_from 1 gateway face places)
 
 abbrev pub or_number : Option ℕ → Option ℕ → Option ℕ
 or_number None other = other
 or_number (Some n) other = Some n
 
-pub record HasNumber (gateway face number : ℕ) (old new : List ((ℕ × ℕ) × ℕ)) : Type 0 where
+pub record HasNumber (gateway face number : ℕ) (old new : List (ℕ × List (ℕ × ℕ))) : Type 0 where
   pub at : (g f : ℕ) → number_at g f new ≡ or_number (number_at g f old) (if (g == gateway) && (f == face) then Some number else None)
 
 -- a number but for one
@@ -37,7 +58,7 @@ abbrev pub other_than : ℕ → Option ℕ → Option ℕ
 other_than number None = None
 other_than number (Some n) = if n == number then None else Some n
 
-pub record LacksNumber (gateway face number : ℕ) (old new : List ((ℕ × ℕ) × ℕ)) : Type 0 where
+pub record LacksNumber (gateway face number : ℕ) (old new : List (ℕ × List (ℕ × ℕ))) : Type 0 where
   pub at : (g f : ℕ) → number_at g f new ≡ (if (g == gateway) && (f == face) then other_than number (number_at g f old) else number_at g f old)
 
 -- ---- links

@@ -2,8 +2,10 @@
 //! link that a face ends, are looked up.
 #![tactic(auto)]
 
+mod faces;
 mod links;
 mod places;
 
+pub use faces::FaceNumbers;
 pub use links::{LinkState, Links};
 pub use places::{PlaceState, Places};

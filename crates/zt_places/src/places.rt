@@ -1,8 +1,11 @@
 // The places of faces, and the numbers of faces in scripts.
-ghost use Rattle.std.specs.Prelude.{◌≡◌, ◌+◌, ◌-◌, ◌++◌, [], ◌∷◌, length, take, IfOk, OnErr, OnOk};
+ghost use Rattle.std.specs.Prelude.{◌≡◌, ℕ, ◌+◌, ◌-◌, ◌++◌, [], ◌∷◌, length, take};
+ghost use Rattle.std.specs.Prelude.{IfOk, OnErr, OnOk};
 ghost use Rattle.zt_model.specs.Places.{number_from};
-ghost use Rattle.zt_places.specs.Found.{AreNumbers, HasNumber, LacksNumber};
+ghost use Rattle.zt_places.specs.Found.{AreNumbers, AreRising, HasNumber, LacksNumber};
+ghost use Rattle.zt_places.specs.Found.{faces_at, number_in};
 
+use crate::faces::{FaceNumbers, NumberedFaces};
 use std::alloc::Global;
 use std::collections::HashMap;
 use std::marker::Model;
@@ -43,9 +46,8 @@ impl PlaceState {
 #[derive(Drop)]
 pub struct Places {
     places: Vec<PlaceState>,
-    // The number of each face, by its gateway and its number there. Of equal places the first
-    // counts.
-    numbers: HashMap<(u32, u32), u32>,
+    // The faces of each gateway with their numbers. Of equal places the first counts.
+    numbers: HashMap<u32, NumberedFaces>,
 }
 
 impl Model for Places {
@@ -70,9 +72,21 @@ fn next_number(count: usize) -> Result<u32, Memory>
     Ok(count as u32 + 1)
 }
 
+// The faces of a gateway with their numbers.
+fn find_faces(numbers: &HashMap<u32, NumberedFaces>, gateway: u32) -> &[(u32, u32)]
+    ensures pairs { result.now ≡ faces_at gateway numbers.now.entries }
+    ensures in_order { AreRising result.now }
+{
+    match numbers.get(&gateway) {
+        None => &[],
+        Some(faces) => faces.as_slice(),
+    }
+}
+
 // A face has a number, where it had none. The only error is want of memory, and then all stays.
 fn put_number(
-    numbers: &mut HashMap<(u32, u32), u32>,
+    alloc: Global,
+    numbers: &mut HashMap<u32, NumberedFaces>,
     gateway: u32,
     face: u32,
     number: u32,
@@ -81,28 +95,28 @@ fn put_number(
         numbers.new.entries) }
     ensures err { OnErr result (numbers.new.entries ≡ numbers.old.entries) }
 {
-    if numbers.contains_key(&(gateway, face)) {
-        return Ok(());
+    match numbers.get_mut(&gateway) {
+        Some(faces) => faces.put(face, number),
+        None => {
+            numbers.insert(gateway, NumberedFaces::one(alloc, face, number)?)?;
+            Ok(())
+        }
     }
-    numbers.insert((gateway, face), number)?;
-    Ok(())
 }
 
 // A face has a number no more, where it was this one.
-fn drop_number(numbers: &mut HashMap<(u32, u32), u32>, gateway: u32, face: u32, number: usize)
+fn drop_number(numbers: &mut HashMap<u32, NumberedFaces>, gateway: u32, face: u32, number: usize)
     ensures { LacksNumber gateway face number numbers.old.entries numbers.new.entries }
 {
-    if let Some(found) = numbers.get(&(gateway, face)) {
-        if *found as usize == number {
-            let _ = numbers.remove(&(gateway, face));
-        }
+    if let Some(faces) = numbers.get_mut(&gateway) {
+        faces.remove(face, number);
     }
 }
 
 // One more place. The only error is want of memory, and then all stays.
 fn push_in(
     places: &mut Vec<PlaceState>,
-    numbers: &mut HashMap<(u32, u32), u32>,
+    numbers: &mut HashMap<u32, NumberedFaces>,
     gateway: u32,
     face: u32,
 ) -> Result<(), Memory>
@@ -114,7 +128,8 @@ fn push_in(
 {
     let number = next_number(places.len())?;
     places.push(PlaceState { gateway, face })?;
-    match put_number(numbers, gateway, face, number) {
+    let alloc = *places.allocator();
+    match put_number(alloc, numbers, gateway, face, number) {
         Ok(()) => Ok(()),
         Err(error) => {
             let _ = places.pop();
@@ -124,7 +139,7 @@ fn push_in(
 }
 
 // The last place goes.
-fn pop_in(places: &mut Vec<PlaceState>, numbers: &mut HashMap<(u32, u32), u32>)
+fn pop_in(places: &mut Vec<PlaceState>, numbers: &mut HashMap<u32, NumberedFaces>)
     requires { AreNumbers numbers.old.entries places.old.items }
     ensures numbers { AreNumbers numbers.new.entries places.new.items }
     ensures places { places.new.items ≡ take (length places.old.items - 1) places.old.items }
@@ -160,14 +175,19 @@ impl Places {
         self.places.len()
     }
 
+    /// The faces of a gateway with their numbers in scripts. A look-up, after which each face is
+    /// found without another.
+    pub fn faces_of(&self, gateway: u32) -> FaceNumbers<'_>
+        ensures { (face : ℕ) → number_in face result ≡ number_from 1 gateway face self.now }
+    {
+        FaceNumbers::new(find_faces(&self.numbers, gateway))
+    }
+
     /// The number in scripts of a gateway's face; 0 where there is none. A look-up.
     pub fn number(&self, gateway: u32, face: u32) -> u32
         ensures { result ≡ number_from 1 gateway face self.now }
     {
-        match self.numbers.get(&(gateway, face)) {
-            Some(number) => *number,
-            None => 0,
-        }
+        self.faces_of(gateway).number(face)
     }
 
     /// A place is put behind the others. The only error is want of memory, and then nothing is

@@ -1,3 +1,4 @@
+mod Branches
 mod Greetings
 mod Loops
 mod Origins

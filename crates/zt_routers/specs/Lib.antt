@@ -1,3 +1,4 @@
+pub mod Branches
 pub mod Greeting
 pub mod Hiding
 pub mod LeftOut

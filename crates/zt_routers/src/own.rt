@@ -1,23 +1,24 @@
 // What the gateway itself shows in router regions.
-ghost use Rattle.std.specs.Prelude.{◌≡◌, ◌&&◌, ◌++◌, [], ◌∷◌, IfOk, OnOk, filter, map};
+ghost use Rattle.std.specs.Prelude.{◌≡◌, ◌&&◌, ◌++◌, [], ◌∷◌, IfOk, OnOk, filter};
 ghost use Rattle.std.specs.List.Sorted.{IsStrictlySortedBy};
 ghost use Rattle.zt_region.specs.Region.{zid_eq};
 ghost use Rattle.zt_model.specs.Lists.{is_among};
 ghost use Rattle.zt_model.specs.Parts.{to_each};
 ghost use Rattle.zt_model.specs.Strategy.{is_router_hat, strategy_of};
 ghost use Rattle.zt_routed.specs.Routed.{rows_of};
+ghost use Rattle.zt_routers.specs.Branches.{IsHiding, IsShowing};
 ghost use Rattle.zt_routers.specs.Hiding.{hidden_among};
 ghost use Rattle.zt_model.specs.Trees.{hide_to, is_hidden, is_newly_shown, is_own_row};
 ghost use Rattle.zt_model.specs.Trees.{router_regions, show_to};
 
-use crate::passing::{pass_to, unpass_to};
+use crate::passing::{Branch, bare_branch, branch_of, pass_to, unpass_to};
 use std::alloc::Global;
 use std::collections::BTreeSet;
 use zt_keys::{Key, Memory};
 use zt_protocol::Message;
 use zt_region::Region;
 use zt_routed::Origin;
-use zt_state::{FaceState, GatewayState};
+use zt_state::GatewayState;
 use zt_tokens::{is_router_region, is_visible};
 
 // Whether the gateway shows the expression in the region.
@@ -46,23 +47,44 @@ fn is_hidden<K: Key>(g: &GatewayState<K>, source: Region, expr: &K, region: Regi
     is_router_region(g.mode(), region) && region != source && !is_visible(g, region, expr)
 }
 
-// Adds what a face is told where the gateway shows the token.
-#[tactic(auto, unfolding(zt_model::specs::Trees::show_to))]
-fn show_to<K: Key>(
-    alloc: Global,
-    g: &GatewayState<K>,
+// The branch of the gateway's own tokens in a region where the token is newly shown; elsewhere it
+// goes on to nobody.
+fn shown_branch<'a, K: Key>(
+    g: &'a GatewayState<K>,
     source: Region,
     expr: &K,
-    f: &FaceState<K>,
-    sends: &mut Vec<(u32, Message<K>)>,
-) -> Result<(), Memory>
-    ensures { OnOk result (sends.new.items ≡ sends.old.items
-        ++ map (λ m. (f.now.number, m)) (show_to K.cmp g.now source expr.now f.now)) }
+    region: Region,
+) -> Branch<'a>
+    ensures region { result.region ≡ region }
+    ensures shows { IsShowing K.cmp g.now source expr.now result.region result.children.now
+        result.node_id }
 {
-    if is_newly_shown(g, source, expr, f.region()) {
-        pass_to(alloc, g, f.region(), g.zid(), expr, f, sends)?;
+    if is_newly_shown(g, source, expr, region) {
+        branch_of(g, region, g.zid())
+    } else {
+        bare_branch(region)
     }
-    Ok(())
+}
+
+// The branch for the face's region: mostly that of the face before.
+fn next_shown<'a, K: Key>(
+    g: &'a GatewayState<K>,
+    source: Region,
+    expr: &K,
+    branch: Branch<'a>,
+    region: Region,
+) -> Branch<'a>
+    requires { IsShowing K.cmp g.now source expr.now branch.region branch.children.now
+        branch.node_id }
+    ensures region { result.region ≡ region }
+    ensures shows { IsShowing K.cmp g.now source expr.now result.region result.children.now
+        result.node_id }
+{
+    if region == branch.region {
+        branch
+    } else {
+        shown_branch(g, source, expr, region)
+    }
 }
 
 /// The gateway shows a token of the region `source` in its router regions that are newly shown it.
@@ -80,8 +102,10 @@ pub fn show<K: Key>(
     if g.trees().is_empty() {
         return Ok(sends);
     }
+    let mut branch = shown_branch(g, source, expr, Region::North);
     for f in g.faces() {
-        show_to(alloc, g, source, expr, f, &mut sends)?;
+        branch = next_shown(g, source, expr, branch, f.region());
+        pass_to(alloc, g, &branch, expr, f, &mut sends)?;
     }
     Ok(sends)
 }
@@ -177,23 +201,44 @@ pub fn hidden_regions<K: Key>(
     Ok(regions)
 }
 
-// Adds what a face is told where the gateway hides the expression.
-#[tactic(auto, unfolding(zt_model::specs::Trees::hide_to))]
-fn hide_to<K: Key>(
-    alloc: Global,
-    g: &GatewayState<K>,
+// The branch of the gateway's own tokens in a region that can't see the expression any more;
+// elsewhere it goes on to nobody.
+fn hidden_branch<'a, K: Key>(
+    g: &'a GatewayState<K>,
     source: Region,
     expr: &K,
-    f: &FaceState<K>,
-    sends: &mut Vec<(u32, Message<K>)>,
-) -> Result<(), Memory>
-    ensures { OnOk result (sends.new.items ≡ sends.old.items
-        ++ map (λ m. (f.now.number, m)) (hide_to K.cmp g.now source expr.now f.now)) }
+    region: Region,
+) -> Branch<'a>
+    ensures region { result.region ≡ region }
+    ensures hides { IsHiding K.cmp g.now source expr.now result.region result.children.now
+        result.node_id }
 {
-    if is_hidden(g, source, expr, f.region()) {
-        unpass_to(alloc, g, f.region(), g.zid(), expr, f, sends)?;
+    if is_hidden(g, source, expr, region) {
+        branch_of(g, region, g.zid())
+    } else {
+        bare_branch(region)
     }
-    Ok(())
+}
+
+// The branch for the face's region: mostly that of the face before.
+fn next_hidden<'a, K: Key>(
+    g: &'a GatewayState<K>,
+    source: Region,
+    expr: &K,
+    branch: Branch<'a>,
+    region: Region,
+) -> Branch<'a>
+    requires { IsHiding K.cmp g.now source expr.now branch.region branch.children.now
+        branch.node_id }
+    ensures region { result.region ≡ region }
+    ensures hides { IsHiding K.cmp g.now source expr.now result.region result.children.now
+        result.node_id }
+{
+    if region == branch.region {
+        branch
+    } else {
+        hidden_branch(g, source, expr, region)
+    }
 }
 
 /// The gateway hides an expression that is gone from the region `source` in its router regions that
@@ -212,8 +257,10 @@ pub fn hide<K: Key>(
     if g.trees().is_empty() {
         return Ok(sends);
     }
+    let mut branch = hidden_branch(g, source, expr, Region::North);
     for f in g.faces() {
-        hide_to(alloc, g, source, expr, f, &mut sends)?;
+        branch = next_hidden(g, source, expr, branch, f.region());
+        unpass_to(alloc, g, &branch, expr, f, &mut sends)?;
     }
     Ok(sends)
 }

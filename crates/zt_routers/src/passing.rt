@@ -1,17 +1,18 @@
 // Tokens on their way along the trees.
-ghost use Rattle.std.specs.Prelude.{◌≡◌, ◌&&◌, ◌++◌, IfOk, OnOk, map};
+ghost use Rattle.std.specs.Prelude.{◌≡◌, ◌&&◌, ◌++◌, [], IfOk, OnOk, map};
 ghost use Rattle.std.specs.Option.{option_copied};
 ghost use Rattle.zt_model.specs.Lists.{first_where};
-ghost use Rattle.zt_model.specs.Trees.{is_child, is_face_of_router, pass_on, pass_to, table_of};
-ghost use Rattle.zt_model.specs.Trees.{unpass, unpass_to};
+ghost use Rattle.zt_model.specs.Trees.{is_face_of_router, pass_on, unpass};
 ghost use Rattle.zt_region.specs.Region.{region_eq, zid_eq};
+ghost use Rattle.zt_routers.specs.Branches.{IsBranchOf, is_reached, passed, unpassed};
 
-use crate::tables::{has_child, node_in};
+use crate::tables::table_in;
 use std::alloc::Global;
 use zt_keys::{Key, Memory};
 use zt_protocol::Message;
-use zt_region::{Region, Zid};
+use zt_region::{NodeId, Region, Zid};
 use zt_state::{FaceState, GatewayState};
+use zt_tables::is_child_among;
 
 // The lowest open face of a region behind which the router stands.
 fn find_face_of<K: Key>(g: &GatewayState<K>, region: Region, zid: Zid) -> Option<&FaceState<K>>
@@ -36,59 +37,95 @@ pub(crate) fn is_face_of_router<K: Key>(g: &GatewayState<K>, f: &FaceState<K>) -
     }
 }
 
-// Whether in a region the source's tokens go on to the face.
-#[tactic(auto, unfolding(zt_model::specs::Trees::is_child))]
-fn is_child<K: Key>(g: &GatewayState<K>, region: Region, source: Zid, f: &FaceState<K>) -> bool
-    ensures { result ≡ is_child g.now (table_of g.now region) source f.now }
-{
-    has_child(g, region, source, f.zid()) && is_face_of_router(g, f)
+/// Where the tokens of a source go on to in a region: the entries of its children, and the
+/// gateway's own number for it. It is looked up once, and tried at each face.
+#[derive(Clone, Copy, Drop)]
+pub(crate) struct Branch<'a> {
+    pub(crate) region: Region,
+    children: &'a [(Zid, Zid)],
+    node_id: NodeId,
 }
 
-// Adds what a face is told of a token of the source.
-#[tactic(auto, unfolding(zt_model::specs::Trees::pass_to))]
+/// A branch that goes on to nobody.
+pub(crate) fn bare_branch<'a>(region: Region) -> Branch<'a>
+    ensures region { result.region ≡ region }
+    ensures bare { result.children.now ≡ [] }
+    ensures number { result.node_id ≡ 0 }
+{
+    Branch {
+        region,
+        children: &[],
+        node_id: 0,
+    }
+}
+
+/// The branch of a source in a region, by the region's table.
+pub(crate) fn branch_of<K: Key>(g: &GatewayState<K>, region: Region, source: Zid) -> Branch<'_>
+    ensures region { result.region ≡ region }
+    ensures branch { IsBranchOf g.now result.region source result.children.now result.node_id }
+{
+    match table_in(g, region) {
+        None => bare_branch(region),
+        Some(table) => Branch {
+            region,
+            children: table.children_of(source),
+            node_id: table.node_of(source),
+        },
+    }
+}
+
+// Whether tokens go on to the face.
+fn is_reached<K: Key>(g: &GatewayState<K>, branch: &Branch<'_>, f: &FaceState<K>) -> bool
+    ensures { result ≡ is_reached g.now branch.now.region branch.now.children.now f.now }
+{
+    f.region() == branch.region
+        && is_child_among(f.zid(), branch.children)
+        && is_face_of_router(g, f)
+}
+
+// Adds what a face is told of a token that goes on.
 pub(crate) fn pass_to<K: Key>(
     alloc: Global,
     g: &GatewayState<K>,
-    region: Region,
-    source: Zid,
+    branch: &Branch<'_>,
     expr: &K,
     f: &FaceState<K>,
     sends: &mut Vec<(u32, Message<K>)>,
 ) -> Result<(), Memory>
-    ensures { OnOk result (sends.new.items ≡ sends.old.items
-        ++ map (λ m. (f.now.number, m)) (pass_to K.cmp g.now region source expr.now f.now)) }
+    ensures { OnOk result (sends.new.items ≡ sends.old.items ++ map (λ m. (f.now.number, m))
+        (passed g.now branch.now.region branch.now.children.now branch.now.node_id expr.now
+        f.now)) }
 {
-    if f.region() == region && is_child(g, region, source, f) {
+    if is_reached(g, branch, f) {
         let message = Message::DeclareToken {
             id: 0,
             expr: expr.copy(alloc)?,
             interest_id: None,
-            node_id: node_in(g, region, source),
+            node_id: branch.node_id,
         };
         sends.push((f.number(), message))?;
     }
     Ok(())
 }
 
-// Adds what a face is told where a token of the source is gone.
-#[tactic(auto, unfolding(zt_model::specs::Trees::unpass_to))]
+// Adds what a face is told where a token that went on is gone.
 pub(crate) fn unpass_to<K: Key>(
     alloc: Global,
     g: &GatewayState<K>,
-    region: Region,
-    source: Zid,
+    branch: &Branch<'_>,
     expr: &K,
     f: &FaceState<K>,
     sends: &mut Vec<(u32, Message<K>)>,
 ) -> Result<(), Memory>
-    ensures { OnOk result (sends.new.items ≡ sends.old.items
-        ++ map (λ m. (f.now.number, m)) (unpass_to K.cmp g.now region source expr.now f.now)) }
+    ensures { OnOk result (sends.new.items ≡ sends.old.items ++ map (λ m. (f.now.number, m))
+        (unpassed g.now branch.now.region branch.now.children.now branch.now.node_id expr.now
+        f.now)) }
 {
-    if f.region() == region && is_child(g, region, source, f) {
+    if is_reached(g, branch, f) {
         let message = Message::UndeclareToken {
             id: 0,
             expr: Some(expr.copy(alloc)?),
-            node_id: node_in(g, region, source),
+            node_id: branch.node_id,
         };
         sends.push((f.number(), message))?;
     }
@@ -105,9 +142,10 @@ pub fn pass_on<K: Key>(
 ) -> Result<Vec<(u32, Message<K>)>, Memory>
     ensures { IfOk result (λ sends. sends.items ≡ pass_on K.cmp region source expr.now g.now) }
 {
+    let branch = branch_of(g, region, source);
     let mut sends = Vec::new(alloc);
     for f in g.faces() {
-        pass_to(alloc, g, region, source, expr, f, &mut sends)?;
+        pass_to(alloc, g, &branch, expr, f, &mut sends)?;
     }
     Ok(sends)
 }
@@ -122,9 +160,10 @@ pub fn unpass<K: Key>(
 ) -> Result<Vec<(u32, Message<K>)>, Memory>
     ensures { IfOk result (λ sends. sends.items ≡ unpass K.cmp region source expr.now g.now) }
 {
+    let branch = branch_of(g, region, source);
     let mut sends = Vec::new(alloc);
     for f in g.faces() {
-        unpass_to(alloc, g, region, source, expr, f, &mut sends)?;
+        unpass_to(alloc, g, &branch, expr, f, &mut sends)?;
     }
     Ok(sends)
 }

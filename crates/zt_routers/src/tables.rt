@@ -1,10 +1,9 @@
 // The tables of router regions, as a gateway keeps them.
 ghost use Rattle.std.specs.Prelude.{◌≡◌, ◌==◌, ◌&&◌, [], IfNone, IfOk, IfSome, option_map};
-ghost use Rattle.std.specs.List.{list_any};
 ghost use Rattle.std.specs.Option.{option_copied};
 ghost use Rattle.zt_model.specs.Lists.{first_where};
-ghost use Rattle.zt_model.specs.Trees.{counted_table, node_of, source_of, table_of};
-ghost use Rattle.zt_region.specs.Region.{region_eq, zid_eq};
+ghost use Rattle.zt_model.specs.Trees.{counted_table, source_of, table_of};
+ghost use Rattle.zt_region.specs.Region.{region_eq};
 
 use std::alloc::Global;
 use zt_keys::{Key, Memory};
@@ -50,34 +49,6 @@ pub fn table_of<K: Key>(
     match table_in(g, region) {
         None => Ok(KeptTable::empty(alloc)),
         Some(table) => table.copy(alloc),
-    }
-}
-
-/// Whether in a region the source's tokens go on to the router. A look-up.
-#[tactic(auto, unfolding(zt_model::specs::Trees::table_of))]
-pub(crate) fn has_child<K: Key>(
-    g: &GatewayState<K>,
-    region: Region,
-    source: Zid,
-    router: Zid,
-) -> bool
-    ensures { result ≡ list_any
-        (λ c. zid_eq source c.0 && zid_eq router c.1) (table_of g.now region).children }
-{
-    match kept_table(g.trees(), region) {
-        None => false,
-        Some(row) => row.1.has_child(source, router),
-    }
-}
-
-/// The gateway's own number for a router of a region; 0 where it has none. A look-up.
-#[tactic(auto, unfolding(zt_model::specs::Trees::table_of))]
-pub(crate) fn node_in<K: Key>(g: &GatewayState<K>, region: Region, zid: Zid) -> NodeId
-    ensures { result ≡ node_of zid (table_of g.now region) }
-{
-    match kept_table(g.trees(), region) {
-        None => 0,
-        Some(row) => row.1.node_of(zid),
     }
 }
 

@@ -1,3 +1,4 @@
+mod Children
 mod Clashes
 mod Looked
 mod Nodes

@@ -1,6 +1,7 @@
 -- One entry more before the others is found first.
 use Rattle.std.proofs.Common.{◌≡◌, ◌&&◌, ◌||◌, ◌==◌, ◌∷◌, ℕ, Bool, true, false, List, [], Option, Some, ap, arith, cond, is_some, option_map, refl, ◌∙◌}
 use Rattle.std.proofs.lemmas.Bool.Decides.{nat_tests}
+use Rattle.std.proofs.lemmas.List.Sorted.{IsNonDecreasingBy-short}
 use Rattle.std.specs.BTreeMap as tree
 use Rattle.std.specs.BTreeMap.{BTreeMap, is_at}
 use Rattle.std.specs.BTreeSet as sorted
@@ -15,7 +16,7 @@ use Rattle.zt_model.specs.Lists.{first_where}
 use Rattle.zt_model.specs.Trees.{counted_table}
 use Rattle.zt_tables.specs.KeysOf.{child_cmp, node_key_cmp}
 use Rattle.zt_tables.specs.Listed.{AreListed}
-use Rattle.zt_tables.specs.Lookups.{AreLookups, FindsBehind, FindsChildren, FindsNodes}
+use Rattle.zt_tables.specs.Lookups.{AreLookups, FindsBehind, FindsChildren, FindsNodes, number_of_source}
 use Rattle.zt_tables.proofs.Clashes.{both_are, nat_is}
 
 -- a test from the other side
@@ -74,13 +75,14 @@ is_found value test (x ∷ xs) = found_at (test x) (is_found value test xs)
     found_at false rest = rest
 
 -- where a table lists nothing, nothing is found
-pub none_found : AreLookups (record { routers = []; links = []; children = [] }) [] [] [] []
+pub none_found : AreLookups (record { routers = []; links = []; children = [] }) [] [] [] [] []
 unfolding counted_table
 none_found = record {
   ordered = refl;
   finds_nodes = record { at = λ zid. refl };
   finds_behind = record { at = λ face node. refl };
   finds_children = record { at = λ source router. refl };
+  children_by_source = record { ordered = IsNonDecreasingBy-short number_of_source [] (omega arith); at = λ source router. refl };
 }
 
 -- a router is found by its number where a table lists it

@@ -6,9 +6,10 @@ ghost use Rattle.zt_model.specs.Lists.{first_where, in_key_order};
 ghost use Rattle.zt_model.specs.Trees.{counted_table, is_listed, node_of};
 ghost use Rattle.zt_protocol.specs.Plain.{trees_of};
 ghost use Rattle.zt_region.specs.Region.{zid_eq};
+ghost use Rattle.zt_tables.specs.Lookups.{HaveChildrenOf};
 
 use crate::counting::{counted_links, counted_routers};
-use crate::lookups::{nodes_of, pairs_of, routers_behind, routers_in_order};
+use crate::lookups::{by_source, entries_of, nodes_of, pairs_of, routers_behind, routers_in_order};
 use std::alloc::Global;
 use std::collections::{BTreeMap, BTreeSet};
 use std::marker::Model;
@@ -17,8 +18,9 @@ use zt_protocol::TreeTable;
 use zt_region::{NodeId, Zid};
 
 /// The trees of a router region as they were handed in, and look-ups of those entries that count,
-/// made once: a message asks them and goes over no entry. It stands for what Zenoh's link-state
-/// network hands a router: its own node ids, those of its neighbours, and the trees.
+/// made once: a message asks them and goes over no entries but those of its source. It stands for
+/// what Zenoh's link-state network hands a router: its own node ids, those of its neighbours, and
+/// the trees.
 #[derive(Drop)]
 pub struct KeptTable {
     // The table as it was handed in.
@@ -31,6 +33,8 @@ pub struct KeptTable {
     behind: BTreeMap<(u32, NodeId), Zid>,
     // Each source, with a router to which its tokens go on.
     pairs: BTreeSet<(Zid, Zid)>,
+    // The same in order of source, so that those of one source stand side by side.
+    by_source: Vec<(Zid, Zid)>,
 }
 
 impl Model for KeptTable {
@@ -42,7 +46,7 @@ impl Model for KeptTable {
     ghost view = { λ t. trees_of t.table };
 
     ghost invariant = { λ t. AreLookups (trees_of t.table) t.in_order.items t.nodes.entries
-        t.behind.entries t.pairs.keys };
+        t.behind.entries t.pairs.keys t.by_source.items };
 }
 
 impl KeptTable {
@@ -60,6 +64,7 @@ impl KeptTable {
             nodes: BTreeMap::new(alloc),
             behind: BTreeMap::new(alloc),
             pairs: BTreeSet::new(alloc),
+            by_source: Vec::new(alloc),
         }
     }
 
@@ -74,12 +79,14 @@ impl KeptTable {
         let nodes = nodes_of(alloc, &routers)?;
         let behind = routers_behind(alloc, &links)?;
         let pairs = pairs_of(alloc, &table.children)?;
+        let by_source = by_source(alloc, &pairs)?;
         Ok(KeptTable {
             table,
             in_order,
             nodes,
             behind,
             pairs,
+            by_source,
         })
     }
 
@@ -100,6 +107,7 @@ impl KeptTable {
             nodes: self.nodes.clone()?,
             behind: self.behind.clone()?,
             pairs: self.pairs.clone()?,
+            by_source: self.by_source.to_vec(alloc)?,
         })
     }
 
@@ -126,6 +134,13 @@ impl KeptTable {
             (λ l. (l.0 == face) && (l.1 == node_id)) (counted_table self.now).links) }
     {
         self.behind.get(&(face, node_id)).copied()
+    }
+
+    /// The entries of a source, each with a router to which its tokens go on, each once. A look-up.
+    pub fn children_of(&self, source: Zid) -> &[(Zid, Zid)]
+        ensures { HaveChildrenOf source result.now (counted_table self.now).children }
+    {
+        entries_of(&self.by_source, source)
     }
 
     /// Whether the source's tokens go on to the router. A look-up.

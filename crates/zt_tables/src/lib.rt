@@ -10,3 +10,4 @@ mod lookups;
 pub use counting::counted_table;
 pub use kept::KeptTable;
 pub use listed::{is_listed, routers_listed};
+pub use lookups::is_child_among;

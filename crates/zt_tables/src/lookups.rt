@@ -1,9 +1,15 @@
 // What is looked up in a table, made of its entries that count.
-ghost use Rattle.std.specs.Prelude.{◌≡◌, IfOk, OnOk};
+ghost use Rattle.std.specs.Prelude.{◌≡◌, ◌≤◌, false, length, nat_le, nat_lt, true};
+ghost use Rattle.std.specs.Prelude.{IfOk, List, OnOk};
 ghost use Rattle.std.specs.BTreeMap.{IsOrdered};
+ghost use Rattle.std.specs.List.{list_any};
+ghost use Rattle.std.specs.List.Sorted.{IsNonDecreasingBy, IsPartitionPoint};
 ghost use Rattle.std.specs.Ordering.{nat_cmp};
 ghost use Rattle.zt_model.specs.Lists.{with_key};
-ghost use Rattle.zt_tables.specs.Lookups.{FindsBehind, FindsChildren, FindsNodes, by_node};
+ghost use Rattle.zt_region.specs.Region.{zid_eq};
+ghost use Rattle.zt_tables.specs.Lookups.{AreBySource, FindsBehind, FindsChildren, FindsNodes};
+ghost use Rattle.zt_tables.specs.Lookups.{HaveChildrenOf, by_node, number_of_source};
+ghost use Rattle.zt_region.specs.declared.region.Zid.{Zid};
 
 use std::alloc::Global;
 use std::collections::{BTreeMap, BTreeSet};
@@ -96,4 +102,57 @@ pub(crate) fn pairs_of(
         pairs.insert(children[place])?;
     }
     Ok(pairs)
+}
+
+// The same pairs in order of source. The only error is want of memory.
+pub(crate) fn by_source(
+    alloc: Global,
+    pairs: &BTreeSet<(Zid, Zid)>,
+) -> Result<Vec<(Zid, Zid)>, Memory>
+    ensures { IfOk result (λ entries. (children : List (Zid × Zid)) →
+        FindsChildren pairs.now.keys children → AreBySource entries.items children) }
+{
+    let mut entries = Vec::with_capacity(alloc, pairs.len())?;
+    for pair in pairs {
+        entries.push(*pair)?;
+    }
+    Ok(entries)
+}
+
+// How many entries have a source below this one. A search by halves.
+fn count_below(pairs: &[(Zid, Zid)], source: Zid) -> usize
+    requires { IsNonDecreasingBy number_of_source pairs.now }
+    ensures parted { IsPartitionPoint (λ c. nat_lt (number_of_source c) source.0 ≡ true)
+        (λ c. nat_lt (number_of_source c) source.0 ≡ false) pairs.now result }
+    ensures within { result ≤ length pairs.now }
+{
+    pairs.partition_point(|child| child.0.0 < source.0)
+}
+
+// How many entries have this source or one below it. A search by halves.
+fn count_up_to(pairs: &[(Zid, Zid)], source: Zid) -> usize
+    requires { IsNonDecreasingBy number_of_source pairs.now }
+    ensures parted { IsPartitionPoint (λ c. nat_le (number_of_source c) source.0 ≡ true)
+        (λ c. nat_le (number_of_source c) source.0 ≡ false) pairs.now result }
+    ensures within { result ≤ length pairs.now }
+{
+    pairs.partition_point(|child| child.0.0 <= source.0)
+}
+
+// The entries of a source, found by halves.
+pub(crate) fn entries_of(pairs: &[(Zid, Zid)], source: Zid) -> &[(Zid, Zid)]
+    requires { IsNonDecreasingBy number_of_source pairs.now }
+    ensures { HaveChildrenOf source result.now pairs.now }
+{
+    let first = count_below(pairs, source);
+    let rest = &pairs[first..];
+    let count = count_up_to(rest, source);
+    &rest[..count]
+}
+
+/// Whether a router is among children, which are entries of one source.
+pub fn is_child_among(router: Zid, children: &[(Zid, Zid)]) -> bool
+    ensures { result ≡ list_any (λ c. zid_eq router c.1) children.now }
+{
+    children.iter().any(|child| router == child.1)
 }

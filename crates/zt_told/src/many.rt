@@ -13,6 +13,9 @@ use zt_ordered::place_of_number;
 // So many pairs that are gone are left alone.
 const FEW: usize = 16;
 
+// Room for so many pairs is made at first, so that one or two more need no other.
+const ROOM: usize = 4;
+
 /// Pairs of face and id in order of face, each face once. A first pair that goes keeps its place,
 /// counted as gone, so that the others don't move. When most places are of such pairs, these are
 /// dropped at once.
@@ -38,7 +41,9 @@ impl Many {
     pub(crate) fn two(alloc: Global, first: (u32, u32), second: (u32, u32)) -> Result<Self, Memory>
         ensures { IfOk result (λ many. many ≡ first ∷ second ∷ []) }
     {
-        let pairs = vec![in alloc; first, second]?;
+        let mut pairs = Vec::with_capacity(alloc, ROOM)?;
+        pairs.push(first)?;
+        pairs.push(second)?;
         Ok(Many { pairs, gone: 0 })
     }
 

@@ -26,9 +26,9 @@ pub returns-in_ok-insert-in-None : goal.returns-in_ok-insert-in-None
 returns-in_ok-insert-in-None g c =
     let place = c.args.place in
     let old = c.args.buckets.now.entries in
-    let rows = c.push-in-None.new.self in
+    let rows = c.in_ok-rows-in-None.rows in
     let new = c.insert.new.self.entries in
     let more : List ((ℕ × ℕ) × Option g.row.K.Denot) → List ((ℕ × ℕ) × Option g.row.K.Denot) = λ rows. rows ++ ((c.args.face, c.args.id), c.args.about) ∷ [] in
     changes-written (at_place place) more (at_numbers old) (at_numbers new) rows
-    (c.in_ok-push-in-None.ensures.ok ∙ ap more (c.new-rows.ensures ∙ ap (λ o. unwrap_or o []) c.in-None.ensures.value ∙ rows-found place old))
+    (c.in_ok-rows-in-None.ensures ∙ ap more (ap (λ o. unwrap_or o []) c.in-None.ensures.value ∙ rows-found place old))
     (numbers-changed (Some rows) place old new (λ q. rw c.get_mut.follows.holds-at-none at (c.in_ok-insert-in-None.ensures.updates.0 q)))

@@ -1,4 +1,4 @@
-use Rattle.std.proofs.Common.{◌≡◌, [], sym, ◌≤◌, ◌<◌, ap, length, arith, ◌∙◌}
+use Rattle.std.proofs.Common.{◌≡◌, ◌++◌, [], sym, ◌≤◌, ◌<◌, ap, length, map, arith, ◌∙◌}
 use Rattle.zt_model.specs.Parts.{to_each}
 use Rattle.zt_model.specs.Trees.{hide_to}
 use Rattle.zt_state.proofs.Walks.{to_each_done, to_each_more}
@@ -14,12 +14,19 @@ pub loop-f-preserved : goal.loop-f-preserved
 loop-f-preserved g c =
     let rule = hide_to g.K.Ord.cmp c.args.g.now c.args.source c.args.expr.now in
     let faces = c.faces-f-items.result.now in
+    let f = c.f-item.result in
+    let branch = c.next_hidden-branch in
     let within : c.loop-f.f-index < length faces = omega arith in
-    to_each_more rule faces c.loop-f.f-index c.f-item.result c.loop-f.sends.items _ _ within c.f-item.is c.loop-f.invariant c.in_ok-hide_to.ensures
+    record {
+      sent =
+          to_each_more rule faces c.loop-f.f-index f c.loop-f.sends.items _ _ within c.f-item.is c.loop-f.invariant.sent
+          (c.in_ok-unpass_to.ensures ∙ ap (λ ms. c.loop-f.sends.items ++ map (λ m. (f.number, m)) ms) (branch.ensures.hides.at f (sym (branch.ensures.region ∙ c.region.ensures))));
+      hides = branch.ensures.hides;
+    }
 
 pub returns : goal.returns
 returns g c =
     let rule = hide_to g.K.Ord.cmp c.args.g.now c.args.source c.args.expr.now in
     let faces = c.faces-f-items.result.now in
     let past : length faces ≤ c.loop-f.f-index = omega arith in
-    to_each_done rule faces c.loop-f.f-index c.loop-f.sends.items _ past c.loop-f.invariant ∙ ap (to_each rule) c.faces-f-items.ensures
+    to_each_done rule faces c.loop-f.f-index c.loop-f.sends.items _ past c.loop-f.invariant.sent ∙ ap (to_each rule) c.faces-f-items.ensures

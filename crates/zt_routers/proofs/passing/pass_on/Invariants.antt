@@ -1,10 +1,10 @@
 use Rattle.std.proofs.Common.{◌≡◌, ◌++◌, drop}
 use Rattle.zt_model.specs.Parts.{to_each}
-use Rattle.zt_model.specs.Trees.{pass_to}
+use Rattle.zt_routers.specs.Branches.{passed}
 use Rattle.zt_routers.proofs.passing.pass_on.Given as goal
 
 -- what is sent so far, and to the faces left, is all
 abbrev pub invariant-loop-f : goal.invariant-loop-f
 invariant-loop-f g l =
-    let rule = pass_to g.K.Ord.cmp l.g l.region l.source l.expr in
+    let rule = passed l.g l.branch.region l.branch.children.now l.branch.node_id l.expr in
     l.sends.items ++ to_each rule (drop l.f-index l.f-items) ≡ to_each rule l.f-items
