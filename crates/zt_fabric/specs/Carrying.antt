@@ -10,7 +10,7 @@ use Rattle.zt_protocol.specs.declared.errors.RunError.{RunError}
 use Rattle.zt_protocol.specs.declared.errors.RunError.TheVariants as errors
 use Rattle.zt_wire.specs.Reading.{line_read}
 use Rattle.zt_wire.specs.Text.{entries_text, report_text}
-use Rattle.zt_model.specs.Fabric.{Fabric, entries_from, entry_of, fabric_after}
+use Rattle.zt_model.specs.Fabric.{Fabric, empty_fabric, entries_from, entry_of, fabric_after}
 use Rattle.zt_model.specs.Transcript.{messages_in, refusals_in}
 
 -- ---- totals
@@ -30,6 +30,12 @@ with_entries entries r = record { lines = r.lines + length entries; messages = r
 pub record IsInRange (r : Report) : Type 0 where
   pub messages_fit : r.messages ≤ r.lines * 18446744073709551615
   pub refusals_fit : r.refusals ≤ r.lines
+
+-- nothing is carried out yet
+pub record IsNew {K : Type 0} (s : Fabric K) (r : Report) (text : List ℕ) : Type 0 where
+  pub no_gateways : s ≡ empty_fabric
+  pub no_totals : r ≡ no_totals
+  pub no_text : text ≡ []
 
 -- ---- lines
 

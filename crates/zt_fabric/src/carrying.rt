@@ -6,7 +6,8 @@ ghost use Rattle.zt_streams.specs.Streams.{AppendsPart, HasRisen};
 ghost use Rattle.zt_streams.specs.Lines.{whole_lines, rest_of, last_line};
 ghost use Rattle.zt_protocol.specs.Plain.{plain_entry, plain_line};
 ghost use Rattle.zt_wire.specs.Reading.{line_read};
-ghost use Rattle.zt_fabric.specs.Carrying.{Carries, IsInRange, LineStops, Stops, StopsWriting};
+ghost use Rattle.zt_fabric.specs.Carrying.{Carries, IsInRange, IsNew, LineStops, Stops};
+ghost use Rattle.zt_fabric.specs.Carrying.{StopsWriting};
 ghost use Rattle.zt_fabric.specs.Carrying.{Writes, with_entry};
 
 use std::alloc::Global;
@@ -23,6 +24,23 @@ pub struct Progress<K: Key> {
     pub fabric: Fabric<K>,
     pub report: Report,
     pub text: String,
+}
+
+impl<K: Key> Progress<K> {
+    // Nothing is carried out yet.
+    pub fn new(alloc: Global) -> Self
+        ensures { IsNew result.fabric result.report (string_bytes result.text) }
+    {
+        Progress {
+            fabric: Fabric::new(alloc),
+            report: Report {
+                lines: 0,
+                messages: 0,
+                refusals: 0,
+            },
+            text: String::new(alloc),
+        }
+    }
 }
 
 // The line that the text is.

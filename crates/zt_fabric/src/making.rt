@@ -9,11 +9,12 @@ ghost use Rattle.zt_fabric.specs.Making.{coming_lines, declaring_line, first_lin
 ghost use Rattle.zt_fabric.specs.Making.{lines_up_to, made_lines, made_script, number_to_make};
 ghost use Rattle.zt_fabric.specs.Making.{text_of};
 
-use crate::carrying::flush;
-use crate::running::run;
+use crate::carrying::{Progress, flush};
+use crate::running::carry_script;
 use itoa::Buffer;
 use std::alloc::Global;
 use std::marker::Model;
+use std::mem;
 use zt_fields::Spelled;
 use zt_keys::{Key, KeyExpr, Memory};
 use zt_protocol::{Report, RunError};
@@ -212,7 +213,11 @@ fn made_report(alloc: Global, number: u32) -> Result<Report, RunError>
     };
     let mut source = CalmSource::new(alloc, text);
     let mut sink = CountingSink::new();
-    run::<KeyExpr, CalmSource, CountingSink>(alloc, &mut source, &mut sink)
+    let mut run = Progress::<KeyExpr>::new(alloc);
+    let answer = carry_script(alloc, &mut run, &mut source, &mut sink);
+    // The program ends: what gateways keep goes with it, and isn't given back piece by piece.
+    mem::forget(run);
+    answer
 }
 
 // Writes a report line.

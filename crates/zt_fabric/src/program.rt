@@ -7,9 +7,11 @@ ghost use Rattle.zt_fabric.specs.Transcripts.{Answers, CountsFaults, GivesComple
 ghost use Rattle.zt_fabric.specs.Transcripts.{status_of, streams};
 ghost use Rattle.zt_fabric.specs.Making.{WritesReport, made_lines, number_to_make};
 
+use crate::carrying::Progress;
 use crate::making::{make, number_to_make};
-use crate::running::run;
+use crate::running::carry_script;
 use std::alloc::Global;
+use std::mem;
 use zt_keys::{Key, KeyExpr};
 use zt_protocol::{Report, RunError};
 use zt_streams::{Sink, Source};
@@ -24,6 +26,8 @@ const UNKNOWN_WORDS: u8 = 64;
 /// script of its own, in which so many sessions come and go behind a router, reads nothing, and
 /// writes the last line of the transcript alone. With other words the status is 64, and nothing is
 /// read or written.
+///
+/// What gateways keep at the end isn't given back: the program ends, and it goes with it.
 pub fn tool<S: Source, T: Sink>(alloc: Global, words: &[String], source: &mut S, sink: &mut T) -> u8
     ensures runs { ask_to_run (map string_bytes words.now) ≡ true
         → (answer : Result Report RunError) × (result ≡ status_of answer)
@@ -54,7 +58,10 @@ pub fn tool<S: Source, T: Sink>(alloc: Global, words: &[String], source: &mut S,
         → number_to_make (map string_bytes words.now) ≡ None → sink.new ≡ sink.old }
 {
     if asks_to_run(words) {
-        let answer = run::<KeyExpr, S, T>(alloc, source, sink);
+        let mut run = Progress::<KeyExpr>::new(alloc);
+        let answer = carry_script(alloc, &mut run, source, sink);
+        // The program ends: what gateways keep goes with it, and isn't given back piece by piece.
+        mem::forget(run);
         return status(&answer);
     }
     match number_to_make(words) {

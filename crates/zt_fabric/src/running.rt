@@ -2,13 +2,12 @@
 ghost use Rattle.std.specs.Prelude.{◌≡◌, ◌⊎◌, ◌+◌, ◌≤◌, [], length, IfOk, IfErr, Err, IsOkUnless};
 ghost use Rattle.std.specs.Prelude.{string_bytes};
 ghost use Rattle.zt_streams.specs.Lines.{whole_lines, rest_of, last_line};
-ghost use Rattle.zt_fabric.specs.Carrying.{Ends, EndsInPart, IsInRange, StopsWriting};
+ghost use Rattle.zt_fabric.specs.Carrying.{Ends, EndsInPart, IsInRange, IsNew, StopsWriting};
 ghost use Rattle.zt_fabric.specs.Transcripts.{Answers, CountsFaults, GivesComplete, streams};
 
 use crate::carrying::{Progress, carry_end, carry_piece, flush};
 use std::alloc::Global;
 use zt_keys::Key;
-use zt_links::Fabric;
 use zt_protocol::{Report, RunError};
 use zt_streams::{Feeder, SCRIPT_BYTES, Sink, Source};
 use zt_wire::write_report;
@@ -55,6 +54,54 @@ fn finish<K: Key, T: Sink>(
     Ok(run.report)
 }
 
+/// Carries out a script as `run` does, from a run in which nothing is carried out yet: what gateways
+/// keep at its end is left there.
+pub(crate) fn carry_script<K: Key, S: Source, T: Sink>(
+    alloc: Global,
+    run: &mut Progress<K>,
+    source: &mut S,
+    sink: &mut T,
+) -> Result<Report, RunError>
+    requires { IsNew run.old.fabric run.old.report (string_bytes run.old.text) }
+    ensures answers { Answers K.cmp K.matching K.reading K.printed
+        (streams (S.left source.old) (S.faults source.old) (T.written sink.old) (T.faults sink.old))
+        (streams (S.left source.new) (S.faults source.new) (T.written sink.new)
+        (T.faults sink.new)) result }
+    ensures complete { GivesComplete K.reading
+        (streams (S.left source.old) (S.faults source.old) (T.written sink.old) (T.faults sink.old))
+        (streams (S.left source.new) (S.faults source.new) (T.written sink.new)
+        (T.faults sink.new)) → IsOkUnless result RunError.Alloc }
+    ensures faults { CountsFaults
+        (streams (S.left source.old) (S.faults source.old) (T.written sink.old) (T.faults sink.old))
+        (streams (S.left source.new) (S.faults source.new) (T.written sink.new)
+        (T.faults sink.new)) result }
+    ensures reads { S.reads source.new ≤ S.reads source.old + MOST_READS }
+{
+    let mut feeder = Feeder::new(alloc);
+    let mut piece = [0u8; PIECE_BYTES];
+    let mut total = 0;
+    for reads in 0..MOST_READS {
+        let room = SCRIPT_BYTES - total;
+        let part = &mut piece[..PIECE_BYTES.min(room + 1)];
+        let Ok(count) = source.read(part) else {
+            return Err(RunError::ReadFault);
+        };
+        if count == 0 {
+            return finish(alloc, &mut feeder, run, sink);
+        }
+        let fed = &part[..count.min(room)];
+        if let Err(error) = carry_piece(alloc, &mut feeder, run, sink, fed) {
+            return Err(error);
+        }
+        if count > room {
+            return Err(RunError::TooLong);
+        }
+        total += count;
+        prove!(reads < total);
+    }
+    unreachable!()
+}
+
 /// Carries out a script of at most 2^20 bytes and writes its transcript, each line's entry as soon
 /// as the piece is read with which the line is whole. It reads to the end of the source, or until
 /// one byte too many is there, by at most 1,048,577 reads, and keeps no more of the script than the
@@ -84,36 +131,6 @@ pub fn run<K: Key, S: Source, T: Sink>(
         (T.faults sink.new)) result }
     ensures reads { S.reads source.new ≤ S.reads source.old + MOST_READS }
 {
-    let mut feeder = Feeder::new(alloc);
-    let mut run = Progress {
-        fabric: Fabric::<K>::new(alloc),
-        report: Report {
-            lines: 0,
-            messages: 0,
-            refusals: 0,
-        },
-        text: String::new(alloc),
-    };
-    let mut piece = [0u8; PIECE_BYTES];
-    let mut total = 0;
-    for reads in 0..MOST_READS {
-        let room = SCRIPT_BYTES - total;
-        let part = &mut piece[..PIECE_BYTES.min(room + 1)];
-        let Ok(count) = source.read(part) else {
-            return Err(RunError::ReadFault);
-        };
-        if count == 0 {
-            return finish(alloc, &mut feeder, &mut run, sink);
-        }
-        let fed = &part[..count.min(room)];
-        if let Err(error) = carry_piece(alloc, &mut feeder, &mut run, sink, fed) {
-            return Err(error);
-        }
-        if count > room {
-            return Err(RunError::TooLong);
-        }
-        total += count;
-        prove!(reads < total);
-    }
-    unreachable!()
+    let mut run = Progress::<K>::new(alloc);
+    carry_script(alloc, &mut run, source, sink)
 }

@@ -46,6 +46,9 @@ fn put_in_order(numbers: &mut Vec<u32>)
     numbers.dedup();
 }
 
+// Beside the others, mostly no more faces than these hold an interest in a key.
+const FEW: usize = 8;
+
 // These faces, and those whose interests are about the key. The only error is want of memory.
 fn found_in<K: Key>(
     alloc: Global,
@@ -56,7 +59,7 @@ fn found_in<K: Key>(
     ensures { IfOk result (λ found. (n : ℕ) → is_among n found.items
         ≡ (is_among n others.now || list_any (asks_from K.matching expr.now n) rows.now)) }
 {
-    let mut found = Vec::new(alloc);
+    let mut found = Vec::with_capacity(alloc, others.len().saturating_add(FEW))?;
     found.extend_from_slice(others)?;
     rows.gather(&mut found, expr)?;
     Ok(found)

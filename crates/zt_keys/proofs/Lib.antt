@@ -1,3 +1,4 @@
+pub mod Alone
 pub mod Folds
 pub mod Passing
 pub mod Pieces

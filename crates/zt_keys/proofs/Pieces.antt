@@ -101,7 +101,7 @@ after-double rest c xs h d = rw h (rw (is_many-part c, d) refl)
 pub after-other : (rest : List Part) (c : List ℕ) (xs : List Part) → rest ≡ part_of c ∷ xs → is_double c ≡ false → None ≡ after_many rest
 after-other rest c xs h d = rw h (rw (is_many-part c, d) refl)
 
-walked-some : (bytes : List ℕ) → 0 < length bytes → (x : Part) × (xs : List Part) × (walked bytes ≡ x ∷ xs)
+pub walked-some : (bytes : List ℕ) → 0 < length bytes → (x : Part) × (xs : List Part) × (walked bytes ≡ x ∷ xs)
 walked-some [] h = absurd (omega arith)
 walked-some (b ∷ bytes) h =
     by_test (eqb b 47) (λ e. (part_of [], map part_of (pieces bytes), ap (λ t. map part_of (cond t ([] ∷ pieces bytes) (onto_first b (pieces bytes)))) e))

@@ -7,7 +7,7 @@
 // for, a walk begins at most once at each chunk of one text and goes along the other up to its next
 // `**`. Each pass but the last leaves a chunk of both texts behind. So the chunks looked at are at
 // most a fixed multiple of the product of the two numbers of chunks.
-ghost use Rattle.std.specs.Prelude.{◌≡◌, ◌∷◌, ◌+◌, ◌-◌, ◌<◌, ◌≤◌, ◌==◌, length, drop, false};
+ghost use Rattle.std.specs.Prelude.{◌≡◌, [], ◌∷◌, ◌+◌, ◌-◌, ◌<◌, ◌≤◌, ◌==◌, length, drop, false};
 ghost use Rattle.std.specs.Prelude.{position, IfSome};
 ghost use Rattle.std.specs.Option.{option_map};
 ghost use Rattle.zt_keys.specs.Chunks.{is_double, is_single};
@@ -243,8 +243,8 @@ fn pass_double<'a>(first: &'a [u8], second: &'a [u8]) -> Option<(&'a [u8], &'a [
     Some((first, skip_chunks(second, second_len - first_len)))
 }
 
-// Whether the two texts match.
-pub(crate) fn texts_match(first: &[u8], second: &[u8]) -> bool
+// Whether the two texts match, by a walk along both.
+fn walk_all(first: &[u8], second: &[u8]) -> bool
     ensures { result ≡ parts_match (walked first.now) (walked second.now) }
 {
     let mut a = first;
@@ -264,4 +264,24 @@ pub(crate) fn texts_match(first: &[u8], second: &[u8]) -> bool
         b = rest_b;
     }
     false
+}
+
+// Whether `**` alone matches the text: so it does unless a chunk begins with `@`.
+fn is_free(text: &[u8]) -> bool
+    ensures { result ≡ parts_match (many ∷ []) (walked text.now) }
+{
+    after_segment(text).is_empty()
+}
+
+// Whether the two texts match. Mostly one of them is `**`, or neither is.
+pub(crate) fn texts_match(first: &[u8], second: &[u8]) -> bool
+    ensures { result ≡ parts_match (walked first.now) (walked second.now) }
+{
+    if is_double(first) {
+        return is_free(second);
+    }
+    if is_double(second) {
+        return is_free(first);
+    }
+    walk_all(first, second)
 }

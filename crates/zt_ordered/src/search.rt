@@ -39,10 +39,35 @@ fn stands_at<X>(rows: &[(u32, X)], number: u32, at: usize) -> bool
     }
 }
 
+// How far apart the numbers of the rows lie on the average, at least 1.
+fn distance<X>(rows: &[(u32, X)]) -> usize
+    requires { 0 < length rows.now }
+    ensures { 0 < result }
+{
+    let span = rows[rows.len() - 1].0.saturating_sub(rows[0].0) as usize;
+    let gaps = (rows.len() - 1).max(1);
+    (span / gaps).max(1)
+}
+
+// Where the row under a number stands, or where it would go: first tried where it stands if numbers
+// lie evenly apart, then searched for by halves.
+fn search<X>(rows: &[(u32, X)], number: u32) -> Result<usize, usize>
+    requires ordered { IsTrue (is_sorted nat_cmp rows.now) }
+    requires some { 0 < length rows.now }
+    ensures place { result ≡ place nat_cmp number rows.now }
+    ensures in_range { IsSearchInRange result (length rows.now) }
+{
+    let at = number.saturating_sub(rows[0].0) as usize / distance(rows);
+    if stands_at(rows, number, at) {
+        return Ok(at);
+    }
+    place_of(rows, &number)
+}
+
 /// Where the row under a number stands among rows in order, or, as an `Err`, where it would go.
-/// Numbers mostly come in order and follow one another, so it is tried first behind all rows, and
-/// as far behind the first row as the number is above that row's; then it is searched for by
-/// halves.
+/// Numbers mostly come in order and follow one another, or lie evenly apart. So it is tried first
+/// behind all rows, then as far behind the first row as the number is above that row's, then where
+/// it stands if numbers lie evenly apart; then it is searched for by halves.
 pub fn place_of_number<X>(rows: &[(u32, X)], number: u32) -> Result<usize, usize>
     requires { IsTrue (is_sorted nat_cmp rows.now) }
     ensures place { result ≡ place nat_cmp number rows.now }
@@ -55,5 +80,5 @@ pub fn place_of_number<X>(rows: &[(u32, X)], number: u32) -> Result<usize, usize
     if stands_at(rows, number, at) {
         return Ok(at);
     }
-    place_of(rows, &number)
+    search(rows, number)
 }

@@ -29,9 +29,9 @@ const HELD_FOR_A_ROW: usize = 4;
 /// carried out since. A call is carried out on what the gateway keeps, in place. One that lacks
 /// memory leaves that half changed: it is dropped, and got back from what was kept earlier by the
 /// calls since, before the next call. Calls may hold four times as much as the gateway has rows,
-/// and 64 more: when they hold as much as the rows allowed that were counted last, these are counted
-/// anew, and if the calls hold more than half of what they may then, all is copied, and they are
-/// forgotten. Where memory lacks for that, they go on growing, and so does the way back.
+/// and 64 more: when they hold as much as the rows allowed that were counted last, these are
+/// counted anew, and if the calls hold more than half of what they may then, all is copied, and
+/// they are forgotten. Where memory lacks for that, they go on growing, and so does the way back.
 #[derive(Drop)]
 pub struct RestorableState<K: Key> {
     // What the gateway kept earlier.
@@ -268,8 +268,8 @@ impl<K: Key> RestorableState<K> {
     }
 
     // Copies all, where the calls hold too much for the rows that there are, and forgets them.
-    // Where there are as many more rows by now that they may hold twice as much, they stay, and so
-    // they do where memory lacks for the copy: no call fails for that.
+    // Where rows are so many more by now that the calls hold no more than half of what they may,
+    // they stay, and so they do where memory lacks for the copy: no call fails for that.
     fn save(&mut self, alloc: Global)
         ensures { self.new ≡ self.old }
     {

@@ -2,6 +2,7 @@
 use Rattle.std.proofs.Common.{◌≡◌, ◌++◌, ◌&&◌, ◌==◌, Bool, ℕ, true, false, cond, List, [], ◌∷◌, None, Some, ap, map, refl, sym, ◌∙◌}
 use Rattle.std.specs.List.{list_any}
 use Rattle.std.specs.declared.cmp.Ordering.{Ordering}
+use Rattle.zt_keys.specs.Test.{by_test}
 use Rattle.zt_region.specs.declared.region.Region.{Region}
 use Rattle.zt_region.specs.declared.region.Zid.{Zid}
 use Rattle.zt_region.specs.Region.{region_eq}
@@ -64,30 +65,24 @@ module _ {K : Type 0} (g : Rows K) (region : Region) (children : List (Zid × Zi
       (λ f. unpassed_is cmp source is e f ∙ ap (λ r. unpass_to cmp g r source e f) same) fs
 
 module _ {K : Type 0} (cmp : K → K → Ordering) (g : Rows K) (source : Region) (e : K) (region : Region) (children : List (Zid × Zid)) (node : ℕ) where
-  -- a region that is newly shown the token, and one that isn't
-  pub showing_of : is_newly_shown cmp g source e region ≡ true → IsBranchOf g region g.zid children node → IsShowing cmp g source e region children node
+  -- in a region that is newly shown the token, and in one that isn't
+  pub shown_to : IsShowing cmp g source e region children node → (f : Face K) → f.region ≡ region → passed g region children node e f ≡ show_to cmp g source e f
   unfolding show_to
-  showing_of shown is = record { at = λ f same. passed_is g region children node cmp g.zid is e f ∙ rw (same, shown) refl }
+  shown_to shows f same =
+      by_test (is_newly_shown cmp g source e region)
+      (λ shown. passed_is g region children node cmp g.zid (shows.own shown) e f ∙ rw (same, shown) refl)
+      (λ unshown.
+      ap (λ cs. passed g region cs node e f) (shows.bare unshown)
+      ∙ ap (λ b. cond b (message.DeclareToken 0 e None node ∷ []) []) (and_false (region_eq f.region region))
+      ∙ rw (same, unshown) refl)
 
-  pub showing_none : is_newly_shown cmp g source e region ≡ false → children ≡ [] → IsShowing cmp g source e region children node
-  unfolding show_to
-  showing_none unshown none = record {
-    at = λ f same.
-        ap (λ cs. passed g region cs node e f) none
-        ∙ ap (λ b. cond b (message.DeclareToken 0 e None node ∷ []) []) (and_false (region_eq f.region region))
-        ∙ rw (same, unshown) refl;
-  }
-
-  -- a region that can't see the expression any more, and one that can
-  pub hiding_of : is_hidden cmp g source e region ≡ true → IsBranchOf g region g.zid children node → IsHiding cmp g source e region children node
+  -- in a region that can't see the expression any more, and in one that can
+  pub hidden_to : IsHiding cmp g source e region children node → (f : Face K) → f.region ≡ region → unpassed g region children node e f ≡ hide_to cmp g source e f
   unfolding hide_to
-  hiding_of hidden is = record { at = λ f same. unpassed_is g region children node cmp g.zid is e f ∙ rw (same, hidden) refl }
-
-  pub hiding_none : is_hidden cmp g source e region ≡ false → children ≡ [] → IsHiding cmp g source e region children node
-  unfolding hide_to
-  hiding_none seen none = record {
-    at = λ f same.
-        ap (λ cs. unpassed g region cs node e f) none
-        ∙ ap (λ b. cond b (message.UndeclareToken 0 (Some e) node ∷ []) []) (and_false (region_eq f.region region))
-        ∙ rw (same, seen) refl;
-  }
+  hidden_to hides f same =
+      by_test (is_hidden cmp g source e region)
+      (λ hidden. unpassed_is g region children node cmp g.zid (hides.own hidden) e f ∙ rw (same, hidden) refl)
+      (λ seen.
+      ap (λ cs. unpassed g region cs node e f) (hides.bare seen)
+      ∙ ap (λ b. cond b (message.UndeclareToken 0 (Some e) node ∷ []) []) (and_false (region_eq f.region region))
+      ∙ rw (same, seen) refl)

@@ -2,8 +2,9 @@
 --     is_reached                 whether tokens go on to a face
 --     passed, unpassed           what it is told of a token that goes on, or of one that is gone
 --     IsBranchOf                 the branch is that of a source, by the region's table
---     IsShowing, IsHiding        what goes on is what the gateway shows in the region, or hides
-use Rattle.std.specs.Prelude.{◌≡◌, ℕ, Bool, ◌&&◌, if◌then◌else◌, List, [], ◌∷◌, None, Some}
+--     IsOwnBranch                where something goes on it is that of the gateway itself, and else one to nobody
+--     IsShowing, IsHiding        where the token is newly shown it goes on; where it is hidden, that it is gone does
+use Rattle.std.specs.Prelude.{◌≡◌, ℕ, Bool, true, false, ◌&&◌, if◌then◌else◌, List, [], ◌∷◌, None, Some}
 use Rattle.std.specs.List.{list_any}
 use Rattle.std.specs.declared.cmp.Ordering.{Ordering}
 use Rattle.zt_region.specs.declared.region.Region.{Region}
@@ -12,7 +13,7 @@ use Rattle.zt_region.specs.Region.{region_eq, zid_eq}
 use Rattle.zt_protocol.specs.declared.messages.Message.{Message}
 use Rattle.zt_protocol.specs.declared.messages.Message.TheVariants as message
 use Rattle.zt_model.specs.Rows.{Face, Rows}
-use Rattle.zt_model.specs.Trees.{hide_to, is_face_of_router, node_of, show_to, table_of}
+use Rattle.zt_model.specs.Trees.{is_face_of_router, is_hidden, is_newly_shown, node_of, table_of}
 use Rattle.zt_tables.specs.Lookups.{HaveChildrenOf}
 
 module _ {K : Type 0} (g : Rows K) (region : Region) where
@@ -29,9 +30,13 @@ module _ {K : Type 0} (g : Rows K) (region : Region) where
     pub entries : HaveChildrenOf source children (table_of g region).children
     pub number : node ≡ node_of source (table_of g region)
 
-module _ {K : Type 0} (cmp : K → K → Ordering) (g : Rows K) (source : Region) (e : K) (region : Region) where
-  pub record IsShowing (children : List (Zid × Zid)) (node : ℕ) : Type 0 where
-    pub at : (f : Face K) → f.region ≡ region → passed g region children node e f ≡ show_to cmp g source e f
+  pub record IsOwnBranch (goes_on : Bool) (children : List (Zid × Zid)) (node : ℕ) : Type 0 where
+    pub own : goes_on ≡ true → IsBranchOf g.zid children node
+    pub bare : goes_on ≡ false → children ≡ []
 
-  pub record IsHiding (children : List (Zid × Zid)) (node : ℕ) : Type 0 where
-    pub at : (f : Face K) → f.region ≡ region → unpassed g region children node e f ≡ hide_to cmp g source e f
+module _ {K : Type 0} (cmp : K → K → Ordering) (g : Rows K) (source : Region) (e : K) (region : Region) where
+  abbrev pub IsShowing : List (Zid × Zid) → ℕ → Type 0
+  IsShowing children node = IsOwnBranch g region (is_newly_shown cmp g source e region) children node
+
+  abbrev pub IsHiding : List (Zid × Zid) → ℕ → Type 0
+  IsHiding children node = IsOwnBranch g region (is_hidden cmp g source e region) children node

@@ -11,7 +11,7 @@ ghost use Rattle.zt_routers.specs.Hiding.{hidden_among};
 ghost use Rattle.zt_model.specs.Trees.{hide_to, is_hidden, is_newly_shown, is_own_row};
 ghost use Rattle.zt_model.specs.Trees.{router_regions, show_to};
 
-use crate::passing::{Branch, bare_branch, branch_of, pass_to, unpass_to};
+use crate::passing::{Branch, own_branch, pass_to, unpass_to};
 use std::alloc::Global;
 use std::collections::BTreeSet;
 use zt_keys::{Key, Memory};
@@ -47,25 +47,6 @@ fn is_hidden<K: Key>(g: &GatewayState<K>, source: Region, expr: &K, region: Regi
     is_router_region(g.mode(), region) && region != source && !is_visible(g, region, expr)
 }
 
-// The branch of the gateway's own tokens in a region where the token is newly shown; elsewhere it
-// goes on to nobody.
-fn shown_branch<'a, K: Key>(
-    g: &'a GatewayState<K>,
-    source: Region,
-    expr: &K,
-    region: Region,
-) -> Branch<'a>
-    ensures region { result.region ≡ region }
-    ensures shows { IsShowing K.cmp g.now source expr.now result.region result.children.now
-        result.node_id }
-{
-    if is_newly_shown(g, source, expr, region) {
-        branch_of(g, region, g.zid())
-    } else {
-        bare_branch(region)
-    }
-}
-
 // The branch for the face's region: mostly that of the face before.
 fn next_shown<'a, K: Key>(
     g: &'a GatewayState<K>,
@@ -83,7 +64,7 @@ fn next_shown<'a, K: Key>(
     if region == branch.region {
         branch
     } else {
-        shown_branch(g, source, expr, region)
+        own_branch(g, region, is_newly_shown(g, source, expr, region))
     }
 }
 
@@ -102,7 +83,11 @@ pub fn show<K: Key>(
     if g.trees().is_empty() {
         return Ok(sends);
     }
-    let mut branch = shown_branch(g, source, expr, Region::North);
+    let mut branch = own_branch(
+        g,
+        Region::North,
+        is_newly_shown(g, source, expr, Region::North),
+    );
     for f in g.faces() {
         branch = next_shown(g, source, expr, branch, f.region());
         pass_to(alloc, g, &branch, expr, f, &mut sends)?;
@@ -201,25 +186,6 @@ pub fn hidden_regions<K: Key>(
     Ok(regions)
 }
 
-// The branch of the gateway's own tokens in a region that can't see the expression any more;
-// elsewhere it goes on to nobody.
-fn hidden_branch<'a, K: Key>(
-    g: &'a GatewayState<K>,
-    source: Region,
-    expr: &K,
-    region: Region,
-) -> Branch<'a>
-    ensures region { result.region ≡ region }
-    ensures hides { IsHiding K.cmp g.now source expr.now result.region result.children.now
-        result.node_id }
-{
-    if is_hidden(g, source, expr, region) {
-        branch_of(g, region, g.zid())
-    } else {
-        bare_branch(region)
-    }
-}
-
 // The branch for the face's region: mostly that of the face before.
 fn next_hidden<'a, K: Key>(
     g: &'a GatewayState<K>,
@@ -237,7 +203,7 @@ fn next_hidden<'a, K: Key>(
     if region == branch.region {
         branch
     } else {
-        hidden_branch(g, source, expr, region)
+        own_branch(g, region, is_hidden(g, source, expr, region))
     }
 }
 
@@ -257,7 +223,7 @@ pub fn hide<K: Key>(
     if g.trees().is_empty() {
         return Ok(sends);
     }
-    let mut branch = hidden_branch(g, source, expr, Region::North);
+    let mut branch = own_branch(g, Region::North, is_hidden(g, source, expr, Region::North));
     for f in g.faces() {
         branch = next_hidden(g, source, expr, branch, f.region());
         unpass_to(alloc, g, &branch, expr, f, &mut sends)?;

@@ -4,7 +4,8 @@ ghost use Rattle.std.specs.Option.{option_copied};
 ghost use Rattle.zt_model.specs.Lists.{first_where};
 ghost use Rattle.zt_model.specs.Trees.{is_face_of_router, pass_on, unpass};
 ghost use Rattle.zt_region.specs.Region.{region_eq, zid_eq};
-ghost use Rattle.zt_routers.specs.Branches.{IsBranchOf, is_reached, passed, unpassed};
+ghost use Rattle.zt_routers.specs.Branches.{IsBranchOf, IsOwnBranch};
+ghost use Rattle.zt_routers.specs.Branches.{is_reached, passed, unpassed};
 
 use crate::tables::table_in;
 use std::alloc::Global;
@@ -39,15 +40,15 @@ pub(crate) fn is_face_of_router<K: Key>(g: &GatewayState<K>, f: &FaceState<K>) -
 
 /// Where the tokens of a source go on to in a region: the entries of its children, and the
 /// gateway's own number for it. It is looked up once, and tried at each face.
-#[derive(Clone, Copy, Drop)]
+#[derive(Drop)]
 pub(crate) struct Branch<'a> {
     pub(crate) region: Region,
     children: &'a [(Zid, Zid)],
     node_id: NodeId,
 }
 
-/// A branch that goes on to nobody.
-pub(crate) fn bare_branch<'a>(region: Region) -> Branch<'a>
+// A branch that goes on to nobody.
+fn bare_branch<'a>(region: Region) -> Branch<'a>
     ensures region { result.region ≡ region }
     ensures bare { result.children.now ≡ [] }
     ensures number { result.node_id ≡ 0 }
@@ -71,6 +72,19 @@ pub(crate) fn branch_of<K: Key>(g: &GatewayState<K>, region: Region, source: Zid
             children: table.children_of(source),
             node_id: table.node_of(source),
         },
+    }
+}
+
+/// The branch of the gateway's own tokens in a region where something goes on; elsewhere one that
+/// goes on to nobody.
+pub(crate) fn own_branch<K: Key>(g: &GatewayState<K>, region: Region, goes_on: bool) -> Branch<'_>
+    ensures region { result.region ≡ region }
+    ensures branch { IsOwnBranch g.now result.region goes_on result.children.now result.node_id }
+{
+    if goes_on {
+        branch_of(g, region, g.zid())
+    } else {
+        bare_branch(region)
     }
 }
 

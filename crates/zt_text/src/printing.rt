@@ -74,6 +74,19 @@ fn put_number(out: &mut String, number: u64) -> Result<(), Memory>
     Ok(())
 }
 
+/// Adds a node id as a field. Most are 0, which is added as one text.
+fn put_node_id(out: &mut String, node_id: u16) -> Result<(), Memory>
+    ensures ok { OnOk result (string_bytes out.new
+        ≡ string_bytes out.old ++ spaced (decimal node_id ∷ [])) }
+    ensures err { OnErr result (Begins (string_bytes out.old) (string_bytes out.new)) }
+{
+    if node_id == 0 {
+        out.push_str(" 0")?;
+        return Ok(());
+    }
+    put_number(out, u64::from(node_id))
+}
+
 fn put_key<K: Key>(out: &mut String, key: &K) -> Result<(), Memory>
     ensures ok { OnOk result (string_bytes out.new
         ≡ string_bytes out.old ++ spaced (K.printed key.now ∷ [])) }
@@ -198,7 +211,7 @@ fn put_message<K: Key>(out: &mut String, message: &Message<K>) -> Result<(), Mem
         } => {
             out.push_str(" token")?;
             put_number(out, u64::from(*id))?;
-            put_number(out, u64::from(*node_id))?;
+            put_node_id(out, *node_id)?;
             put_key(out, expr)
         }
         Message::DeclareToken {
@@ -210,13 +223,13 @@ fn put_message<K: Key>(out: &mut String, message: &Message<K>) -> Result<(), Mem
             out.push_str(" answer")?;
             put_number(out, u64::from(*interest_id))?;
             put_number(out, u64::from(*id))?;
-            put_number(out, u64::from(*node_id))?;
+            put_node_id(out, *node_id)?;
             put_key(out, expr)
         }
         Message::UndeclareToken { id, expr, node_id } => {
             out.push_str(" untoken")?;
             put_number(out, u64::from(*id))?;
-            put_number(out, u64::from(*node_id))?;
+            put_node_id(out, *node_id)?;
             put_optional_key(out, expr)
         }
         Message::DeclareFinal { interest_id } => {

@@ -12,7 +12,7 @@ use Rattle.zt_ordered.specs.Test.{by_test}
 use Rattle.zt_told.specs.Held.{IsWith, IsWithout}
 use Rattle.zt_told.specs.Told.{ChangesAt, told_at}
 
-equal-from : (r : Ordering) → is_eq r ≡ true → r ≡ Equal
+pub equal-from : (r : Ordering) → is_eq r ≡ true → r ≡ Equal
 equal-from Less h = cc
 equal-from Equal h = refl
 equal-from Greater h = cc
@@ -71,15 +71,6 @@ module _ {K : Type 0} (cmp : K → K → Ordering) (o : IsTotalOrder cmp) (e : K
           by_test (is_at (cmp e) q)
           (λ t. found ∙ rw t (is ∙ ap change (sym (told-tied q t old))))
           (λ t. found ∙ rw t refl);
-    }
-
-    -- nothing is there to be changed
-    pub changes-none : (es : List (K × List (ℕ × ℕ))) → told_at cmp e es ≡ [] → change [] ≡ [] → ChangesAt cmp e change es es
-    changes-none es none still = record {
-      at = λ q.
-          by_test (is_at (cmp e) q)
-          (λ t. let told = told-tied q t es ∙ none in rw t (told ∙ sym still ∙ ap change (sym told)))
-          (λ t. rw t refl);
     }
 
     -- it goes with its last pair

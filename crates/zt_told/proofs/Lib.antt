@@ -3,3 +3,4 @@ mod Copied
 mod Left
 mod Ordered
 mod Pairs
+mod Placed

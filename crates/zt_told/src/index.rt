@@ -1,12 +1,16 @@
 // What faces were told, by expression.
-ghost use Rattle.std.specs.Prelude.{◌≡◌, [], false, true, IfOk, OnErr, OnOk};
+ghost use Rattle.indexmap.specs.IndexMap.{index_map_len, IsUnique};
+ghost use Rattle.std.specs.BTreeMap.{is_at};
+ghost use Rattle.std.specs.Map.{lookup};
+ghost use Rattle.std.specs.Prelude.{◌≡◌, ◌<◌, [], false, true, slice_get, IfNone, IfOk, IfSome};
+ghost use Rattle.std.specs.Prelude.{None, OnErr, OnOk, Some};
 ghost use Rattle.zt_told.specs.Held.{IsWith, IsWithout};
 ghost use Rattle.zt_told.specs.Told.{AreRising, ChangesAt, HasFacesOrNoKey};
 ghost use Rattle.zt_told.specs.Told.{id_of, told_at, with_face, without_face};
 
 use crate::faces::ToldFaces;
+use indexmap::IndexMap;
 use std::alloc::Global;
-use std::collections::HashMap;
 use std::marker::Model;
 use zt_keys::{Key, Memory};
 
@@ -17,7 +21,10 @@ use zt_keys::{Key, Memory};
 /// indexes in which the same is found are equal. The pairs of an expression stand in order of face.
 #[derive(Drop)]
 pub struct ToldIndex<K: Key> {
-    faces: HashMap<K, ToldFaces>,
+    faces: IndexMap<K, ToldFaces>,
+    // Where the expression stood that was told or untold last. Mostly the next one is the same: a
+    // call tells many faces of one expression.
+    last: usize,
 }
 
 impl<K: Key> Model for ToldIndex<K> {
@@ -30,7 +37,7 @@ impl<K: Key> Model for ToldIndex<K> {
 }
 
 // The pairs of the expression.
-fn pairs_at<'a, K: Key>(faces: &'a HashMap<K, ToldFaces>, expr: &K) -> &'a [(u32, u32)]
+fn pairs_at<'a, K: Key>(faces: &'a IndexMap<K, ToldFaces>, expr: &K) -> &'a [(u32, u32)]
     ensures pairs { result.now ≡ told_at K.cmp expr.now faces.now.entries }
     ensures in_order { AreRising result.now }
 {
@@ -40,8 +47,25 @@ fn pairs_at<'a, K: Key>(faces: &'a HashMap<K, ToldFaces>, expr: &K) -> &'a [(u32
     }
 }
 
+// Where the expression stands. It is looked for first where the last one stood: that takes no hash.
+fn place_of<K: Key>(faces: &IndexMap<K, ToldFaces>, last: usize, expr: &K) -> Option<usize>
+    ensures found { IfSome result (λ at. slice_get faces.now.entries at
+        ≡ Some (expr.now, told_at K.cmp expr.now faces.now.entries)) }
+    ensures within { IfSome result (λ at. at < index_map_len faces.now) }
+    ensures none { IfNone result (lookup (is_at (K.cmp expr.now)) faces.now.entries ≡ None) }
+    ensures unique { IsUnique K.eq faces.now }
+{
+    // That no key stands twice is said by `as_slice`, and not by the map's own `get_index`.
+    if let Some((key, _)) = faces.as_slice().get_index(last) {
+        if key == expr {
+            return Some(last);
+        }
+    }
+    faces.get_index_of(expr)
+}
+
 // The id under which the face was told the expression.
-fn find_at<K: Key>(faces: &HashMap<K, ToldFaces>, expr: &K, face: u32) -> Option<u32>
+fn find_at<K: Key>(faces: &IndexMap<K, ToldFaces>, expr: &K, face: u32) -> Option<u32>
     ensures { result ≡ id_of face (told_at K.cmp expr.now faces.now.entries) }
 {
     match faces.get(expr) {
@@ -50,26 +74,27 @@ fn find_at<K: Key>(faces: &HashMap<K, ToldFaces>, expr: &K, face: u32) -> Option
     }
 }
 
-// These faces stand under a copy of the expression. The only error is want of memory, and then all
-// stays.
+// These faces stand under a copy of the expression. It answers where. The only error is want of
+// memory, and then all stays.
 fn put_faces<K: Key>(
     alloc: Global,
-    faces: &mut HashMap<K, ToldFaces>,
+    faces: &mut IndexMap<K, ToldFaces>,
     expr: &K,
     told: ToldFaces,
-) -> Result<(), Memory>
+) -> Result<usize, Memory>
     ensures with { OnOk result (IsWith K.cmp expr.now told faces.old.entries faces.new.entries) }
     ensures err { OnErr result (faces.new.entries ≡ faces.old.entries) }
 {
-    drop(faces.insert(expr.copy(alloc)?, told)?);
-    Ok(())
+    let (at, _) = faces.insert_full(expr.copy(alloc)?, told)?;
+    Ok(at)
 }
 
 // The face was told the expression under the id. It answers the id that the face had, if it had
 // one. The only error is want of memory, and then all stays.
 fn put_at<K: Key>(
     alloc: Global,
-    faces: &mut HashMap<K, ToldFaces>,
+    faces: &mut IndexMap<K, ToldFaces>,
+    last: &mut usize,
     expr: &K,
     face: u32,
     id: u32,
@@ -80,36 +105,40 @@ fn put_at<K: Key>(
         (λ known. known ≡ id_of face (told_at K.cmp expr.now faces.old.entries)) }
     ensures err { OnErr result (faces.new.entries ≡ faces.old.entries) }
 {
-    match faces.get_mut(expr) {
-        Some(told) => told.put(alloc, face, id),
-        None => {
-            put_faces(alloc, faces, expr, ToldFaces::one(face, id))?;
-            Ok(None)
-        }
+    if let Some(at) = place_of(faces, *last, expr) {
+        *last = at;
+        return faces[at].put(alloc, face, id);
     }
+    *last = put_faces(alloc, faces, expr, ToldFaces::one(face, id))?;
+    Ok(None)
 }
 
 // The face goes at the expression. Whether none is left there.
-fn drop_at<K: Key>(faces: &mut HashMap<K, ToldFaces>, expr: &K, face: u32) -> bool
+fn drop_at<K: Key>(
+    faces: &mut IndexMap<K, ToldFaces>,
+    last: &mut usize,
+    expr: &K,
+    face: u32,
+) -> bool
     ensures drops { ChangesAt K.cmp expr.now (without_face face)
         faces.old.entries faces.new.entries }
     ensures last { result ≡ true → told_at K.cmp expr.now faces.new.entries ≡ [] }
     ensures not_last { result ≡ false → HasFacesOrNoKey K.cmp expr.now faces.new.entries }
 {
-    match faces.get_mut(expr) {
-        None => false,
-        Some(told) => {
-            told.remove(face);
-            told.is_empty()
-        }
-    }
+    let Some(at) = place_of(faces, *last, expr) else {
+        return false;
+    };
+    *last = at;
+    let told = &mut faces[at];
+    told.remove(face);
+    told.is_empty()
 }
 
 // The expression goes.
-fn drop_key<K: Key>(faces: &mut HashMap<K, ToldFaces>, expr: &K)
+fn drop_key<K: Key>(faces: &mut IndexMap<K, ToldFaces>, expr: &K)
     ensures { IsWithout K.cmp expr.now faces.old.entries faces.new.entries }
 {
-    drop(faces.remove(expr));
+    drop(faces.swap_remove(expr));
 }
 
 impl<K: Key> ToldIndex<K> {
@@ -118,7 +147,8 @@ impl<K: Key> ToldIndex<K> {
         ensures { result ≡ [] }
     {
         ToldIndex {
-            faces: HashMap::new(alloc),
+            faces: IndexMap::new(alloc),
+            last: 0,
         }
     }
 
@@ -153,7 +183,7 @@ impl<K: Key> ToldIndex<K> {
             (λ known. known ≡ id_of face (told_at K.cmp expr.now self.old)) }
         ensures err { OnErr result (self.new ≡ self.old) }
     {
-        put_at(alloc, &mut self.faces, expr, face, id)
+        put_at(alloc, &mut self.faces, &mut self.last, expr, face, id)
     }
 
     /// The face was told that the expression is gone. With its last face an expression goes.
@@ -161,7 +191,7 @@ impl<K: Key> ToldIndex<K> {
         ensures less { ChangesAt K.cmp expr.now (without_face face) self.old self.new }
         ensures tidy { HasFacesOrNoKey K.cmp expr.now self.new }
     {
-        if drop_at(&mut self.faces, expr, face) {
+        if drop_at(&mut self.faces, &mut self.last, expr, face) {
             drop_key(&mut self.faces, expr);
         }
     }
@@ -170,11 +200,11 @@ impl<K: Key> ToldIndex<K> {
     pub fn copy(&self, alloc: Global) -> Result<Self, Memory>
         ensures { IfOk result (λ copy. copy ≡ self.now) }
     {
-        let mut faces = HashMap::with_capacity(alloc, self.faces.len())?;
+        let mut faces = IndexMap::with_capacity(alloc, self.faces.len())?;
         for (expr, told) in &self.faces {
             let copy = told.copy(alloc)?;
             put_faces(alloc, &mut faces, expr, copy)?;
         }
-        Ok(ToldIndex { faces })
+        Ok(ToldIndex { faces, last: 0 })
     }
 }

@@ -1,7 +1,9 @@
-use Rattle.std.proofs.Common.{◌≡◌, ◌++◌, [], sym, ◌≤◌, ◌<◌, ap, length, map, arith, ◌∙◌}
+use Rattle.std.proofs.Common.{◌≡◌, ◌++◌, [], sym, ◌≤◌, ◌<◌, ap, length, map, arith, refl, subst, ◌∙◌}
 use Rattle.zt_model.specs.Parts.{to_each}
-use Rattle.zt_model.specs.Trees.{hide_to}
+use Rattle.zt_model.specs.Trees.{hide_to, is_hidden}
 use Rattle.zt_state.proofs.Walks.{to_each_done, to_each_more}
+use Rattle.zt_routers.specs.Branches.{IsOwnBranch}
+use Rattle.zt_routers.proofs.Branches.{hidden_to}
 use Rattle.zt_routers.proofs.Treeless.{empty_of, hides_none}
 use Rattle.zt_routers.proofs.own.hide.Goals as goal
 
@@ -9,6 +11,15 @@ pub returns-then-is_empty : goal.returns-then-is_empty
 returns-then-is_empty g c =
     let none : c.args.g.now.trees ≡ [] = empty_of c.trees.result.now c.args.g.now.trees c.trees.ensures (sym c.is_empty.ensures ∙ c.if-is_empty.true) in
     c.new-sends.ensures.items ∙ sym (hides_none g.K.Ord.cmp c.args.g.now none c.args.source c.args.expr.now c.args.g.now.faces)
+
+pub loop-f-init : goal.loop-f-init
+loop-f-init g c =
+    let branch = c.own_branch-branch.result in
+    let is : c.is_hidden.result ≡ is_hidden g.K.Ord.cmp c.args.g.now c.args.source c.args.expr.now branch.region = rw c.own_branch-branch.ensures.region c.is_hidden.ensures in
+    record {
+      sent = rw c.new-sends.ensures.items refl;
+      hides = subst (λ goes_on. IsOwnBranch c.args.g.now branch.region goes_on branch.children.now branch.node_id) is c.own_branch-branch.ensures.branch;
+    }
 
 pub loop-f-preserved : goal.loop-f-preserved
 loop-f-preserved g c =
@@ -20,7 +31,7 @@ loop-f-preserved g c =
     record {
       sent =
           to_each_more rule faces c.loop-f.f-index f c.loop-f.sends.items _ _ within c.f-item.is c.loop-f.invariant.sent
-          (c.in_ok-unpass_to.ensures ∙ ap (λ ms. c.loop-f.sends.items ++ map (λ m. (f.number, m)) ms) (branch.ensures.hides.at f (sym (branch.ensures.region ∙ c.region.ensures))));
+          (c.in_ok-unpass_to.ensures ∙ ap (λ ms. c.loop-f.sends.items ++ map (λ m. (f.number, m)) ms) (hidden_to g.K.Ord.cmp c.args.g.now c.args.source c.args.expr.now branch.result.region branch.result.children.now branch.result.node_id branch.ensures.hides f (sym (branch.ensures.region ∙ c.region.ensures))));
       hides = branch.ensures.hides;
     }
 

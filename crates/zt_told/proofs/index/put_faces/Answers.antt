@@ -5,4 +5,4 @@ use Rattle.zt_told.proofs.index.put_faces.Goals as goal
 pub returns-clause-with : goal.returns-clause-with
 returns-clause-with g c =
     rw (← c.in_ok-copy.ensures)
-    (record { at = entries-changed g.K.Ord.cmp g.met.K.Ord.matches_eq (Some c.args.told) c.in_ok-copy.field-0 c.args.faces.now.entries c.insert.new.self.entries c.in_ok-insert.ensures.updates.0 })
+    (record { at = entries-changed g.K.Ord.cmp g.met.K.Ord.matches_eq (Some c.args.told) c.in_ok-copy.field-0 c.args.faces.now.entries c.insert_full.new.self.entries c.in_ok-at.ensures.updates.0 })

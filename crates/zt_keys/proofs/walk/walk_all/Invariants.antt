@@ -1,7 +1,7 @@
 use Rattle.std.proofs.Common.{◌≡◌, ◌+◌, length}
 use Rattle.zt_keys.specs.Parts.{parts_match}
 use Rattle.zt_keys.specs.Walking.{walked}
-use Rattle.zt_keys.proofs.walk.texts_match.Given as goal
+use Rattle.zt_keys.proofs.walk.walk_all.Given as goal
 
 abbrev pub invariant-loop-x : goal.invariant-loop-x
 invariant-loop-x l = parts_match (walked l.a) (walked l.b) ≡ parts_match (walked l.first) (walked l.second)

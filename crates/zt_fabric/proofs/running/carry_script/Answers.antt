@@ -1,27 +1,37 @@
-use Rattle.std.proofs.Common.{Err, ℕ, ◌-◌, ◌≡◌, length, take, refl, ap, subst, ◌∙◌, arith}
+use Rattle.std.proofs.Common.{Err, ℕ, ◌-◌, ◌≡◌, length, take, refl, sym, ap, subst, ◌∙◌, arith}
 use Rattle.std.proofs.lemmas.List.{length-take}
 use Rattle.std.specs.Io.KnownBytes.{Consumes}
 use Rattle.zt_streams.specs.Lines.{whole_lines}
 use Rattle.zt_streams.proofs.LineLemmas.{whole_lines-rest_of}
+use Rattle.zt_protocol.specs.declared.entries.Report.{Report}
 use Rattle.zt_protocol.specs.declared.errors.RunError.TheVariants as errors
+use Rattle.zt_fabric.specs.Carrying.{no_totals}
 use Rattle.zt_fabric.specs.Transcripts.{streams}
 use Rattle.zt_fabric.proofs.CompleteLemmas.{complete}
 use Rattle.zt_fabric.proofs.Right.{right_of_lines}
-use Rattle.zt_fabric.proofs.RunLemmas.{fed-front, so_far-next, so_far-end, so_far-start, stopped, finished, too_long, read_failed}
-use Rattle.zt_fabric.proofs.running.run.Goals as goal
+use Rattle.zt_fabric.proofs.RunLemmas.{SoFar, fed-front, so_far-next, so_far-end, so_far-start, stopped, finished, too_long, read_failed}
+use Rattle.zt_fabric.proofs.running.carry_script.Goals as goal
 
 pub loop-reads-init : goal.loop-reads-init
-loop-reads-init g c = record {
-  so_far = so_far-start g.K.Ord.cmp g.K.Key.matching g.K.Key.reading g.K.Key.printed (g.S.Source.left c.args.source.now) (g.T.Sink.written c.args.sink.now) c.new.result c.new-feeder.result c.new.ensures c.new-feeder.ensures;
-  empty = c.new-2.ensures.bytes;
-  within = omega arith;
-  reads = omega arith;
-  read_so_far = omega arith;
-  lines = omega (arith, ap length c.new-feeder.ensures);
-  range = record { messages_fit = omega arith; refusals_fit = omega arith };
-  read_faults = refl;
-  write_faults = refl;
-}
+loop-reads-init g c =
+    let left = g.S.Source.left c.args.source.now in
+    let written = g.T.Sink.written c.args.sink.now in
+    let fabric = c.args.run.now.fabric in
+    let feeder = c.new-feeder.result in
+    let none : c.args.run.now.report ≡ no_totals = c.requires.no_totals in
+    let lines = ap (λ (r : Report). r.lines) none in
+    record {
+      so_far = subst (λ (r : Report). SoFar g.K.Ord.cmp g.K.Key.matching g.K.Key.reading g.K.Key.printed left written left written fabric r feeder 0) (sym none)
+          (so_far-start g.K.Ord.cmp g.K.Key.matching g.K.Key.reading g.K.Key.printed left written fabric feeder c.requires.no_gateways c.new-feeder.ensures);
+      empty = c.requires.no_text;
+      within = omega arith;
+      reads = omega arith;
+      read_so_far = omega arith;
+      lines = omega (arith, lines, ap length c.new-feeder.ensures);
+      range = record { messages_fit = omega (arith, ap (λ (r : Report). r.messages) none); refusals_fit = omega (arith, ap (λ (r : Report). r.refusals) none) };
+      read_faults = refl;
+      write_faults = refl;
+    }
 
 pub returns-in_default-clause-answers : goal.returns-in_default-clause-answers
 returns-in_default-clause-answers g c =

@@ -1,7 +1,7 @@
 use Rattle.std.proofs.Common.{◌≡◌, ◌+◌, ◌≤◌, [], length, string_bytes}
 use Rattle.zt_fabric.specs.Carrying.{IsInRange}
 use Rattle.zt_fabric.proofs.RunLemmas.{SoFar}
-use Rattle.zt_fabric.proofs.running.run.Given as goal
+use Rattle.zt_fabric.proofs.running.carry_script.Given as goal
 
 -- what was read so far was carried out, but for the unfinished line, and the text of the entries was written
 abbrev pub invariant-loop-reads : goal.invariant-loop-reads
