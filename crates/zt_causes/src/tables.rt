@@ -1,9 +1,10 @@
 // Why the trees of a router region, a face's entities or a moment are refused.
-ghost use Rattle.std.specs.Prelude.{◌≡◌, ◌||◌, not, IfOk};
+ghost use Rattle.std.specs.Prelude.{◌≡◌, ◌||◌, [], not, IfOk};
 ghost use Rattle.std.specs.List.{list_any};
 ghost use Rattle.zt_model.specs.Journal.{cause_of};
 ghost use Rattle.zt_model.specs.Refusals.{is_unknown_face, names_unlisted};
 ghost use Rattle.zt_model.specs.Strategy.{is_region_of, is_router_hat, strategy_of};
+ghost use Rattle.zt_model.specs.Trees.{counted_beside, counted_table, is_same_link};
 ghost use Rattle.zt_protocol.specs.Plain.{Expire, SetEntities, SetTrees, trees_of};
 ghost use Rattle.zt_causes.specs.Unlisted.{names_others};
 ghost use Rattle.zt_tables.specs.Listed.{is_among};
@@ -11,23 +12,23 @@ ghost use Rattle.zt_tables.specs.Listed.{is_among};
 use crate::dictionary::is_filled_by_entities;
 use crate::regions::is_region_of;
 use std::alloc::Global;
-use std::collections::BTreeMap;
+use std::collections::HashMap;
 use zt_keys::{Key, Memory};
 use zt_protocol::{QueryableInfo, Refusal, TreeTable};
 use zt_region::{NodeId, Region, Zid};
 use zt_state::GatewayState;
-use zt_tables::{counted_table, is_listed, routers_listed};
+use zt_tables::{counted_links, counted_routers, is_listed};
 use zt_tokens::{find_face, is_router_region};
 
 // Whether links name a router that isn't listed.
-fn links_unlisted(links: &[(u32, NodeId, Zid)], listed: &BTreeMap<Zid, NodeId>) -> bool
+fn links_unlisted(links: &[(u32, NodeId, Zid)], listed: &HashMap<Zid, NodeId>) -> bool
     ensures { result ≡ list_any (λ l. not (is_among l.2 listed.now.entries)) links.now }
 {
     links.iter().any(|link| !is_listed(listed, link.2))
 }
 
 // Whether not both of these routers are listed.
-fn is_child_unlisted(child: &(Zid, Zid), listed: &BTreeMap<Zid, NodeId>) -> bool
+fn is_child_unlisted(child: &(Zid, Zid), listed: &HashMap<Zid, NodeId>) -> bool
     ensures { result
         ≡ (not (is_among child.now.0 listed.now.entries)
         || not (is_among child.now.1 listed.now.entries)) }
@@ -36,7 +37,7 @@ fn is_child_unlisted(child: &(Zid, Zid), listed: &BTreeMap<Zid, NodeId>) -> bool
 }
 
 // Whether children name a router that isn't listed.
-fn children_unlisted(children: &[(Zid, Zid)], listed: &BTreeMap<Zid, NodeId>) -> bool
+fn children_unlisted(children: &[(Zid, Zid)], listed: &HashMap<Zid, NodeId>) -> bool
     ensures { result ≡ list_any (λ c. not (is_among c.0 listed.now.entries)
         || not (is_among c.1 listed.now.entries)) children.now }
 {
@@ -45,30 +46,37 @@ fn children_unlisted(children: &[(Zid, Zid)], listed: &BTreeMap<Zid, NodeId>) ->
         .any(|child| is_child_unlisted(child, listed))
 }
 
-// Whether a table names a router that isn't among these, or the gateway isn't.
+// Whether links or children name a router that isn't among these, or the gateway isn't.
 fn names_others<K: Key>(
     g: &GatewayState<K>,
-    table: &TreeTable,
-    listed: &BTreeMap<Zid, NodeId>,
+    links: &[(u32, NodeId, Zid)],
+    children: &[(Zid, Zid)],
+    listed: &HashMap<Zid, NodeId>,
 ) -> bool
-    ensures { result ≡ names_others (trees_of table.now) listed.now.entries g.now.zid }
+    ensures { result ≡ names_others links.now children.now listed.now.entries g.now.zid }
 {
     !is_listed(listed, g.zid())
-        || links_unlisted(&table.links, listed)
-        || children_unlisted(&table.children, listed)
+        || links_unlisted(links, listed)
+        || children_unlisted(children, listed)
 }
 
-// Whether a table names a router that it doesn't list, or doesn't list the gateway. The only error
-// is want of memory.
+// Whether a table names a router that it doesn't list, or doesn't list the gateway. Mostly not even
+// one of all its entries does, and then it needn't be known which links count. The only error is
+// want of memory.
 fn names_unlisted<K: Key>(
     alloc: Global,
     g: &GatewayState<K>,
     table: &TreeTable,
 ) -> Result<bool, Memory>
-    ensures { IfOk result (λ is. is ≡ names_unlisted (trees_of table.now) g.now) }
+    ensures { IfOk result (λ is. is
+        ≡ names_unlisted (counted_table (trees_of table.now)) g.now) }
 {
-    let listed = routers_listed(alloc, table)?;
-    Ok(names_others(g, table, &listed))
+    let listed = counted_routers(alloc, &table.routers)?;
+    if !names_others(g, &table.links, &table.children, &listed.nodes) {
+        return Ok(false);
+    }
+    let counted = counted_links(alloc, &table.links)?;
+    Ok(names_others(g, &counted.links, &table.children, &listed.nodes))
 }
 
 // Whether the gateway has no such region of routers.
@@ -87,15 +95,17 @@ fn is_unknown_face<K: Key>(g: &GatewayState<K>, face: u32) -> bool
     find_face(g, face).is_none()
 }
 
-// Whether a table has links for a face that isn't open.
-fn links_unknown_face<K: Key>(g: &GatewayState<K>, table: &TreeTable) -> bool
-    ensures { result ≡ list_any (λ l. is_unknown_face l.0 g.now) (trees_of table.now).links }
+// Whether a link that counts is for a face that isn't open. One that doesn't count clashes with one
+// for the same face that does, so it needn't be known which count.
+fn links_unknown_face<K: Key>(g: &GatewayState<K>, links: &[(u32, NodeId, Zid)]) -> bool
+    ensures { result ≡ list_any (λ l. is_unknown_face l.0 g.now)
+        (counted_beside is_same_link [] links.now) }
 {
-    table.links.iter().any(|link| is_unknown_face(g, link.0))
+    links.iter().any(|link| is_unknown_face(g, link.0))
 }
 
 /// Why the trees of a router region are refused. The only error is want of memory.
-#[tactic(auto, unfolding(zt_model::specs::Journal::cause_of, zt_model::specs::Refusals::call_causes, zt_model::specs::Refusals::first_cause))]
+#[tactic(auto, unfolding(zt_model::specs::Journal::cause_of, zt_model::specs::Refusals::call_causes, zt_model::specs::Refusals::first_cause, zt_model::specs::Trees::counted_table))]
 pub(crate) fn table_cause<K: Key>(
     alloc: Global,
     g: &GatewayState<K>,
@@ -105,14 +115,13 @@ pub(crate) fn table_cause<K: Key>(
     ensures { IfOk result (λ cause. cause
         ≡ cause_of K.cmp K.matching (SetTrees region (trees_of table.now)) g.now) }
 {
-    let counted = counted_table(alloc, table)?;
-    if links_unknown_face(g, &counted) {
+    if links_unknown_face(g, &table.links) {
         return Ok(Some(Refusal::UnknownFace));
     }
     if lacks_region(g, region) {
         return Ok(Some(Refusal::NoSuchRegion));
     }
-    if names_unlisted(alloc, g, &counted)? {
+    if names_unlisted(alloc, g, table)? {
         return Ok(Some(Refusal::UnknownRouter));
     }
     Ok(None)

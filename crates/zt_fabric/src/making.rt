@@ -4,6 +4,7 @@ ghost use Rattle.std.specs.Prelude.{IfErr, IfSome, OnOk, map, string_bytes};
 ghost use Rattle.std.specs.Io.KnownBytes.{Appends};
 ghost use Rattle.zt_streams.specs.Lines.{with_feed};
 ghost use Rattle.zt_wire.specs.Text.{report_text};
+ghost use Rattle.zt_fabric.specs.Carrying.{IsNew};
 ghost use Rattle.zt_fabric.specs.Making.{IsReportOf, NotWritten, WritesReport, closing_line};
 ghost use Rattle.zt_fabric.specs.Making.{coming_lines, declaring_line, first_lines, going_lines};
 ghost use Rattle.zt_fabric.specs.Making.{lines_up_to, made_lines, made_script, number_to_make};
@@ -201,9 +202,10 @@ impl Source for CalmSource {
     }
 }
 
-// The report of the script's transcript.
-fn made_report(alloc: Global, number: u32) -> Result<Report, RunError>
-    requires { number ≤ MOST }
+// The report of the script's transcript, carried out in a run in which nothing is carried out yet.
+fn made_report(alloc: Global, run: &mut Progress<KeyExpr>, number: u32) -> Result<Report, RunError>
+    requires most { number ≤ MOST }
+    requires new { IsNew run.old.fabric run.old.report (string_bytes run.old.text) }
     ensures ok { IfOk result
         (λ report. IsReportOf ⟦<KeyExpr as Ord>⟧.cmp ⟦<KeyExpr as Key>⟧.matching ⟦<KeyExpr as Key>⟧.reading (made_lines number) report) }
     ensures err { IsOkUnless result RunError.Alloc }
@@ -213,11 +215,7 @@ fn made_report(alloc: Global, number: u32) -> Result<Report, RunError>
     };
     let mut source = CalmSource::new(alloc, text);
     let mut sink = CountingSink::new();
-    let mut run = Progress::<KeyExpr>::new(alloc);
-    let answer = carry_script(alloc, &mut run, &mut source, &mut sink);
-    // The program ends: what gateways keep goes with it, and isn't given back piece by piece.
-    mem::forget(run);
-    answer
+    carry_script(alloc, run, &mut source, &mut sink)
 }
 
 // Writes a report line.
@@ -239,14 +237,20 @@ fn put_report<T: Sink>(alloc: Global, report: &Report, sink: &mut T) -> Result<(
     Ok(())
 }
 
-/// Runs the script of this number, from 1 to 2,000, and writes the report line of its transcript.
-/// After `WriteFault` a part of the line was written, and after `Alloc` nothing was.
-pub(crate) fn make<T: Sink>(alloc: Global, number: u32, sink: &mut T) -> Result<Report, RunError>
-    requires { number ≤ MOST }
+// Runs the script of this number in a run in which nothing is carried out yet, and writes the
+// report line.
+fn write_made<T: Sink>(
+    alloc: Global,
+    run: &mut Progress<KeyExpr>,
+    number: u32,
+    sink: &mut T,
+) -> Result<Report, RunError>
+    requires most { number ≤ MOST }
+    requires new { IsNew run.old.fabric run.old.report (string_bytes run.old.text) }
     ensures { WritesReport ⟦<KeyExpr as Ord>⟧.cmp ⟦<KeyExpr as Key>⟧.matching ⟦<KeyExpr as Key>⟧.reading (made_lines number)
         (T.written sink.old) (T.written sink.new) (T.faults sink.old) (T.faults sink.new) result }
 {
-    let report = match made_report(alloc, number) {
+    let report = match made_report(alloc, run, number) {
         Ok(report) => report,
         Err(error) => return Err(error),
     };
@@ -254,4 +258,18 @@ pub(crate) fn make<T: Sink>(alloc: Global, number: u32, sink: &mut T) -> Result<
         return Err(error);
     }
     Ok(report)
+}
+
+/// Runs the script of this number, from 1 to 2,000, and writes the report line of its transcript.
+/// After `WriteFault` a part of the line was written, and after `Alloc` nothing was.
+pub(crate) fn make<T: Sink>(alloc: Global, number: u32, sink: &mut T) -> Result<Report, RunError>
+    requires { number ≤ MOST }
+    ensures { WritesReport ⟦<KeyExpr as Ord>⟧.cmp ⟦<KeyExpr as Key>⟧.matching ⟦<KeyExpr as Key>⟧.reading (made_lines number)
+        (T.written sink.old) (T.written sink.new) (T.faults sink.old) (T.faults sink.new) result }
+{
+    let mut run = Progress::<KeyExpr>::new(alloc);
+    let answer = write_made(alloc, &mut run, number, sink);
+    // The program ends: what gateways keep goes with it, and isn't given back piece by piece.
+    mem::forget(run);
+    answer
 }

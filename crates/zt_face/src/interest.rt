@@ -1,5 +1,5 @@
 // Interests, as faces hold them and as they are sent on.
-ghost use Rattle.std.specs.Prelude.{◌≡◌, IfOk};
+ghost use Rattle.std.specs.Prelude.{◌≡◌, false, true, IfOk};
 ghost use Rattle.std.specs.Ordering.{is_eq};
 ghost use Rattle.zt_face.specs.Locals.{asked_by};
 ghost use Rattle.zt_model.specs.Routing.{asks_same, expression_order};
@@ -8,7 +8,7 @@ ghost use Rattle.zt_model.specs.Wants.{asks_token, is_about};
 use bitflags::Flags;
 use std::alloc::Global;
 use std::marker::Model;
-use zt_keys::{Key, Memory};
+use zt_keys::{Anchor, Key, Memory};
 use zt_protocol::{InterestMode, InterestOptions, copy_expression};
 
 /// An interest of a face, as it is held, asked or sent on: in one expression or in all, with the
@@ -39,13 +39,24 @@ fn is_same_expression<K: Key>(a: &Option<K>, b: &Option<K>) -> bool
     }
 }
 
-/// Whether an interest in this expression, or in all keys, is about the key.
+// Whether both keys have a number as a whole, and not the same one. Then they don't match.
+fn have_other_numbers<K: Key>(first: &K, second: &K) -> bool
+    ensures { result ≡ true → K.matching first.now second.now ≡ false }
+{
+    match (first.anchor(Anchor::Whole), second.anchor(Anchor::Whole)) {
+        (Some(one), Some(other)) => one != other,
+        _ => false,
+    }
+}
+
+/// Whether an interest in this expression, or in all keys, is about the key. Most expressions have no
+/// wildcards, and two of these are told apart by their numbers, which takes no walk along both.
 pub fn is_about<K: Key>(expr: &Option<K>, key: &K) -> bool
     ensures { result ≡ is_about K.matching expr.now key.now }
 {
     match expr {
         None => true,
-        Some(expr) => expr.matches(key),
+        Some(expr) => !have_other_numbers(expr, key) && expr.matches(key),
     }
 }
 

@@ -10,7 +10,7 @@ ghost use Rattle.zt_rows.specs.Places.{rows_in};
 use std::alloc::Global;
 use std::marker::Model;
 use zt_keys::{Key, Memory};
-use zt_rows::RisingRows;
+use zt_rows::{Place, RisingRows};
 
 /// The tokens that a face was told, by id. Ids rise from token to token. Which faces were told an
 /// expression, and under which id, the gateway finds for all faces at once.
@@ -47,7 +47,7 @@ impl<K: Key> LocalTokens<K> {
 
     /// The places of the tokens, in order of id. The place of a token that is gone may stand there
     /// still, and is empty.
-    pub fn places(&self) -> &[(u32, Option<K>)]
+    pub fn places(&self) -> &[Place<K>]
         ensures { rows_in result.now ≡ self.now }
     {
         self.rows.places()
@@ -96,9 +96,9 @@ impl<K: Key> LocalTokens<K> {
         ensures { IfOk result (λ copies. copies ≡ self.now) }
     {
         let mut rows = RisingRows::new(alloc);
-        for (id, row) in self.places() {
-            if let Some(expr) = row {
-                rows.push(*id, expr.copy(alloc)?)?;
+        for place in self.places() {
+            if let Some(expr) = place.row() {
+                rows.push(place.id(), expr.copy(alloc)?)?;
             }
         }
         Ok(LocalTokens { rows })

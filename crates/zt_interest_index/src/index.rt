@@ -49,17 +49,19 @@ fn put_in_order(numbers: &mut Vec<u32>)
 // Beside the others, mostly no more faces than these hold an interest in a key.
 const FEW: usize = 8;
 
-// These faces, and those whose interests are about the key. The only error is want of memory.
+// These faces, and those whose interests are about the key, with room for so many beside the
+// others. The only error is want of memory.
 fn found_in<K: Key>(
     alloc: Global,
     rows: &Holdings<K>,
     expr: &K,
     others: &[u32],
+    room: usize,
 ) -> Result<Vec<u32>, Memory>
     ensures { IfOk result (λ found. (n : ℕ) → is_among n found.items
         ≡ (is_among n others.now || list_any (asks_from K.matching expr.now n) rows.now)) }
 {
-    let mut found = Vec::with_capacity(alloc, others.len().saturating_add(FEW))?;
+    let mut found = Vec::with_capacity(alloc, others.len().saturating_add(room))?;
     found.extend_from_slice(others)?;
     rows.gather(&mut found, expr)?;
     Ok(found)
@@ -126,14 +128,15 @@ impl<K: Key> InterestIndex<K> {
     {
         // Where no interest stands at a number, those of the key needn't be worked out.
         if self.numbered.is_empty() {
-            let mut found = found_in(alloc, &self.any, expr, others)?;
+            let room = self.any.as_slice().len().min(FEW);
+            let mut found = found_in(alloc, &self.any, expr, others, room)?;
             put_in_order(&mut found);
             return Ok(Some(found));
         }
         let Some(numbers) = anchors_of(expr) else {
             return Ok(None);
         };
-        let mut found = found_in(alloc, &self.any, expr, others)?;
+        let mut found = found_in(alloc, &self.any, expr, others, FEW)?;
         gather_all(&mut found, &self.numbered, &places_of(numbers), expr)?;
         put_in_order(&mut found);
         Ok(Some(found))

@@ -20,8 +20,8 @@ fn told_in_order<K: Key>(alloc: Global, f: &FaceState<K>) -> Result<Vec<K>, Memo
         ≡ in_key_order K.cmp (map (λ row. row.1) f.now.told)) }
 {
     let mut exprs = KeysInOrder::new(alloc);
-    for (_, row) in f.told().places().iter().rev() {
-        if let Some(expr) = row {
+    for place in f.told().places().iter().rev() {
+        if let Some(expr) = place.row() {
             exprs.insert(alloc, expr)?;
         }
     }

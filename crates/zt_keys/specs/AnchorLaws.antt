@@ -14,7 +14,7 @@ use Rattle.zt_keys.specs.Expression.{Expression, same_expression}
 use Rattle.zt_keys.specs.Parts.{Part, many, one, marked, plain, part_of, is_marked, meets}
 use Rattle.zt_keys.specs.Matching.{matching, parts}
 use Rattle.zt_keys.specs.Meet.{Meet, left_none, left_takes, right_none, right_takes, both, flip, match-to}
-use Rattle.zt_keys.specs.Anchors.{anchored, number_of, number_from, with_byte, first_chunk, first_two, last_chunk, last_from}
+use Rattle.zt_keys.specs.Anchors.{anchored, number_of, first_chunk, first_two, last_chunk, last_from}
 
 abbrev is_slash : ℕ → Bool
 is_slash b = b == 47
@@ -33,15 +33,8 @@ any-chunks p h (b ∷ text) =
 
 -- a text that has a number has no `*`
 
-number_from-starless : (hash : ℕ) (text : List ℕ) (m : ℕ) → number_from hash text ≡ Some m → list_any is_star text ≡ false
-number_from-starless hash [] m e = refl
-number_from-starless hash (b ∷ text) m e =
-    by_test (is_star b)
-    (λ s. let f : None ≡ Some m = rw s at e in cc)
-    (λ s. rw s (number_from-starless (with_byte hash b) text m (rw s at e)))
-
 starless : (text : List ℕ) (m : ℕ) → number_of text ≡ Some m → list_any is_star text ≡ false
-starless text m e = number_from-starless _ text m e
+starless text m e = by_test (list_any is_star text) (λ s. let f : None ≡ Some m = rw s at e in cc) (λ s. s)
 
 -- what a part without wildcards stands for
 abbrev text_of : Part → Option (List ℕ)

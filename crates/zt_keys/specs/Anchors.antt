@@ -1,5 +1,6 @@
 -- The numbers by which key expressions are told apart.
 use Rattle.std.specs.Prelude.{ℕ, ◌*◌, ◌/◌, ◌%◌, ◌^◌, List, [], ◌∷◌, ◌++◌, Option, Some, None, cond, bit_xor}
+use Rattle.std.specs.List.{list_any}
 use Rattle.zt_keys.specs.declared.anchor.Anchor.{Anchor}
 use Rattle.zt_keys.specs.declared.anchor.Anchor.TheVariants.{Whole, First, FirstTwo, Last}
 use Rattle.zt_keys.specs.Chunks.{chunks, is_star}
@@ -17,14 +18,18 @@ with_byte hash byte = (bit_xor hash byte * 0x9E37_79B9_7F4A_7C15) % 2 ^ 64
 unfoldable pub spread : ℕ → ℕ
 spread hash = bit_xor hash (hash / 2 ^ 32)
 
--- the number of a text that goes on with these bytes, or `None` where one of them is `*`
-abbrev pub number_from : ℕ → List ℕ → Option ℕ
-number_from hash [] = Some (spread hash)
-number_from hash (byte ∷ bytes) = cond (is_star byte) None (number_from (with_byte hash byte) bytes)
+-- the hash of the bytes so far and of these
+abbrev pub hash_from : ℕ → List ℕ → ℕ
+hash_from hash [] = hash
+hash_from hash (byte ∷ bytes) = hash_from (with_byte hash byte) bytes
+
+-- the hash of a text
+abbrev pub hash_of : List ℕ → ℕ
+hash_of text = spread (hash_from seed text)
 
 -- a number of a text, or `None` where it has a `*`
 abbrev pub number_of : List ℕ → Option ℕ
-number_of text = number_from seed text
+number_of text = cond (list_any is_star text) None (Some (hash_of text))
 
 -- the first of these chunks
 abbrev pub first_chunk : List (List ℕ) → List ℕ

@@ -9,5 +9,6 @@ pub mod Meet
 pub mod Members
 pub mod Parts
 pub mod Scan
+pub mod Shared
 pub mod Test
 pub mod Walking

@@ -1,7 +1,7 @@
 // Key expressions.
 ghost use Rattle.std.specs.Prelude.{◌≡◌, ◌++◌, nat_eq, Some, ◌≢◌, ◌↔◌, IsTrue, IfOk, IfErr};
 ghost use Rattle.std.specs.Prelude.{string_bytes, if◌then◌else◌, is_ok, refl};
-ghost use Rattle.std.specs.Arc.{arc_str_bytes};
+ghost use Rattle.std.specs.Arc.{arc_value};
 ghost use Rattle.std.specs.Hash as fed;
 ghost use Rattle.std.specs.Ordering.{nat_cmp};
 ghost use Rattle.std.specs.Cmp.Lexicographic.{pointwise, slice_cmp, texts_ties, texts_po};
@@ -14,7 +14,7 @@ ghost use Rattle.zt_keys.specs.Expression.{Expression, expression_code, is_expre
 ghost use Rattle.zt_keys.specs.Expression.{bytes_of};
 ghost use Rattle.zt_keys.specs.Chunks.{chunks, refusal};
 ghost use Rattle.zt_keys.specs.Matching.{matching, Intersect};
-ghost use Rattle.zt_keys.specs.Anchors.{anchored};
+ghost use Rattle.zt_keys.specs.Anchors.{anchored, hash_of};
 ghost use Rattle.zt_keys.specs.Laws.{expression_laws};
 
 use crate::anchor::Anchor;
@@ -22,21 +22,22 @@ use crate::check::check;
 use crate::error::{KeyError, Memory};
 use crate::key::Key;
 use crate::numbers::{first_chunk, first_two, last_chunk, number_of};
+use crate::shared::Shared;
 use crate::walk::texts_match;
 use std::alloc::Global;
 use std::cmp::Ordering;
 use std::hash::{Hash, Hasher};
 use std::marker::Model;
-use std::sync::ArcStr;
+use std::sync::Arc;
 
 /// A key expression: one or more chunks with `/` between them, each a name, `*` or `**`.
 ///
 /// Contracts see its bytes and the fact that they are a key expression. The text is shared between
-/// copies.
+/// copies, and kept with it are its hash and whether it has a `*`.
 #[derive(Drop)]
 pub struct KeyExpr {
-    shared: ArcStr,
-    ghost is_valid: { IsTrue (is_expression (arc_str_bytes shared)) },
+    shared: Arc<Shared>,
+    ghost is_valid: { IsTrue (is_expression (arc_value shared)) },
 }
 
 impl Model for KeyExpr {
@@ -44,7 +45,7 @@ impl Model for KeyExpr {
 
     ghost coded = { expression_code };
 
-    ghost view = { λ k. record { bytes = arc_str_bytes k.shared; valid = k.is_valid } };
+    ghost view = { λ k. record { bytes = arc_value k.shared; valid = k.is_valid } };
 }
 
 impl KeyExpr {
@@ -52,7 +53,7 @@ impl KeyExpr {
     pub fn text(&self) -> &str
         ensures { result.now ≡ self.now.bytes }
     {
-        self.shared.as_str()
+        self.shared.text()
     }
 }
 
@@ -62,7 +63,7 @@ impl PartialEq for KeyExpr {
     ghost laws = { on_per bytes_of (partial_equiv_from_equiv nat_list_eq_equiv) };
 
     fn eq(&self, other: &KeyExpr) -> bool {
-        self.text() == other.text()
+        self.shared.hash() == other.shared.hash() && self.text() == other.text()
     }
 }
 
@@ -95,12 +96,12 @@ impl Ord for KeyExpr {
 }
 
 impl Hash for KeyExpr {
-    ghost hash_input = { λ k. fed.str k.bytes };
+    ghost hash_input = { λ k. fed.u64 (hash_of k.bytes) };
 
     ghost respects_eq = { Prim.search (hashing, rules) };
 
     fn hash<H: Hasher>(&self, state: &mut H) {
-        self.text().hash(state);
+        state.write_u64(self.shared.hash());
     }
 }
 
@@ -125,13 +126,13 @@ impl Key for KeyExpr {
     }
 
     /// A number of the whole text, of its first chunk, of its first two or of its last, where no
-    /// `*` stands there. Only those bytes are read. The first two of a text of one chunk are that
-    /// chunk.
+    /// `*` stands there. That of the whole text is kept with it; for the others only those bytes are
+    /// read. The first two of a text of one chunk are that chunk.
     #[tactic(auto, unfolding(crate::specs::Anchors::anchored))]
     fn anchor(&self, at: Anchor) -> Option<u64> {
         let text = self.text().as_bytes();
         match at {
-            Anchor::Whole => number_of(text),
+            Anchor::Whole => self.shared.number(),
             Anchor::First => number_of(first_chunk(text)),
             Anchor::FirstTwo => number_of(first_two(text)),
             Anchor::Last => number_of(last_chunk(text)),
@@ -148,7 +149,7 @@ impl Key for KeyExpr {
             (λ error. error ≢ KeyError.Memory → refusal text.now ≡ Some error) }
     {
         check(text)?;
-        let shared = ArcStr::from_str(alloc, text)?;
+        let shared = Arc::new(alloc, Shared::new(alloc, text)?)?;
         Ok(KeyExpr { shared })
     }
 

@@ -7,6 +7,7 @@ mod error;
 mod expr;
 mod key;
 mod numbers;
+mod shared;
 mod spelling;
 #[cfg(test)]
 mod tests;

@@ -1,8 +1,9 @@
 // The numbers of texts, by which keys are told apart.
-ghost use Rattle.std.specs.Prelude.{◌≡◌};
-ghost use Rattle.zt_keys.specs.Chunks.{chunks};
-ghost use Rattle.zt_keys.specs.Anchors.{with_byte, spread, number_of, first_chunk, first_two};
-ghost use Rattle.zt_keys.specs.Anchors.{last_chunk};
+ghost use Rattle.std.specs.Prelude.{◌≡◌, cond, Some, None};
+ghost use Rattle.std.specs.List.{list_any};
+ghost use Rattle.zt_keys.specs.Chunks.{chunks, is_star};
+ghost use Rattle.zt_keys.specs.Anchors.{with_byte, spread, hash_of, number_of};
+ghost use Rattle.zt_keys.specs.Anchors.{first_chunk, first_two, last_chunk};
 
 const SEED: u64 = 0xCBF2_9CE4_8422_2325;
 
@@ -24,18 +25,45 @@ fn spread(hash: u64) -> u64
     hash ^ (hash >> 32)
 }
 
+// What one walk over a text finds.
+#[derive(Clone, Copy)]
+pub(crate) struct Digest {
+    pub(crate) hash: u64,
+    pub(crate) has_star: bool,
+}
+
+impl Digest {
+    pub(crate) fn of(text: &[u8]) -> Digest
+        ensures hash { result.hash ≡ hash_of text.now }
+        ensures star { result.has_star ≡ list_any is_star text.now }
+    {
+        let mut hash = SEED;
+        let mut has_star = false;
+        for byte in text {
+            if *byte == b'*' {
+                has_star = true;
+            }
+            hash = with_byte(hash, *byte);
+        }
+        Digest {
+            hash: spread(hash),
+            has_star,
+        }
+    }
+
+    // The number of the text, or `None` if it has a `*`.
+    pub(crate) fn number(&self) -> Option<u64>
+        ensures { result ≡ cond self.now.has_star None (Some self.now.hash) }
+    {
+        if self.has_star { None } else { Some(self.hash) }
+    }
+}
+
 // A number of the text, or `None` if it has a `*`.
 pub(crate) fn number_of(text: &[u8]) -> Option<u64>
     ensures { result ≡ number_of text.now }
 {
-    let mut hash = SEED;
-    for byte in text {
-        if *byte == b'*' {
-            return None;
-        }
-        hash = with_byte(hash, *byte);
-    }
-    Some(spread(hash))
+    Digest::of(text).number()
 }
 
 // The text's first chunk. Nothing behind it is read.

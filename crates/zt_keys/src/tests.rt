@@ -4,6 +4,7 @@ ghost use Rattle.std.specs.Prelude.{◌≡◌, IfOk, IfErr};
 
 use crate::{Anchor, Key, KeyError, KeyExpr};
 use std::alloc::{AllocError, Global};
+use std::hash::{DefaultHasher, Hash, Hasher};
 use std::test::Fail;
 
 // A key's printed text is read as the key, by the laws alone.
@@ -213,5 +214,28 @@ fn keys_have_numbers(rt: HostRuntime) -> Result<(), Fail> {
     let [pair, _, pair_two, _] = numbers::<KeyExpr>(rt.alloc(), "a/b")?;
     assert_eq!(rt; pair, two);
     assert_eq!(rt; pair_two, two);
+    Ok(())
+}
+
+fn hash_value(key: &KeyExpr) -> u64 {
+    let mut hasher = DefaultHasher::new();
+    key.hash(&mut hasher);
+    hasher.finish()
+}
+
+// Texts of 46 bytes, the most that need no memory of their own, and of more.
+#[test]
+fn texts_of_each_length_are_kept(rt: HostRuntime) -> Result<(), Fail> {
+    for (count, end) in [(22, "zz"), (22, "zzz"), (100, "z")] {
+        let text = repeated(rt.alloc(), "k/", count, end)?;
+        let key = KeyExpr::read(rt.alloc(), text.as_str())?;
+        let same = KeyExpr::read(rt.alloc(), text.as_str())?;
+        assert!(rt; key == same);
+        assert_eq!(rt; hash_value(&key), hash_value(&same));
+        let other = repeated(rt.alloc(), "k/", count, "y")?;
+        assert!(rt; key != KeyExpr::read(rt.alloc(), other.as_str())?);
+        let printed = key.copy(rt.alloc())?.print(rt.alloc())?;
+        assert_eq!(rt; printed.as_str(), text.as_str());
+    }
     Ok(())
 }

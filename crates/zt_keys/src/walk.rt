@@ -273,7 +273,7 @@ fn is_free(text: &[u8]) -> bool
     after_segment(text).is_empty()
 }
 
-// Whether the two texts match. Mostly one of them is `**`, or neither is.
+// Whether the two texts match. One that is `**` needs no walk along both.
 pub(crate) fn texts_match(first: &[u8], second: &[u8]) -> bool
     ensures { result ≡ parts_match (walked first.now) (walked second.now) }
 {

@@ -47,24 +47,22 @@ fn is_hidden<K: Key>(g: &GatewayState<K>, source: Region, expr: &K, region: Regi
     is_router_region(g.mode(), region) && region != source && !is_visible(g, region, expr)
 }
 
-// The branch for the face's region: mostly that of the face before.
-fn next_shown<'a, K: Key>(
+// The branch becomes that for the face's region. Mostly it is already, as that of the face before.
+fn turn_to_shown<'a, K: Key>(
     g: &'a GatewayState<K>,
     source: Region,
     expr: &K,
-    branch: Branch<'a>,
+    branch: &mut Branch<'a>,
     region: Region,
-) -> Branch<'a>
-    requires { IsShowing K.cmp g.now source expr.now branch.region branch.children.now
-        branch.node_id }
-    ensures region { result.region ≡ region }
-    ensures shows { IsShowing K.cmp g.now source expr.now result.region result.children.now
-        result.node_id }
+)
+    requires { IsShowing K.cmp g.now source expr.now branch.old.region branch.old.children.now
+        branch.old.node_id }
+    ensures region { branch.new.region ≡ region }
+    ensures shows { IsShowing K.cmp g.now source expr.now branch.new.region branch.new.children.now
+        branch.new.node_id }
 {
-    if region == branch.region {
-        branch
-    } else {
-        own_branch(g, region, is_newly_shown(g, source, expr, region))
+    if region != branch.region {
+        *branch = own_branch(g, region, is_newly_shown(g, source, expr, region));
     }
 }
 
@@ -89,7 +87,7 @@ pub fn show<K: Key>(
         is_newly_shown(g, source, expr, Region::North),
     );
     for f in g.faces() {
-        branch = next_shown(g, source, expr, branch, f.region());
+        turn_to_shown(g, source, expr, &mut branch, f.region());
         pass_to(alloc, g, &branch, expr, f, &mut sends)?;
     }
     Ok(sends)
@@ -186,24 +184,22 @@ pub fn hidden_regions<K: Key>(
     Ok(regions)
 }
 
-// The branch for the face's region: mostly that of the face before.
-fn next_hidden<'a, K: Key>(
+// The branch becomes that for the face's region. Mostly it is already, as that of the face before.
+fn turn_to_hidden<'a, K: Key>(
     g: &'a GatewayState<K>,
     source: Region,
     expr: &K,
-    branch: Branch<'a>,
+    branch: &mut Branch<'a>,
     region: Region,
-) -> Branch<'a>
-    requires { IsHiding K.cmp g.now source expr.now branch.region branch.children.now
-        branch.node_id }
-    ensures region { result.region ≡ region }
-    ensures hides { IsHiding K.cmp g.now source expr.now result.region result.children.now
-        result.node_id }
+)
+    requires { IsHiding K.cmp g.now source expr.now branch.old.region branch.old.children.now
+        branch.old.node_id }
+    ensures region { branch.new.region ≡ region }
+    ensures hides { IsHiding K.cmp g.now source expr.now branch.new.region branch.new.children.now
+        branch.new.node_id }
 {
-    if region == branch.region {
-        branch
-    } else {
-        own_branch(g, region, is_hidden(g, source, expr, region))
+    if region != branch.region {
+        *branch = own_branch(g, region, is_hidden(g, source, expr, region));
     }
 }
 
@@ -225,7 +221,7 @@ pub fn hide<K: Key>(
     }
     let mut branch = own_branch(g, Region::North, is_hidden(g, source, expr, Region::North));
     for f in g.faces() {
-        branch = next_hidden(g, source, expr, branch, f.region());
+        turn_to_hidden(g, source, expr, &mut branch, f.region());
         unpass_to(alloc, g, &branch, expr, f, &mut sends)?;
     }
     Ok(sends)

@@ -10,6 +10,7 @@ use Rattle.std.specs.Cmp.{nat_cmp_total, unsigned_tied}
 use Rattle.std.specs.FinMap.Entries.{below_all, put}
 use Rattle.std.specs.List.{AllByRecursion}
 use Rattle.std.specs.Map.{keys_of}
+use Rattle.std.specs.Option.{option_map}
 use Rattle.std.specs.Ordering.{is_eq, nat_cmp}
 use Rattle.std.specs.declared.cmp.Ordering.TheVariants.{Less, Equal}
 use Rattle.zt_keys.specs.Test.{by_test}
@@ -142,20 +143,31 @@ module _ {A : Type 0} where
 
   -- ---- a walk from the last place on
 
-  pub stepped-back : (places : ById (Option A)) (place : ℕ × Option A) (row : A) (rows all : ById A) → 0 < length places → place ≡ get_or places (length places - 1) place → place.1 ≡ Some row
-      → (rows_in places ++ rows ≡ all) × (rows ≡ []) → all ≡ (rows_in (take (length places - 1) places) ++ rows) ++ (place.0, row) ∷ []
-  stepped-back places place row rows all some at stands left =
-      let front = take (length places - 1) places in
-      let split : places ≡ front ++ place ∷ [] = sym (last-split places place some at) in
-      sym left.0 ∙ ap (λ rs. rows_in places ++ rs) left.1 ∙ append-nil (rows_in places) ∙ last-row places front place row split stands
-      ∙ ap (λ rs. rs ++ (place.0, row) ∷ []) (sym (append-nil (rows_in front)) ∙ ap (λ rs. rows_in front ++ rs) (sym left.1))
+  -- what is read in a place
+  shown-in : (place : ℕ × Option A) (shown : ℕ × A) → option_map {U = ℕ × A} (λ row. (place.0, row)) place.1 ≡ Some shown → (place.0 ≡ shown.0) × (place.1 ≡ Some shown.1)
+  shown-in (id, None) shown is = cc
+  shown-in (id, Some row) shown is = let same : (id, row) ≡ shown = cc in (ap (λ (r : ℕ × A). r.0) same, ap (λ (r : ℕ × A). Some r.1) same)
 
-  pub passed-back : (places : ById (Option A)) (place : ℕ × Option A) (rows all : ById A) → 0 < length places → place ≡ get_or places (length places - 1) place → place.1 ≡ None
-      → (rows_in places ++ rows ≡ all) × (rows ≡ []) → (rows_in (take (length places - 1) places) ++ rows ≡ all) × (rows ≡ [])
-  passed-back places place rows all some at empty left =
+  none-in : (place : ℕ × Option A) → option_map {U = ℕ × A} (λ row. (place.0, row)) place.1 ≡ None → place.1 ≡ None
+  none-in (id, None) is = refl
+  none-in (id, Some row) is = cc
+
+  pub stepped-back : (places : ById (Option A)) (place : ℕ × Option A) (shown : ℕ × A) (rows all : ById A) → 0 < length places → place ≡ get_or places (length places - 1) place → option_map {U = ℕ × A} (λ row. (place.0, row)) place.1 ≡ Some shown
+      → (rows_in places ++ rows ≡ all) × (rows ≡ []) → all ≡ (rows_in (take (length places - 1) places) ++ rows) ++ shown ∷ []
+  stepped-back places place shown rows all some at read left =
       let front = take (length places - 1) places in
       let split : places ≡ front ++ place ∷ [] = sym (last-split places place some at) in
-      (ap (λ rs. rs ++ rows) (sym (last-empty places front place split empty)) ∙ left.0, left.1)
+      let stands = shown-in place shown read in
+      sym left.0 ∙ ap (λ rs. rows_in places ++ rs) left.1 ∙ append-nil (rows_in places) ∙ last-row places front place shown.1 split stands.1
+      ∙ ap (λ n. rows_in front ++ (n, shown.1) ∷ []) stands.0
+      ∙ ap (λ rs. rs ++ shown ∷ []) (sym (append-nil (rows_in front)) ∙ ap (λ rs. rows_in front ++ rs) (sym left.1))
+
+  pub passed-back : (places : ById (Option A)) (place : ℕ × Option A) (rows all : ById A) → 0 < length places → place ≡ get_or places (length places - 1) place → option_map {U = ℕ × A} (λ row. (place.0, row)) place.1 ≡ None
+      → (rows_in places ++ rows ≡ all) × (rows ≡ []) → (rows_in (take (length places - 1) places) ++ rows ≡ all) × (rows ≡ [])
+  passed-back places place rows all some at read left =
+      let front = take (length places - 1) places in
+      let split : places ≡ front ++ place ∷ [] = sym (last-split places place some at) in
+      (ap (λ rs. rs ++ rows) (sym (last-empty places front place split (none-in place read))) ∙ left.0, left.1)
 
   pub none-behind : (places : ById (Option A)) (rows all : ById A) → length places ≡ 0 → (rows_in places ++ rows ≡ all) × (rows ≡ []) → (all ≡ []) × (rows_in places ++ rows ≡ [])
   none-behind [] rows all none left = (sym left.0 ∙ left.1, left.1)

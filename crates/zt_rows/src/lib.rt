@@ -5,11 +5,13 @@
 //! They know ids alone, and nothing of what stands under these.
 #![tactic(auto)]
 
+mod place;
 mod placing;
 mod rising;
 mod rows;
 mod walk;
 
+pub use place::Place;
 pub use rising::RisingRows;
 pub use rows::RowsById;
 pub use walk::Iter;

@@ -7,6 +7,7 @@ ghost use Rattle.std.specs.Ordering.{nat_cmp};
 ghost use Rattle.zt_model.specs.Lists.{at_id, without_id};
 ghost use Rattle.zt_rows.specs.Places.{AreRising, rows_in};
 
+use crate::place::Place;
 use zt_keys::Memory;
 use zt_ordered::place_of_number;
 
@@ -14,23 +15,24 @@ use zt_ordered::place_of_number;
 const FEW: usize = 16;
 
 // Whether the id is above those of all places, also of empty ones.
-pub(crate) fn are_below<X>(places: &[(u32, Option<X>)], id: u32) -> bool
+pub(crate) fn are_below<X>(places: &[Place<X>], id: u32) -> bool
     requires { AreRising places.now }
     ensures { result ≡ true → (row : X) → AreRising (places.now ++ (id, Some row) ∷ []) }
 {
     match places.last() {
         None => true,
-        Some(last) => last.0 < id,
+        Some(last) => last.id() < id,
     }
 }
 
-// The row under the id. Found at once where ids follow one another, else by halves.
-pub(crate) fn find_in<X>(places: &[(u32, Option<X>)], id: u32) -> Option<&X>
+// The row under the id. Found at once where ids follow one another or lie evenly apart, else by
+// halves.
+pub(crate) fn find_in<X>(places: &[Place<X>], id: u32) -> Option<&X>
     requires { AreRising places.now }
     ensures { option_copied result ≡ at_id id (rows_in places.now) }
 {
     match place_of_number(places, id) {
-        Ok(place) => places[place].1.as_ref(),
+        Ok(place) => places[place].row(),
         Err(_) => None,
     }
 }
@@ -38,7 +40,7 @@ pub(crate) fn find_in<X>(places: &[(u32, Option<X>)], id: u32) -> Option<&X>
 // Puts a row into the place of its id, or into one of its own among the others, and gives it back
 // where too many places would move for that. The only error is want of memory.
 pub(crate) fn put_in<X: Drop>(
-    places: &mut Vec<(u32, Option<X>)>,
+    places: &mut Vec<Place<X>>,
     id: u32,
     row: X,
 ) -> Result<Option<X>, Memory>
@@ -52,11 +54,11 @@ pub(crate) fn put_in<X: Drop>(
 {
     match place_of_number(places.as_slice(), id) {
         Ok(place) => {
-            places[place].1 = Some(row);
+            places[place].put(row);
             Ok(None)
         }
         Err(place) if places.len() - place <= FEW => {
-            places.insert(place, (id, Some(row)))?;
+            places.insert(place, Place::taken(id, row))?;
             Ok(None)
         }
         Err(_) => Ok(Some(row)),
@@ -64,27 +66,27 @@ pub(crate) fn put_in<X: Drop>(
 }
 
 // Takes the row under the id, whose place is empty then.
-pub(crate) fn take_in<X: Drop>(places: &mut Vec<(u32, Option<X>)>, id: u32) -> Option<X>
+pub(crate) fn take_in<X: Drop>(places: &mut Vec<Place<X>>, id: u32) -> Option<X>
     requires { AreRising places.old.items }
     ensures row { result ≡ at_id id (rows_in places.old.items) }
     ensures rest { rows_in places.new.items ≡ without_id id (rows_in places.old.items) }
     ensures rising { AreRising places.new.items }
 {
     match place_of_number(places.as_slice(), id) {
-        Ok(place) => places[place].1.take(),
+        Ok(place) => places[place].take(),
         Err(_) => None,
     }
 }
 
 // Whether a row stands in the place.
-fn is_taken<X>(place: &(u32, Option<X>)) -> bool
+fn is_taken<X>(place: &Place<X>) -> bool
     ensures { result ≡ is_some place.now.1 }
 {
-    place.1.is_some()
+    place.row().is_some()
 }
 
 // Drops the empty places once they are most, and answers how many are left.
-pub(crate) fn tidy<X: Drop>(places: &mut Vec<(u32, Option<X>)>, empty: usize) -> usize
+pub(crate) fn tidy<X: Drop>(places: &mut Vec<Place<X>>, empty: usize) -> usize
     requires { AreRising places.old.items }
     ensures rows { rows_in places.new.items ≡ rows_in places.old.items }
     ensures rising { AreRising places.new.items }

@@ -5,6 +5,7 @@ ghost use Rattle.zt_model.specs.Lists.{at_id, without_id};
 ghost use Rattle.zt_rows.specs.ById.{IsInOrder};
 ghost use Rattle.zt_rows.specs.Places.{rows_in};
 
+use crate::place::Place;
 use crate::placing::{are_below, find_in, take_in, tidy};
 use std::alloc::Global;
 use std::marker::Model;
@@ -14,7 +15,7 @@ use zt_keys::Memory;
 /// so that none moves.
 #[derive(Drop)]
 pub struct RisingRows<X> {
-    places: Vec<(u32, Option<X>)>,
+    places: Vec<Place<X>>,
     // How many places are empty.
     empty: usize,
 }
@@ -42,7 +43,7 @@ impl<X: Drop> RisingRows<X> {
     }
 
     /// The row under the id, beside that rows stand in order of id. Found at once where ids follow
-    /// one another, else by halves.
+    /// one another or lie evenly apart, else by halves.
     pub fn find(&self, id: u32) -> Option<&X>
         ensures row { option_copied result ≡ at_id id self.now }
         ensures ordered { IsInOrder self.now }
@@ -51,7 +52,7 @@ impl<X: Drop> RisingRows<X> {
     }
 
     /// The places in which the rows stand, in order of id. Some are empty.
-    pub fn places(&self) -> &[(u32, Option<X>)]
+    pub fn places(&self) -> &[Place<X>]
         ensures { rows_in result.now ≡ self.now }
     {
         &self.places
@@ -67,7 +68,7 @@ impl<X: Drop> RisingRows<X> {
         if !are_below(&self.places, id) {
             return Err(Memory);
         }
-        self.places.push((id, Some(row)))?;
+        self.places.push(Place::taken(id, row))?;
         Ok(())
     }
 

@@ -8,6 +8,7 @@ ghost use Rattle.zt_model.specs.Lists.{at_id, has_id, without_id};
 ghost use Rattle.zt_rows.specs.ById.{IsInOrder};
 ghost use Rattle.zt_rows.specs.Places.{AreRising, rows_in};
 
+use crate::place::Place;
 use crate::placing::{find_in, put_in, take_in, tidy};
 use crate::walk::Iter;
 use std::alloc::Global;
@@ -17,10 +18,7 @@ use zt_keys::Memory;
 
 // Moves the row of a place, if any, into the map, whose rows stand behind it. The only error is
 // want of memory, and it moves none.
-fn move_row<X: Drop>(
-    place: &mut (u32, Option<X>),
-    mapped: &mut BTreeMap<u32, X>,
-) -> Result<(), Memory>
+fn move_row<X: Drop>(place: &mut Place<X>, mapped: &mut BTreeMap<u32, X>) -> Result<(), Memory>
     requires { IsInOrder (rows_in (place.old ∷ []) ++ mapped.old.entries) }
     ensures moved { OnOk result (mapped.new.entries
         ≡ rows_in (place.old ∷ []) ++ mapped.old.entries) }
@@ -28,11 +26,11 @@ fn move_row<X: Drop>(
     ensures place_stays { OnErr result (place.new ≡ place.old) }
     ensures rows_stay { OnErr result (mapped.new.entries ≡ mapped.old.entries) }
 {
-    let Some(row) = place.1.take() else {
+    let Some(row) = place.take() else {
         return Ok(());
     };
-    if let Err(refused) = mapped.insert(place.0, row) {
-        place.1 = Some(refused.value.1);
+    if let Err(refused) = mapped.insert(place.id(), row) {
+        place.put(refused.value.1);
         return Err(Memory);
     }
     Ok(())
@@ -41,7 +39,7 @@ fn move_row<X: Drop>(
 // Moves all rows from their places into the map, the last first. The only error is want of memory;
 // some rows may stand in the map then.
 fn move_all<X: Drop>(
-    places: &mut Vec<(u32, Option<X>)>,
+    places: &mut Vec<Place<X>>,
     mapped: &mut BTreeMap<u32, X>,
 ) -> Result<(), Memory>
     requires rising { AreRising places.old.items }
@@ -61,7 +59,7 @@ fn move_all<X: Drop>(
 // Puts a row into the map, where all rows are moved before. The only error is want of memory, and
 // the rows are as they were then, though some may stand in the map.
 fn put_mapped<X: Drop>(
-    places: &mut Vec<(u32, Option<X>)>,
+    places: &mut Vec<Place<X>>,
     mapped: &mut BTreeMap<u32, X>,
     id: u32,
     row: X,
@@ -81,12 +79,12 @@ fn put_mapped<X: Drop>(
 }
 
 /// Rows by id, in order of id. Each stands in a place of a list, where it is found at once if ids
-/// follow one another, and else by halves. A row that would stand before many others goes into a
-/// map with all of them, and so do others while the map has rows: so each row moves into it once at
-/// most, whatever the order of ids.
+/// follow one another or lie evenly apart, and else by halves. A row that would stand before many
+/// others goes into a map with all of them, and so do others while the map has rows: so each row
+/// moves into it once at most, whatever the order of ids.
 #[derive(Drop)]
 pub struct RowsById<X> {
-    places: Vec<(u32, Option<X>)>,
+    places: Vec<Place<X>>,
     // At most so many places are empty.
     empty: usize,
     // Rows behind those in places.

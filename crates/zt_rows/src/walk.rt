@@ -4,13 +4,14 @@ ghost use Rattle.std.specs.Map.Iter.{TakesFirst, TakesLast, deref_pair};
 ghost use Rattle.std.specs.Prelude.{◌≡◌, ◌++◌, length};
 ghost use Rattle.zt_rows.specs.Places.{rows_in};
 
+use crate::place::Place;
 use std::collections::btree_map;
 use std::marker::Model;
 
 /// The rows that a walk has yet to come to, each with its id, in order of id.
 #[derive(Drop)]
 pub struct Iter<'a, X> {
-    places: &'a [(u32, Option<X>)],
+    places: &'a [Place<X>],
     mapped: btree_map::Iter<'a, u32, X>,
 }
 
@@ -26,7 +27,7 @@ impl<'a, X> Model for Iter<'a, X> {
 
 impl<'a, X> Iter<'a, X> {
     // Rows in places, and behind them those of a map.
-    pub(crate) fn new(places: &'a [(u32, Option<X>)], mapped: btree_map::Iter<'a, u32, X>) -> Self
+    pub(crate) fn new(places: &'a [Place<X>], mapped: btree_map::Iter<'a, u32, X>) -> Self
         ensures { result ≡ rows_in places.now ++ mapped.entry }
     {
         Iter { places, mapped }
@@ -45,8 +46,8 @@ impl<'a, X> Iterator for Iter<'a, X> {
             let places = self.places;
             let place = &places[0];
             self.places = &places[1..];
-            if let Some(row) = &place.1 {
-                return Some((&place.0, row));
+            if let Some(row) = place.entry() {
+                return Some(row);
             }
         }
         self.mapped.next()
@@ -65,8 +66,8 @@ impl<'a, X> DoubleEndedIterator for Iter<'a, X> {
             let last = places.len() - 1;
             let place = &places[last];
             self.places = &places[..last];
-            if let Some(row) = &place.1 {
-                return Some((&place.0, row));
+            if let Some(row) = place.entry() {
+                return Some(row);
             }
         }
         None

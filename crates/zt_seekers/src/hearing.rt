@@ -95,8 +95,8 @@ pub(crate) fn hear_message<K: Key>(
 pub(crate) fn untell_all<K: Key>(told: &mut ToldIndex<K>, f: &FaceState<K>)
     ensures { IsRetold K.cmp f.now.number f.now.told [] told.old told.new }
 {
-    for (_, row) in f.told().places() {
-        if let Some(expr) = row {
+    for place in f.told().places() {
+        if let Some(expr) = place.row() {
             told.untell(expr, f.number());
         }
     }

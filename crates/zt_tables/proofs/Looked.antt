@@ -1,68 +1,74 @@
--- One entry more before the others is found first.
-use Rattle.std.proofs.Common.{◌≡◌, ◌&&◌, ◌||◌, ◌==◌, ◌∷◌, ℕ, Bool, true, false, List, [], Option, Some, ap, arith, cond, is_some, option_map, refl, ◌∙◌}
+-- What is found once there is one entry more behind the others.
+use Rattle.std.proofs.Common.{◌≡◌, ◌&&◌, ◌||◌, ◌==◌, ◌∷◌, ◌++◌, ℕ, Bool, true, false, List, [], Some, ap, arith, cond, is_some, option_map, refl, sym, ◌∙◌}
+use Rattle.std.proofs.lemmas.Bool.{and_parts, eqb-true, true≢false}
 use Rattle.std.proofs.lemmas.Bool.Decides.{nat_tests}
-use Rattle.std.proofs.lemmas.List.Sorted.{IsNonDecreasingBy-short}
-use Rattle.std.specs.BTreeMap as tree
-use Rattle.std.specs.BTreeMap.{BTreeMap, is_at}
-use Rattle.std.specs.BTreeSet as sorted
-use Rattle.std.specs.BTreeSet.{BTreeSet}
+use Rattle.std.specs.HashMap as hashed
+use Rattle.std.specs.HashMap.{HashMap}
 use Rattle.std.specs.List.{list_any}
 use Rattle.std.specs.Map.{lookup}
-use Rattle.std.specs.Ordering.{is_eq, nat_cmp}
 use Rattle.zt_region.specs.declared.region.Zid.{Zid}
-use Rattle.zt_region.specs.Region.{zid_cmp, zid_eq}
-use Rattle.zt_protocol.specs.Plain.{Trees}
+use Rattle.zt_region.specs.Region.{zid_eq, zid_eq-same}
 use Rattle.zt_model.specs.Lists.{first_where}
 use Rattle.zt_model.specs.Trees.{counted_table}
-use Rattle.zt_tables.specs.KeysOf.{child_cmp, node_key_cmp}
+use Rattle.zt_tables.specs.KeysOf.{node_key_eq}
 use Rattle.zt_tables.specs.Listed.{AreListed}
-use Rattle.zt_tables.specs.Lookups.{AreLookups, FindsBehind, FindsChildren, FindsNodes, number_of_source}
-use Rattle.zt_tables.proofs.Clashes.{both_are, nat_is}
+use Rattle.zt_tables.specs.Lookups.{AreLookups, FindsBehind, FindsNodes}
+use Rattle.zt_keys.specs.Test.{by_test}
 
 -- a test from the other side
-turned : (a b : ℕ) → is_eq (nat_cmp a b) ≡ (b == a)
-turned a b = grind (arith, nat_tests)
+pub nat-turned : (a b : ℕ) → (a == b) ≡ (b == a)
+nat-turned a b = grind (arith, nat_tests)
 
-or_cond : (a b : Bool) → cond a true b ≡ (a || b)
-or_cond true b = refl
-or_cond false b = refl
+pub zid-turned : (a b : Zid) → zid_eq a b ≡ zid_eq b a
+zid-turned a b = nat-turned a.0 b.0
 
--- the value of the first that passes is the first value of those that pass
-map_cond : {A V : Type 0} (value : A → V) (b : Bool) (x : A) (found : Option A) → cond b (Some (value x)) (option_map value found) ≡ option_map value (cond b (Some x) found)
-map_cond value true x found = refl
-map_cond value false x found = refl
+-- one more at the end is found where none before it passes, and else the one before it
+first-last : {A : Type 0} (test : A → Bool) (xs : List A) (x : A) → test x ≡ true → list_any test xs ≡ false → first_where test (xs ++ x ∷ []) ≡ Some x
+first-last test [] x holds none = rw holds refl
+first-last test (y ∷ xs) x holds none =
+    by_test (test y)
+    (λ t. absurd (true≢false (sym (ap (λ b. b || list_any test xs) t) ∙ none)))
+    (λ f. rw f (first-last test xs x holds (sym (ap (λ b. b || list_any test xs) f) ∙ none)))
 
-found_first : {A V : Type 0} (value : A → V) (at_key test : Bool) (x : A) (old : Option V) (found : Option A) → at_key ≡ test → old ≡ option_map value found
-    → cond at_key (Some (value x)) old ≡ option_map value (cond test (Some x) found)
-found_first value at_key test x old found is was =
-    ap (λ b. cond b (Some (value x)) old) is ∙ ap (λ o. cond test (Some (value x)) o) was ∙ map_cond value test x found
+first-before : {A : Type 0} (test : A → Bool) (xs : List A) (x : A) → test x ≡ false → first_where test (xs ++ x ∷ []) ≡ first_where test xs
+first-before test [] x fails = rw fails refl
+first-before test (y ∷ xs) x fails = ap (λ rest. cond (test y) (Some y) rest) (first-before test xs x fails)
 
-pub node_first : (m n : BTreeMap Zid ℕ) (r : ℕ × Zid) (rs : List (ℕ × Zid)) → FindsNodes m.entries rs → tree.Updates zid_cmp m n r.1 (Some r.0) → FindsNodes n.entries (r ∷ rs)
-node_first m n r rs finds put = record {
-  at = λ zid.
-      put.0 zid
-      ∙ found_first (λ (x : ℕ × Zid). x.0) (is_at (zid_cmp r.1) zid) (zid_eq zid r.1) r (lookup (is_at (zid_cmp zid)) m.entries) (first_where (λ x. zid_eq zid x.1) rs)
-      (turned r.1.0 zid.0) (finds.at zid);
-}
+-- whether a link is for a face and a node id
+abbrev pub is_for : ℕ → ℕ → ℕ × ℕ × Zid → Bool
+is_for face node l = (l.0 == face) && (l.1 == node)
 
-pub behind_first : (m n : BTreeMap (ℕ × ℕ) Zid) (l : ℕ × ℕ × Zid) (ls : List (ℕ × ℕ × Zid)) → FindsBehind m.entries ls → tree.Updates node_key_cmp m n (l.0, l.1) (Some l.2) → FindsBehind n.entries (l ∷ ls)
-behind_first m n l ls finds put = record {
+pub behind_last : {S : Type 0} (m n : HashMap (ℕ × ℕ) Zid S) (ls : List (ℕ × ℕ × Zid)) (l : ℕ × ℕ × Zid) → FindsBehind m.entries ls → list_any (is_for l.0 l.1) ls ≡ false
+    → hashed.Updates node_key_eq m n (l.0, l.1) (Some l.2) → FindsBehind n.entries (ls ++ l ∷ [])
+behind_last m n ls l finds free put = record {
   at = λ face node.
+      let before = lookup (node_key_eq (face, node)) m.entries in
       put.0 (face, node)
-      ∙ found_first (λ (x : ℕ × ℕ × Zid). x.2) (is_at (node_key_cmp (l.0, l.1)) (face, node)) ((l.0 == face) && (l.1 == node)) l (lookup (is_at (node_key_cmp (face, node))) m.entries)
-      (first_where (λ x. (x.0 == face) && (x.1 == node)) ls)
-      (both_are (nat_cmp l.0 face) (nat_cmp l.1 node) ∙ ap (λ b. b && is_eq (nat_cmp l.1 node)) (nat_is l.0 face) ∙ ap (λ b. (l.0 == face) && b) (nat_is l.1 node))
-      (finds.at face node);
+      ∙ by_test (is_for face node l)
+      (λ holds.
+      let same_face : l.0 ≡ face = eqb-true l.0 face (and_parts _ _ holds).0 in
+      let same_node : l.1 ≡ node = eqb-true l.1 node (and_parts _ _ holds).1 in
+      let none : list_any (is_for face node) ls ≡ false = rw (← same_face, ← same_node) free in
+      ap (λ b. cond b (Some l.2) before) holds ∙ sym (ap (option_map (λ x. x.2)) (first-last (is_for face node) ls l holds none)))
+      (λ fails. ap (λ b. cond b (Some l.2) before) fails ∙ finds.at face node ∙ sym (ap (option_map (λ x. x.2)) (first-before (is_for face node) ls l fails)));
 }
 
-pub child_first : (m n : BTreeSet (Zid × Zid)) (c : Zid × Zid) (cs : List (Zid × Zid)) → FindsChildren m.keys cs → sorted.Updates child_cmp m n c true → FindsChildren n.keys (c ∷ cs)
-child_first m n c cs finds put = record {
-  at = λ source router.
-      let rest = list_any (λ k. is_eq (child_cmp (source, router) k)) m.keys in
-      put.0 (source, router)
-      ∙ or_cond (is_at (child_cmp c) (source, router)) rest
-      ∙ ap (λ b. b || rest) (both_are (zid_cmp c.0 source) (zid_cmp c.1 router) ∙ ap (λ b. b && is_eq (zid_cmp c.1 router)) (turned c.0.0 source.0) ∙ ap (λ b. zid_eq source c.0 && b) (turned c.1.0 router.0))
-      ∙ ap (λ b. (zid_eq source c.0 && zid_eq router c.1) || b) (finds.at source router);
+-- whether a router has a number
+abbrev pub is_router : Zid → ℕ × Zid → Bool
+is_router zid r = zid_eq zid r.1
+
+pub node_last : {S : Type 0} (m n : HashMap Zid ℕ S) (rs : List (ℕ × Zid)) (r : ℕ × Zid) → FindsNodes m.entries rs → list_any (is_router r.1) rs ≡ false
+    → hashed.Updates zid_eq m n r.1 (Some r.0) → FindsNodes n.entries (rs ++ r ∷ [])
+node_last m n rs r finds free put = record {
+  at = λ zid.
+      let before = lookup (zid_eq zid) m.entries in
+      put.0 zid
+      ∙ by_test (zid_eq r.1 zid)
+      (λ holds.
+      let same : r.1 ≡ zid = zid_eq-same r.1 zid holds in
+      let none : list_any (is_router zid) rs ≡ false = rw (← same) free in
+      ap (λ b. cond b (Some r.0) before) holds ∙ sym (ap (option_map (λ x. x.0)) (first-last (is_router zid) rs r (zid-turned zid r.1 ∙ holds) none)))
+      (λ fails. ap (λ b. cond b (Some r.0) before) fails ∙ finds.at zid ∙ sym (ap (option_map (λ x. x.0)) (first-before (is_router zid) rs r (zid-turned zid r.1 ∙ fails))));
 }
 
 -- something is found where an entry passes
@@ -75,16 +81,15 @@ is_found value test (x ∷ xs) = found_at (test x) (is_found value test xs)
     found_at false rest = rest
 
 -- where a table lists nothing, nothing is found
-pub none_found : AreLookups (record { routers = []; links = []; children = [] }) [] [] [] [] []
+pub none_found : AreLookups (record { routers = []; links = []; children = [] }) [] [] [] []
 unfolding counted_table
 none_found = record {
   ordered = refl;
   finds_nodes = record { at = λ zid. refl };
   finds_behind = record { at = λ face node. refl };
-  finds_children = record { at = λ source router. refl };
-  children_by_source = record { ordered = IsNonDecreasingBy-short number_of_source [] (omega arith); at = λ source router. refl };
+  children_by_source = record { ordered = λ j d z lt. absurd (omega arith); at = λ source router. refl };
 }
 
 -- a router is found by its number where a table lists it
-pub listed_by : (nodes : List (Zid × ℕ)) (t : Trees) → FindsNodes nodes t.routers → AreListed nodes t
-listed_by nodes t finds = record { finds = λ zid. ap is_some (finds.at zid) ∙ is_found (λ r. r.0) _ t.routers }
+pub listed_by : (nodes : List (Zid × ℕ)) (routers : List (ℕ × Zid)) → FindsNodes nodes routers → AreListed nodes routers
+listed_by nodes routers finds = record { finds = λ zid. ap is_some (finds.at zid) ∙ is_found (λ r. r.0) _ routers }

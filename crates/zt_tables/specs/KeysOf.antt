@@ -1,7 +1,7 @@
 -- Keys of members, gathered beside them.
 use Rattle.std.specs.Prelude.{◌≡◌, ℕ, ◌==◌, Bool, ◌&&◌, List}
 use Rattle.std.specs.List.{list_any}
-use Rattle.std.specs.Ordering.{nat_cmp, ordering_then}
+use Rattle.std.specs.Ordering.{ordering_then}
 use Rattle.std.specs.declared.cmp.Ordering.{Ordering}
 use Rattle.zt_region.specs.declared.region.Zid.{Zid}
 use Rattle.zt_region.specs.Region.{zid_cmp, zid_eq}
@@ -16,10 +16,6 @@ node_key_eq a b = (a.0 == b.0) && (a.1 == b.1)
 
 abbrev pub zid_key_eq : ℕ × Zid → ℕ × Zid → Bool
 zid_key_eq a b = (a.0 == b.0) && zid_eq a.1 b.1
-
--- the order of a face with a node id
-abbrev pub node_key_cmp : ℕ × ℕ → ℕ × ℕ → Ordering
-node_key_cmp a b = ordering_then (nat_cmp a.0 b.0) (nat_cmp a.1 b.1)
 
 -- the order of a source with a child
 abbrev pub child_cmp : Zid × Zid → Zid × Zid → Ordering

@@ -9,9 +9,9 @@ ghost use Rattle.zt_region.specs.Region.{zid_eq};
 ghost use Rattle.zt_tables.specs.Lookups.{HaveChildrenOf};
 
 use crate::counting::{counted_links, counted_routers};
-use crate::lookups::{by_source, entries_of, nodes_of, pairs_of, routers_behind, routers_in_order};
+use crate::lookups::{by_source, entries_of, has_pair, routers_in_order};
 use std::alloc::Global;
-use std::collections::{BTreeMap, BTreeSet};
+use std::collections::HashMap;
 use std::marker::Model;
 use zt_keys::Memory;
 use zt_protocol::TreeTable;
@@ -28,12 +28,11 @@ pub struct KeptTable {
     // The routers that count, in order of node id.
     in_order: Vec<(NodeId, Zid)>,
     // Their node ids, by the routers' numbers.
-    nodes: BTreeMap<Zid, NodeId>,
+    nodes: HashMap<Zid, NodeId>,
     // By face and node id, the router of the link that counts.
-    behind: BTreeMap<(u32, NodeId), Zid>,
-    // Each source, with a router to which its tokens go on.
-    pairs: BTreeSet<(Zid, Zid)>,
-    // The same in order of source, so that those of one source stand side by side.
+    behind: HashMap<(u32, NodeId), Zid>,
+    // Each source, with a router to which its tokens go on, in order of both: those of one source
+    // stand side by side.
     by_source: Vec<(Zid, Zid)>,
 }
 
@@ -46,7 +45,7 @@ impl Model for KeptTable {
     ghost view = { λ t. trees_of t.table };
 
     ghost invariant = { λ t. AreLookups (trees_of t.table) t.in_order.items t.nodes.entries
-        t.behind.entries t.pairs.keys t.by_source.items };
+        t.behind.entries t.by_source.items };
 }
 
 impl KeptTable {
@@ -61,9 +60,8 @@ impl KeptTable {
                 children: Vec::new(alloc),
             },
             in_order: Vec::new(alloc),
-            nodes: BTreeMap::new(alloc),
-            behind: BTreeMap::new(alloc),
-            pairs: BTreeSet::new(alloc),
+            nodes: HashMap::new(alloc),
+            behind: HashMap::new(alloc),
             by_source: Vec::new(alloc),
         }
     }
@@ -75,17 +73,13 @@ impl KeptTable {
     {
         let routers = counted_routers(alloc, &table.routers)?;
         let links = counted_links(alloc, &table.links)?;
-        let in_order = routers_in_order(alloc, &routers)?;
-        let nodes = nodes_of(alloc, &routers)?;
-        let behind = routers_behind(alloc, &links)?;
-        let pairs = pairs_of(alloc, &table.children)?;
-        let by_source = by_source(alloc, &pairs)?;
+        let in_order = routers_in_order(alloc, &routers.routers)?;
+        let by_source = by_source(alloc, &table.children)?;
         Ok(KeptTable {
             table,
             in_order,
-            nodes,
-            behind,
-            pairs,
+            nodes: routers.nodes,
+            behind: links.behind,
             by_source,
         })
     }
@@ -106,7 +100,6 @@ impl KeptTable {
             in_order: self.in_order.to_vec(alloc)?,
             nodes: self.nodes.clone()?,
             behind: self.behind.clone()?,
-            pairs: self.pairs.clone()?,
             by_source: self.by_source.to_vec(alloc)?,
         })
     }
@@ -136,19 +129,19 @@ impl KeptTable {
         self.behind.get(&(face, node_id)).copied()
     }
 
-    /// The entries of a source, each with a router to which its tokens go on, each once. A look-up.
+    /// The entries of a source, each with a router to which its tokens go on. Found by halves.
     pub fn children_of(&self, source: Zid) -> &[(Zid, Zid)]
         ensures { HaveChildrenOf source result.now (counted_table self.now).children }
     {
         entries_of(&self.by_source, source)
     }
 
-    /// Whether the source's tokens go on to the router. A look-up.
+    /// Whether the source's tokens go on to the router. Found by halves.
     pub fn has_child(&self, source: Zid, router: Zid) -> bool
         ensures { result ≡ list_any
             (λ c. zid_eq source c.0 && zid_eq router c.1) (counted_table self.now).children }
     {
-        self.pairs.contains(&(source, router))
+        has_pair(&self.by_source, source, router)
     }
 
     /// The routers that are listed, in order of node id.

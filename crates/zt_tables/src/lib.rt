@@ -7,7 +7,7 @@ mod kept;
 mod listed;
 mod lookups;
 
-pub use counting::counted_table;
+pub use counting::{CountedLinks, CountedRouters, counted_links, counted_routers};
 pub use kept::KeptTable;
-pub use listed::{is_listed, routers_listed};
+pub use listed::is_listed;
 pub use lookups::is_child_among;

@@ -1,36 +1,20 @@
 // What is looked up in a table, made of its entries that count.
-ghost use Rattle.std.specs.Prelude.{◌≡◌, ◌≤◌, false, length, nat_le, nat_lt, true};
-ghost use Rattle.std.specs.Prelude.{IfOk, List, OnOk};
+ghost use Rattle.std.specs.Prelude.{◌≡◌, ◌≤◌, ◌&&◌, false, length, nat_le, nat_lt, true};
+ghost use Rattle.std.specs.Prelude.{IfOk, OnOk};
 ghost use Rattle.std.specs.BTreeMap.{IsOrdered};
 ghost use Rattle.std.specs.List.{list_any};
-ghost use Rattle.std.specs.List.Sorted.{IsNonDecreasingBy, IsPartitionPoint};
+ghost use Rattle.std.specs.List.Sorted.{IsNonDecreasingBy, IsPartitionPoint, IsSorted};
 ghost use Rattle.std.specs.Ordering.{nat_cmp};
 ghost use Rattle.zt_model.specs.Lists.{with_key};
 ghost use Rattle.zt_region.specs.Region.{zid_eq};
-ghost use Rattle.zt_tables.specs.Lookups.{AreBySource, FindsBehind, FindsChildren, FindsNodes};
-ghost use Rattle.zt_tables.specs.Lookups.{HaveChildrenOf, by_node, number_of_source};
-ghost use Rattle.zt_region.specs.declared.region.Zid.{Zid};
+ghost use Rattle.zt_tables.specs.KeysOf.{child_cmp};
+ghost use Rattle.zt_tables.specs.Lookups.{AreBySource, HaveChildrenOf, by_node};
+ghost use Rattle.zt_tables.specs.Lookups.{number_of_source};
 
 use std::alloc::Global;
-use std::collections::{BTreeMap, BTreeSet};
+use std::collections::BTreeMap;
 use zt_keys::Memory;
 use zt_region::{NodeId, Zid};
-
-// The node ids of routers, by the routers' numbers; of two entries of one router the first stands.
-// The only error is want of memory.
-pub(crate) fn nodes_of(
-    alloc: Global,
-    routers: &[(NodeId, Zid)],
-) -> Result<BTreeMap<Zid, NodeId>, Memory>
-    ensures { IfOk result (λ nodes. FindsNodes nodes.entries routers.now) }
-{
-    let mut nodes = BTreeMap::new(alloc);
-    for place in (0..routers.len()).rev() {
-        let router = routers[place];
-        nodes.insert(router.1, router.0)?;
-    }
-    Ok(nodes)
-}
 
 // Puts a router in its place among routers in order of node id, unless its node id is there.
 fn add_router(routers: &mut BTreeMap<NodeId, Zid>, router: &(NodeId, Zid)) -> Result<(), Memory>
@@ -74,49 +58,23 @@ pub(crate) fn routers_in_order(
     Ok(ordered)
 }
 
-// The routers that faces mean by node ids; of two links for one the first stands. The only error is
-// want of memory.
-pub(crate) fn routers_behind(
-    alloc: Global,
-    links: &[(u32, NodeId, Zid)],
-) -> Result<BTreeMap<(u32, NodeId), Zid>, Memory>
-    ensures { IfOk result (λ behind. FindsBehind behind.entries links.now) }
+// The entries in order of source, and for one source in order of router, each once. The only error
+// is want of memory.
+pub(crate) fn by_source(alloc: Global, children: &[(Zid, Zid)]) -> Result<Vec<(Zid, Zid)>, Memory>
+    ensures { IfOk result (λ pairs. AreBySource pairs.items children.now) }
 {
-    let mut behind = BTreeMap::new(alloc);
-    for place in (0..links.len()).rev() {
-        let link = links[place];
-        behind.insert((link.0, link.1), link.2)?;
-    }
-    Ok(behind)
-}
-
-// Where the sources' tokens go on to. The only error is want of memory.
-pub(crate) fn pairs_of(
-    alloc: Global,
-    children: &[(Zid, Zid)],
-) -> Result<BTreeSet<(Zid, Zid)>, Memory>
-    ensures { IfOk result (λ pairs. FindsChildren pairs.keys children.now) }
-{
-    let mut pairs = BTreeSet::new(alloc);
-    for place in (0..children.len()).rev() {
-        pairs.insert(children[place])?;
-    }
+    let mut pairs = children.to_vec(alloc)?;
+    pairs.sort_unstable();
+    pairs.dedup();
     Ok(pairs)
 }
 
-// The same pairs in order of source. The only error is want of memory.
-pub(crate) fn by_source(
-    alloc: Global,
-    pairs: &BTreeSet<(Zid, Zid)>,
-) -> Result<Vec<(Zid, Zid)>, Memory>
-    ensures { IfOk result (λ entries. (children : List (Zid × Zid)) →
-        FindsChildren pairs.now.keys children → AreBySource entries.items children) }
+// Whether a source with a router is among entries in order. A search by halves.
+pub(crate) fn has_pair(pairs: &[(Zid, Zid)], source: Zid, router: Zid) -> bool
+    requires { IsSorted child_cmp pairs.now }
+    ensures { result ≡ list_any (λ c. zid_eq source c.0 && zid_eq router c.1) pairs.now }
 {
-    let mut entries = Vec::with_capacity(alloc, pairs.len())?;
-    for pair in pairs {
-        entries.push(*pair)?;
-    }
-    Ok(entries)
+    pairs.binary_search(&(source, router)).is_ok()
 }
 
 // How many entries have a source below this one. A search by halves.
@@ -141,7 +99,7 @@ fn count_up_to(pairs: &[(Zid, Zid)], source: Zid) -> usize
 
 // The entries of a source, found by halves.
 pub(crate) fn entries_of(pairs: &[(Zid, Zid)], source: Zid) -> &[(Zid, Zid)]
-    requires { IsNonDecreasingBy number_of_source pairs.now }
+    requires { IsSorted child_cmp pairs.now }
     ensures { HaveChildrenOf source result.now pairs.now }
 {
     let first = count_below(pairs, source);

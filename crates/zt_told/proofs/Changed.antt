@@ -1,7 +1,8 @@
 -- What a change of one expression leaves.
-use Rattle.std.proofs.Common.{◌≡◌, ◌≢◌, ℕ, Bool, true, false, ◌==◌, cond, List, [], ◌∷◌, Option, Some, None, length, suc, unwrap_or, refl, subst, sym, ap, ◌∙◌, arith}
+use Rattle.std.proofs.Common.{◌≡◌, ◌≢◌, ℕ, Bool, true, false, ◌==◌, cond, List, [], ◌∷◌, Option, Some, None, length, suc, unwrap_or, IfNone, IfSome, refl, subst, sym, ap, ◌∙◌, arith}
 use Rattle.std.proofs.lemmas.Bool.Decides.{nat_tests}
 use Rattle.std.specs.BTreeMap.{is_at}
+use Rattle.std.specs.Bool.{then_some}
 use Rattle.std.specs.Cmp.{IsTotalOrder, tied_itself}
 use Rattle.std.specs.List.{IsDistinct}
 use Rattle.std.specs.Map.{lookup}
@@ -27,6 +28,15 @@ empty-from (x ∷ xs) h = let none = no-more (length xs) h in absurd (omega arit
 pub some-from : {X : Type 0} (xs : List X) → (length xs == 0) ≡ false → xs ≢ []
 some-from [] h = cc
 some-from (x ∷ xs) h = λ e. let none : suc (length xs) ≡ 0 = ap length e in absurd (omega (arith, none))
+
+-- what a test answers that passes, and one that doesn't
+pub passed : {X : Type 0} (test : Bool) (x : X) (P : X → Type 0) → (test ≡ true → P x) → IfSome (then_some test x) P
+passed true x P holds = holds refl
+passed false x P holds = tt
+
+pub failed : {X Q : Type 0} (test : Bool) (x : X) → (test ≡ false → Q) → IfNone (then_some test x) Q
+failed true x holds = tt
+failed false x holds = holds refl
 
 -- ---- what is told apart by equality is told apart by the order as well
 module _ {K : Type 0} {eq : K → K → Bool} (cmp : K → K → Ordering) (ties : (a b : K) → eq a b ≡ is_eq (cmp a b)) where

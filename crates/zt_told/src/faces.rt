@@ -12,7 +12,7 @@ use zt_keys::Memory;
 use zt_ordered::place_of_number;
 
 /// The id of a face among pairs of face and id, which are in order of face. Found at once where
-/// faces follow one another, else by halves.
+/// faces follow one another or lie evenly apart, else by halves.
 pub fn id_in(pairs: &[(u32, u32)], face: u32) -> Option<u32>
     requires { AreRising pairs.now }
     ensures { result ≡ id_of face pairs.now }

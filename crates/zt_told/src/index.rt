@@ -2,9 +2,9 @@
 ghost use Rattle.indexmap.specs.IndexMap.{index_map_len, IsUnique};
 ghost use Rattle.std.specs.BTreeMap.{is_at};
 ghost use Rattle.std.specs.Map.{lookup};
-ghost use Rattle.std.specs.Prelude.{◌≡◌, ◌<◌, [], false, true, slice_get, IfNone, IfOk, IfSome};
+ghost use Rattle.std.specs.Prelude.{◌≡◌, ◌<◌, [], slice_get, IfNone, IfOk, IfSome};
 ghost use Rattle.std.specs.Prelude.{None, OnErr, OnOk, Some};
-ghost use Rattle.zt_told.specs.Held.{IsWith, IsWithout};
+ghost use Rattle.zt_told.specs.Held.{IsWith};
 ghost use Rattle.zt_told.specs.Told.{AreRising, ChangesAt, HasFacesOrNoKey};
 ghost use Rattle.zt_told.specs.Told.{id_of, told_at, with_face, without_face};
 
@@ -22,7 +22,7 @@ use zt_keys::{Key, Memory};
 #[derive(Drop)]
 pub struct ToldIndex<K: Key> {
     faces: IndexMap<K, ToldFaces>,
-    // Where the expression stood that was told or untold last. Mostly the next one is the same: a
+    // Where the expression stood that was told or untold last. Often the next one is the same: a
     // call tells many faces of one expression.
     last: usize,
 }
@@ -74,8 +74,8 @@ fn find_at<K: Key>(faces: &IndexMap<K, ToldFaces>, expr: &K, face: u32) -> Optio
     }
 }
 
-// These faces stand under a copy of the expression. It answers where. The only error is want of
-// memory, and then all stays.
+// These faces stand under a copy of the expression, at the place that it answers. The only error is
+// want of memory, and then all stays.
 fn put_faces<K: Key>(
     alloc: Global,
     faces: &mut IndexMap<K, ToldFaces>,
@@ -83,6 +83,7 @@ fn put_faces<K: Key>(
     told: ToldFaces,
 ) -> Result<usize, Memory>
     ensures with { OnOk result (IsWith K.cmp expr.now told faces.old.entries faces.new.entries) }
+    ensures at { IfOk result (λ at. slice_get faces.new.entries at ≡ Some (expr.now, told)) }
     ensures err { OnErr result (faces.new.entries ≡ faces.old.entries) }
 {
     let (at, _) = faces.insert_full(expr.copy(alloc)?, told)?;
@@ -113,32 +114,24 @@ fn put_at<K: Key>(
     Ok(None)
 }
 
-// The face goes at the expression. Whether none is left there.
+// The face goes at the expression. If none is left there, it answers where the expression stands.
 fn drop_at<K: Key>(
     faces: &mut IndexMap<K, ToldFaces>,
     last: &mut usize,
     expr: &K,
     face: u32,
-) -> bool
+) -> Option<usize>
     ensures drops { ChangesAt K.cmp expr.now (without_face face)
         faces.old.entries faces.new.entries }
-    ensures last { result ≡ true → told_at K.cmp expr.now faces.new.entries ≡ [] }
-    ensures not_last { result ≡ false → HasFacesOrNoKey K.cmp expr.now faces.new.entries }
+    ensures last { IfSome result (λ at. slice_get faces.new.entries at ≡ Some (expr.now, [])) }
+    ensures none { IfSome result (λ _. told_at K.cmp expr.now faces.new.entries ≡ []) }
+    ensures not_last { IfNone result (HasFacesOrNoKey K.cmp expr.now faces.new.entries) }
 {
-    let Some(at) = place_of(faces, *last, expr) else {
-        return false;
-    };
+    let at = place_of(faces, *last, expr)?;
     *last = at;
     let told = &mut faces[at];
     told.remove(face);
-    told.is_empty()
-}
-
-// The expression goes.
-fn drop_key<K: Key>(faces: &mut IndexMap<K, ToldFaces>, expr: &K)
-    ensures { IsWithout K.cmp expr.now faces.old.entries faces.new.entries }
-{
-    drop(faces.swap_remove(expr));
+    told.is_empty().then_some(at)
 }
 
 impl<K: Key> ToldIndex<K> {
@@ -191,8 +184,8 @@ impl<K: Key> ToldIndex<K> {
         ensures less { ChangesAt K.cmp expr.now (without_face face) self.old self.new }
         ensures tidy { HasFacesOrNoKey K.cmp expr.now self.new }
     {
-        if drop_at(&mut self.faces, &mut self.last, expr, face) {
-            drop_key(&mut self.faces, expr);
+        if let Some(at) = drop_at(&mut self.faces, &mut self.last, expr, face) {
+            drop(self.faces.swap_remove_index(at));
         }
     }
 

@@ -4,5 +4,5 @@ use Rattle.zt_tokens.specs.Gathered.{with_keys}
 use Rattle.zt_interests.proofs.untelling.told_in_order.Given as goal
 
 -- with those left, from the last on, all are in their places
-abbrev pub invariant-loop-row : goal.invariant-loop-row
-invariant-loop-row g l = with_keys g.K.Ord.cmp (map (λ row. row.1) (rows_in l.row-iterator.iter.rest.now)) l.exprs ≡ with_keys g.K.Ord.cmp (map (λ row. row.1) l.f.told) []
+abbrev pub invariant-loop-place : goal.invariant-loop-place
+invariant-loop-place g l = with_keys g.K.Ord.cmp (map (λ row. row.1) (rows_in l.place-iterator.iter.rest.now)) l.exprs ≡ with_keys g.K.Ord.cmp (map (λ row. row.1) l.f.told) []

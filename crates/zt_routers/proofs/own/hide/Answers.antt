@@ -26,13 +26,14 @@ loop-f-preserved g c =
     let rule = hide_to g.K.Ord.cmp c.args.g.now c.args.source c.args.expr.now in
     let faces = c.faces-f-items.result.now in
     let f = c.f-item.result in
-    let branch = c.next_hidden-branch in
+    let turned = c.turn_to_hidden in
+    let branch = turned.new.branch in
     let within : c.loop-f.f-index < length faces = omega arith in
     record {
       sent =
           to_each_more rule faces c.loop-f.f-index f c.loop-f.sends.items _ _ within c.f-item.is c.loop-f.invariant.sent
-          (c.in_ok-unpass_to.ensures ∙ ap (λ ms. c.loop-f.sends.items ++ map (λ m. (f.number, m)) ms) (hidden_to g.K.Ord.cmp c.args.g.now c.args.source c.args.expr.now branch.result.region branch.result.children.now branch.result.node_id branch.ensures.hides f (sym (branch.ensures.region ∙ c.region.ensures))));
-      hides = branch.ensures.hides;
+          (c.in_ok-unpass_to.ensures ∙ ap (λ ms. c.loop-f.sends.items ++ map (λ m. (f.number, m)) ms) (hidden_to g.K.Ord.cmp c.args.g.now c.args.source c.args.expr.now branch.region branch.children.now branch.node_id turned.ensures.hides f (sym (turned.ensures.region ∙ c.region.ensures))));
+      hides = turned.ensures.hides;
     }
 
 pub returns : goal.returns

@@ -1,4 +1,4 @@
-use Rattle.std.proofs.Common.{ap, sym, ◌∙◌}
+use Rattle.std.proofs.Common.{ℕ, Option, ap, sym, ◌∙◌}
 use Rattle.std.specs.Cmp.{nat_cmp_total}
 use Rattle.std.specs.Ordering.{nat_cmp}
 use Rattle.zt_rows.proofs.Places.{found-in, found_row}
@@ -9,7 +9,8 @@ pub returns-in-Ok : goal.returns-in-Ok
 returns-in-Ok g c =
     let places = c.args.places.now in
     let read = c.index-places-place.result in
-    c.as_ref.ensures.value
+    c.row.ensures
+    ∙ ap (λ (place : ℕ × Option g.row.X.Denot). place.1) c.index-places-place.is
     ∙ sym (ap found_row (find-place nat_cmp nat_cmp_total c.args.id places c.in-Ok.place read (sym c.in-Ok.ensures.place)))
     ∙ found-in c.args.id places c.requires
 

@@ -14,7 +14,7 @@ returns-in-Ok-clause-row g c =
     let places = c.args.places.now.items in
     let at = sym (rw c.as_slice.ensures.value at c.in-Ok.ensures.place) in
     let read = c.index_mut.result.now in
-    c.take.ensures.value
+    c.take.ensures.row
     ∙ ap (λ (place : ℕ × Option g.row.X.Denot). place.1) c.index_mut.ensures.value
     ∙ sym (ap found_row (find-place nat_cmp nat_cmp_total c.args.id places c.in-Ok.place read at))
     ∙ found-in c.args.id places c.requires
@@ -23,13 +23,13 @@ pub returns-in-Ok-clause-rest : goal.returns-in-Ok-clause-rest
 returns-in-Ok-clause-rest g c =
     let places = c.args.places.now.items in
     let at = sym (rw c.as_slice.ensures.value at c.in-Ok.ensures.place) in
-    rw c.take.ensures.after (ap rows_in (set-place nat_cmp nat_cmp_total c.args.id None places c.in-Ok.place c.index_mut.result.now at c.index_mut.ensures.value) ∙ emptied-in c.args.id places c.requires)
+    rw c.take.ensures.emptied (ap rows_in (set-place nat_cmp nat_cmp_total c.args.id None places c.in-Ok.place c.index_mut.result.now at c.index_mut.ensures.value) ∙ emptied-in c.args.id places c.requires)
 
 pub returns-in-Ok-clause-rising : goal.returns-in-Ok-clause-rising
 returns-in-Ok-clause-rising g c =
     let places = c.args.places.now.items in
     let at = sym (rw c.as_slice.ensures.value at c.in-Ok.ensures.place) in
-    rw c.take.ensures.after (subst AreRising (sym (set-place nat_cmp nat_cmp_total c.args.id None places c.in-Ok.place c.index_mut.result.now at c.index_mut.ensures.value))
+    rw c.take.ensures.emptied (subst AreRising (sym (set-place nat_cmp nat_cmp_total c.args.id None places c.in-Ok.place c.index_mut.result.now at c.index_mut.ensures.value))
     (T-to _ (is_sorted-put nat_cmp nat_cmp_total c.args.id None places (T-from _ c.requires))))
 
 pub returns-in-Err-clause-row : goal.returns-in-Err-clause-row

@@ -1,11 +1,15 @@
-use Rattle.std.proofs.Common.{◌≡◌, ◌++◌, ap, subst, sym, ◌∙◌}
-use Rattle.std.proofs.lemmas.List.{append-nil}
+use Rattle.std.proofs.Common.{ap₂, subst, sym}
+use Rattle.std.proofs.lemmas.List.Filters.{dedup_is}
+use Rattle.std.specs.List.Sorted.{IsPermutation}
 use Rattle.zt_tables.specs.Lookups.{AreBySource}
-use Rattle.zt_tables.proofs.Children.{pairs_by_source}
+use Rattle.zt_tables.proofs.Children.{once_by_source}
 use Rattle.zt_tables.proofs.lookups.by_source.Goals as goal
 
 pub returns : goal.returns
-returns c children finds =
-    let entries = c.loop-pair.entries.items in
-    let all : entries ≡ c.args.pairs.now.keys = sym (append-nil entries) ∙ ap (λ rest. entries ++ rest) (sym c.in-None.ensures.steps.0) ∙ c.loop-pair.invariant in
-    subst (λ es. AreBySource es children) (sym all) (pairs_by_source c.args.pairs.now.keys children c.len.ensures.ordered finds)
+returns c =
+    let children = c.args.children.now in
+    let copied = c.in_ok-pairs.ensures.items_if_clones_equal (λ x y same. ap₂ (λ a b. (a, b)) same.0 same.1) in
+    let sorted = c.sort_unstable.new.self.items in
+    let permuted = subst (λ pairs. IsPermutation pairs sorted) copied c.sort_unstable.ensures.permutation in
+    let once = dedup_is _ _ _ c.dedup.ensures.filtered in
+    subst (λ pairs. AreBySource pairs children) (sym once) (once_by_source children sorted permuted c.sort_unstable.ensures.sorted)

@@ -3,14 +3,17 @@ use Rattle.std.proofs.lemmas.List.Sorted.{IsNonDecreasingBy-drop}
 use Rattle.std.specs.List.Sorted.{IsPartitionPoint}
 use Rattle.zt_region.specs.declared.region.Zid.{Zid}
 use Rattle.zt_tables.specs.Lookups.{number_of_source}
-use Rattle.zt_tables.proofs.Children.{rest_is, side_by_side}
+use Rattle.zt_tables.proofs.Children.{rest_is, side_by_side, sources_rise}
 use Rattle.zt_tables.proofs.lookups.entries_of.Goals as goal
+
+pub count_below-first-requires : goal.count_below-first-requires
+count_below-first-requires c = sources_rise c.args.pairs.now c.requires
 
 pub count_up_to-count-requires : goal.count_up_to-count-requires
 count_up_to-count-requires c =
     let pairs = c.args.pairs.now in
     let first = c.count_below-first.result in
-    rw (rest_is first pairs) (IsNonDecreasingBy-drop number_of_source first pairs c.requires)
+    rw (rest_is first pairs) (IsNonDecreasingBy-drop number_of_source first pairs (sources_rise pairs c.requires))
 
 pub returns : goal.returns
 returns c =

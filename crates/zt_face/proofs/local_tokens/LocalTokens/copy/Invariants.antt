@@ -3,5 +3,5 @@ use Rattle.zt_rows.specs.Places.{rows_in}
 use Rattle.zt_face.proofs.local_tokens.LocalTokens.copy.Given as goal
 
 -- those so far and those left are all
-abbrev pub invariant-loop-id : goal.invariant-loop-id
-invariant-loop-id g l = l.rows ++ rows_in (drop l.id-index l.id-items) ≡ l.self
+abbrev pub invariant-loop-place : goal.invariant-loop-place
+invariant-loop-place g l = l.rows ++ rows_in (drop l.place-index l.place-items) ≡ l.self

@@ -2,15 +2,15 @@ use Rattle.std.proofs.Common.{◌≡◌, rules, subst, sym, true}
 use Rattle.zt_region.specs.Region.{region_eq, region_eq-same}
 use Rattle.zt_model.specs.Trees.{is_newly_shown}
 use Rattle.zt_routers.specs.Branches.{IsOwnBranch}
-use Rattle.zt_routers.proofs.own.next_shown.Goals as goal
+use Rattle.zt_routers.proofs.own.turn_to_shown.Goals as goal
 
-pub returns-then-eq-clause-region : goal.returns-then-eq-clause-region
-returns-then-eq-clause-region g c =
-    let same : region_eq c.args.region c.args.branch.region ≡ true = search rules in
-    sym (region_eq-same c.args.region c.args.branch.region same)
-
-pub returns-else-eq-clause-shows : goal.returns-else-eq-clause-shows
-returns-else-eq-clause-shows g c =
+pub returns-then-ne-clause-shows : goal.returns-then-ne-clause-shows
+returns-then-ne-clause-shows g c =
     let branch = c.own_branch.result in
     let is : c.is_newly_shown.result ≡ is_newly_shown g.K.Ord.cmp c.args.g.now c.args.source c.args.expr.now branch.region = rw c.own_branch.ensures.region c.is_newly_shown.ensures in
     subst (λ goes_on. IsOwnBranch c.args.g.now branch.region goes_on branch.children.now branch.node_id) is c.own_branch.ensures.branch
+
+pub returns-else-ne-clause-region : goal.returns-else-ne-clause-region
+returns-else-ne-clause-region g c =
+    let same : region_eq c.args.region c.args.branch.now.region ≡ true = search rules in
+    sym (region_eq-same c.args.region c.args.branch.now.region same)
