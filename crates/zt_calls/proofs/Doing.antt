@@ -4,8 +4,8 @@ use Rattle.std.proofs.lemmas.List.{append-nil, drop_all}
 use Rattle.std.specs.List.{flat_map}
 use Rattle.zt_state.proofs.Walks.{drop_item}
 use Rattle.std.specs.declared.cmp.Ordering.{Ordering}
-use Rattle.zt_kept.proofs.Running.{ran-append}
-use Rattle.zt_kept.specs.Ran.{ran}
+use Rattle.zt_theorem_soundness.proofs.Running.{ran-append}
+use Rattle.zt_theorem_soundness.specs.Ran.{ran}
 use Rattle.zt_model.specs.Hearing.{rows_heard}
 use Rattle.zt_model.specs.Parts.{Alter, Part, Say, Sends, said_by, unsaid_to}
 use Rattle.zt_model.specs.Rows.{Rows}

@@ -1,7 +1,7 @@
 -- What a piece of work on a gateway comes to, by the parts of a call that it carries out.
 use Rattle.std.specs.Prelude.{◌≡◌, ℕ, Bool, List, ◌++◌, Option, Some, None}
 use Rattle.std.specs.declared.cmp.Ordering.{Ordering}
-use Rattle.zt_kept.specs.Ran.{ran}
+use Rattle.zt_theorem_soundness.specs.Ran.{ran}
 use Rattle.zt_model.specs.Parts.{Part, said_by, unsaid_to}
 use Rattle.zt_model.specs.Rows.{Rows}
 use Rattle.zt_calls.specs.declared.speech.Speech.{Speech}

@@ -12,11 +12,11 @@ use crate::speech::{Speech, say, spare};
 use crate::tokens::{forget_all, tell_all};
 use std::alloc::Global;
 use zt_keys::{Key, Memory};
+use zt_link_state::KeptTable;
 use zt_protocol::TreeTable;
 use zt_region::{Region, Zid};
 use zt_routers::{greet, left_out, pass_on, table_of, unpass};
 use zt_state::GatewayState;
-use zt_tables::KeptTable;
 
 /// A face of a router region declares a token of a router. The only error is want of memory.
 pub(crate) fn declare_routed<K: Key>(

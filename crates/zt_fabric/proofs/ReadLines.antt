@@ -8,7 +8,7 @@ use Rattle.zt_wire.specs.Grammar.{IsLine}
 use Rattle.zt_wire.specs.Reading.{line_read}
 use Rattle.zt_wire.proofs.ReadingLaw.{read_exactly}
 use Rattle.zt_laws.specs.Sound.{HasFirstIds}
-use Rattle.zt_faithful.specs.Named.{HasNamedOptions}
+use Rattle.zt_theorem_transcript.specs.Named.{HasNamedOptions}
 use Rattle.zt_model.specs.Transcript.{Each}
 
 first_is_real : (word : List ℕ) (fields : Fields) (n : ℕ) (given : Option ℕ) → MayStand word IsFirst fields given → n ≡ unwrap_or given 1 → 1 ≤ n

@@ -10,25 +10,25 @@ use Rattle.zt_model.specs.Transcript.{Each, IsFaithfulFrom, IsStrictFrom}
 use Rattle.zt_model.specs.TreePromises.{IsTreeFabric, KeepTreePromises}
 use Rattle.zt_laws.specs.Sound.{HasFirstIds}
 use Rattle.zt_laws.proofs.LinesOrder.{in_order_empty}
-use Rattle.zt_kept.proofs.Sound.{sound_start}
-use Rattle.zt_turns.proofs.Exact.{turns_exact}
-use Rattle.zt_turns.proofs.Future.{future_told, routers_told}
-use Rattle.zt_sent.proofs.Lasting.{turns_end}
-use Rattle.zt_sent.proofs.Upstream.{turns_send}
-use Rattle.zt_asked.proofs.Turns.{turns_answer}
-use Rattle.zt_spared.proofs.Kept.{turns_undeclare_kept}
-use Rattle.zt_spared.proofs.MoreSparing.{turns_spare_more}
-use Rattle.zt_spared.proofs.Sparing.{turns_spare}
-use Rattle.zt_spared.proofs.Untelling.{turns_untell}
-use Rattle.zt_named.proofs.Turns.{turns_draw, turns_end as turns_name}
-use Rattle.zt_finished.proofs.Initial.{turns_finish_initial}
-use Rattle.zt_finals.proofs.Whole.{turns_send_first}
-use Rattle.zt_faithful.specs.Named.{HasNamedOptions}
-use Rattle.zt_faithful.proofs.Whole.{faithful_from, strict_from}
-use Rattle.zt_trees.proofs.Start.{agree_at_first}
-use Rattle.zt_tree_lines.proofs.Turns.{turns_know}
-use Rattle.zt_tree_asks.proofs.Asks.{gets_only}
-use Rattle.zt_tree_answers.proofs.Gets.{gets_what_stays}
+use Rattle.zt_theorem_soundness.proofs.Sound.{sound_start}
+use Rattle.zt_theorem_visibility.proofs.Exact.{turns_exact}
+use Rattle.zt_theorem_visibility.proofs.Future.{future_told, routers_told}
+use Rattle.zt_theorem_upstream.proofs.Lasting.{turns_end}
+use Rattle.zt_theorem_upstream.proofs.Upstream.{turns_send}
+use Rattle.zt_theorem_answers.proofs.Turns.{turns_answer}
+use Rattle.zt_theorem_sparing.proofs.Kept.{turns_undeclare_kept}
+use Rattle.zt_theorem_sparing.proofs.MoreSparing.{turns_spare_more}
+use Rattle.zt_theorem_sparing.proofs.Sparing.{turns_spare}
+use Rattle.zt_theorem_sparing.proofs.Untelling.{turns_untell}
+use Rattle.zt_theorem_message_ids.proofs.Turns.{turns_draw, turns_end as turns_name}
+use Rattle.zt_theorem_finals.proofs.Initial.{turns_finish_initial}
+use Rattle.zt_theorem_finals.proofs.Whole.{turns_send_first}
+use Rattle.zt_theorem_transcript.specs.Named.{HasNamedOptions}
+use Rattle.zt_theorem_transcript.proofs.Whole.{faithful_from, strict_from}
+use Rattle.zt_theorem_tree_invariant.proofs.Start.{agree_at_first}
+use Rattle.zt_theorem_tree_knowledge.proofs.Turns.{turns_know}
+use Rattle.zt_theorem_tree_only_what_lived.proofs.Asks.{gets_only}
+use Rattle.zt_theorem_tree_all_that_stays.proofs.Gets.{gets_what_stays}
 
 module _ {K : Type 0} (cmp : K → K → Ordering) (matching : K → K → Bool) where
   -- entries of lines that are right, from the empty fabric on

@@ -18,7 +18,7 @@ use Rattle.zt_wire.specs.Text.{entries_text, report_text}
 use Rattle.zt_model.specs.Fabric.{Fabric, empty_fabric, entries_from}
 use Rattle.zt_model.specs.Transcript.{Each, report_of}
 use Rattle.zt_laws.specs.Sound.{HasFirstIds}
-use Rattle.zt_faithful.specs.Named.{HasNamedOptions}
+use Rattle.zt_theorem_transcript.specs.Named.{HasNamedOptions}
 use Rattle.zt_fabric.specs.Transcripts.{Answers, BeginsWith, FailedToRead, FailedToWrite, FoundTooMuch, IsTranscript, RanToItsEnd, most_bytes, streams}
 use Rattle.zt_fabric.specs.Carrying.{Carries, Ends, EndsInPart, Shows, StopsWriting, Writes, WritesUntil, no_totals, with_entries}
 use Rattle.zt_fabric.proofs.ReadLines.{first_ids_of, named_options_of}

@@ -4,7 +4,7 @@ use Rattle.std.proofs.lemmas.List.{length-append, length-take}
 use Rattle.zt_laws.proofs.Lists.{by_test}
 use Rattle.zt_model.specs.Fabric.{Fabric, Link, Place, at_nth}
 use Rattle.zt_model.specs.Rows.{Rows}
-use Rattle.zt_places.specs.Found.{AreBelow}
+use Rattle.zt_link_queues.specs.Found.{AreBelow}
 use Rattle.zt_fabric_state.specs.Changes.{undone}
 
 below_more : (n m : ℕ) (ls : List Link) → n ≤ m → AreBelow n ls → AreBelow m ls

@@ -7,8 +7,8 @@ use Rattle.zt_protocol.specs.declared.messages.Message.{Message}
 use Rattle.zt_model.specs.Fabric.{Fabric, Link, Node, Place, with_waiting}
 use Rattle.zt_model.specs.Rows.{ById}
 use Rattle.zt_model.specs.Lists.{without_id}
-use Rattle.zt_queues.specs.Waiting.{Queued, waiting_from, with_printed, without_taken}
-use Rattle.zt_queues.proofs.Growing.{waiting-append, waiting_popped}
+use Rattle.zt_link_queues.specs.Waiting.{Queued, waiting_from, with_printed, without_taken}
+use Rattle.zt_link_queues.proofs.Growing.{waiting-append, waiting_popped}
 use Rattle.zt_fabric_state.specs.Changes.{taken_by, without_last_place}
 
 -- two facts of an answer that is no error

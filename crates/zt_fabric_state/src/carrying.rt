@@ -13,7 +13,7 @@ use crate::state::FabricState;
 use std::alloc::Global;
 use zt_keys::{Key, Memory};
 use zt_protocol::{Call, Sent};
-use zt_restorable::BoxedState;
+use zt_rollback::BoxedState;
 use zt_state::GatewayState;
 
 /// A gateway after a call, and what the call says, as it is printed.

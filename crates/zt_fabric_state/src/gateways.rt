@@ -9,7 +9,7 @@ use crate::state::{FabricState, NodeState};
 use std::alloc::Global;
 use zt_keys::{Key, Memory};
 use zt_region::{Admission, Region, SouthConf, TransportPeer, WhatAmI, Zid};
-use zt_restorable::RestorableState;
+use zt_rollback::RestorableState;
 use zt_state::GatewayState;
 
 /// A gateway is made, behind the others. After want of memory nothing is changed.

@@ -6,7 +6,7 @@ ghost use Rattle.zt_model.specs.Linking.{oldest, sending_end, speaking_end};
 
 use crate::state::FabricState;
 use zt_keys::Key;
-use zt_places::LinkState;
+use zt_link_queues::LinkState;
 use zt_protocol::Message;
 
 /// The face whose messages a direction of a link takes.

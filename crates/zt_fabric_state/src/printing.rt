@@ -4,7 +4,7 @@ ghost use Rattle.zt_laws.proofs.Sorting.{printed};
 
 use std::alloc::Global;
 use zt_keys::{Key, Memory};
-use zt_places::Places;
+use zt_link_queues::Places;
 use zt_protocol::{Message, Sent};
 
 /// A gateway's messages as they are printed, in the order sent. The only error is want of memory.

@@ -7,10 +7,10 @@ ghost use Rattle.zt_model.specs.Fabric.{at_nth, empty_fabric, with_gateway, with
 ghost use Rattle.zt_model.specs.Fabric.{with_waiting};
 ghost use Rattle.zt_model.specs.Linking.{is_end_of, with_taken};
 ghost use Rattle.zt_model.specs.Lists.{first_where, nth, without_id};
-ghost use Rattle.zt_places.specs.Found.{AreBelow};
+ghost use Rattle.zt_link_queues.specs.Found.{AreBelow};
 ghost use Rattle.zt_fabric_state.specs.Changes.{taken_by, without_last_link};
 ghost use Rattle.zt_fabric_state.specs.Changes.{without_last_place};
-ghost use Rattle.zt_queues.specs.Waiting.{first_waiting};
+ghost use Rattle.zt_link_queues.specs.Waiting.{first_waiting};
 ghost use Rattle.zt_region.specs.South.{plain_south as plain_south_of};
 ghost use Rattle.zt_model.specs.Places.{Node};
 ghost use Rattle.zt_model.specs.Says.{said};
@@ -21,11 +21,10 @@ use crate::places::member_at;
 use std::alloc::Global;
 use std::marker::Model;
 use zt_keys::{Key, Memory};
-use zt_places::{LinkState, Links, PlaceState, Places};
+use zt_link_queues::{LinkState, Links, PlaceState, Places, Queues};
 use zt_protocol::{Call, Message, Sent};
-use zt_queues::Queues;
 use zt_region::SouthConf;
-use zt_restorable::{Ahead, BoxedState, RestorableState, Turn};
+use zt_rollback::{Ahead, BoxedState, RestorableState, Turn};
 use zt_state::GatewayState;
 
 /// A gateway with what its links are made by: its configuration of the south, and its name.
@@ -84,7 +83,7 @@ pub struct FabricState<K: Key> {
 impl<K: Key> Model for FabricState<K> {
     ghost use Rattle.zt_model.specs.Places.{Fabric as FabricValue};
     ghost use Rattle.zt_fabric_state.specs.Joints.{StandTogether};
-    ghost use Rattle.zt_queues.specs.Waiting.{waiting_from};
+    ghost use Rattle.zt_link_queues.specs.Waiting.{waiting_from};
 
     ghost Value = { FabricValue K };
 

@@ -4,7 +4,7 @@ ghost use Rattle.std.specs.Prelude.{◌≡◌, length, IfOk, OnErr, OnOk};
 ghost use Rattle.zt_model.specs.Fabric.{call_at, said_at, with_rows};
 ghost use Rattle.zt_protocol.specs.Plain.{plain_call};
 ghost use Rattle.zt_laws.specs.Sound.{rows_after_call};
-ghost use Rattle.zt_places.specs.Found.{AreBelow};
+ghost use Rattle.zt_link_queues.specs.Found.{AreBelow};
 ghost use Rattle.zt_fabric_state.specs.Changes.{undone, without_last_place};
 
 use crate::places::member_place;
@@ -13,7 +13,7 @@ use crate::state::FabricState;
 use std::alloc::Global;
 use zt_keys::{Key, Memory};
 use zt_protocol::{Call, Sent};
-use zt_restorable::BoxedState;
+use zt_rollback::BoxedState;
 
 /// A gateway where a call was carried out, what it kept before, and what the call says. Where there
 /// is no such gateway nothing was kept, and nothing is said.

@@ -11,8 +11,8 @@ use Rattle.zt_model.specs.Lists.{in_key_order, same}
 use Rattle.zt_model.specs.Rows.{RoutedRow, Rows}
 use Rattle.zt_model.specs.Sourced.{SourcedRow, rows_sourced, sourced, sourced_by, zids_of}
 use Rattle.zt_model.specs.Strategy.{strategy_of}
-use Rattle.zt_routed.specs.Routed.{row_of}
-use Rattle.zt_routed.specs.declared.origin.Origin.{Origin}
+use Rattle.zt_link_state.specs.Routed.{row_of}
+use Rattle.zt_link_state.specs.declared.origin.Origin.{Origin}
 use Rattle.zt_gateway.specs.Declarers.{router_row, router_rows, sources_of, with_zid}
 
 -- the rows of a router region

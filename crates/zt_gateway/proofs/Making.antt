@@ -4,7 +4,7 @@ use Rattle.std.specs.declared.cmp.Ordering.{Ordering}
 use Rattle.zt_region.specs.declared.region.Region.{Region}
 use Rattle.zt_region.specs.declared.region.WhatAmI.{WhatAmI}
 use Rattle.zt_region.specs.declared.region.Zid.{Zid}
-use Rattle.zt_kept.specs.Sound.{IsSound}
+use Rattle.zt_theorem_soundness.specs.Sound.{IsSound}
 use Rattle.zt_model.specs.Fabric.{line_causes, empty_fabric, new_rows}
 use Rattle.zt_model.specs.Refusals.{first_cause}
 use Rattle.zt_gateway.specs.Settings.{Settings, line_of, making_causes}

@@ -15,7 +15,7 @@ use std::marker::Model;
 use zt_keys::Key;
 use zt_protocol::{CallError, Refusal};
 use zt_region::{Admission, Region, SouthConf, WhatAmI, Zid};
-use zt_restorable::RestorableState;
+use zt_rollback::RestorableState;
 use zt_state::GatewayState;
 
 /// The settings of a gateway that is to be made. Those that aren't set are: no south regions, no

@@ -15,7 +15,7 @@ use zt_protocol::{
     Call, CallError, InterestId, InterestMode, InterestOptions, QueryableInfo, TokenId, TreeTable,
 };
 use zt_region::{Bound, NodeId, Region, WhatAmI, Zid};
-use zt_restorable::{copy_keys, copy_queryables};
+use zt_rollback::{copy_keys, copy_queryables};
 
 impl<K: Key> Gateway<K> {
     // Carries out a call that makes no face.

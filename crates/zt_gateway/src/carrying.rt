@@ -3,16 +3,16 @@ ghost use Rattle.std.specs.Prelude.{◌≡◌, ◌+◌, ◌<◌, ◌^◌, ◌≤
 ghost use Rattle.std.specs.Prelude.{IfOk, None, Ok, OnOk, true};
 ghost use Rattle.zt_gateway.specs.Running.{IsRefusedBy, by_face, closed_by, sent_alone};
 ghost use Rattle.zt_laws.specs.Sound.{CallHasFirstIds, opens_face};
-ghost use Rattle.zt_kept.specs.Sound.{IsSound};
+ghost use Rattle.zt_theorem_soundness.specs.Sound.{IsSound};
 ghost use Rattle.zt_model.specs.Journal.{cause_of, face_of_call, made_by, outcome_of, rows_after};
 ghost use Rattle.zt_model.specs.Says.{said};
 ghost use Rattle.zt_protocol.specs.Plain.{plain_call};
 
 use std::alloc::Global;
-use zt_causes::cause_of;
 use zt_keys::{Key, Memory};
 use zt_protocol::{Call, CallError, Message};
-use zt_restorable::{BoxedState, RestorableState};
+use zt_refusals::cause_of;
+use zt_rollback::{BoxedState, RestorableState};
 use zt_state::GatewayState;
 
 // The number of the face that a call makes, where it makes one.

@@ -3,7 +3,7 @@ ghost use Rattle.std.specs.Prelude.{◌≡◌, ◌+◌, ◌≤◌, ◌++◌, [],
 ghost use Rattle.std.specs.Prelude.{IfOk, None, OnErr, OnOk};
 ghost use Rattle.zt_gateway.specs.Running.{IsRefusedBy, by_face, called, next_waiting, oldest_for};
 ghost use Rattle.zt_gateway.specs.Running.{planned, sent_alone, without_closed, without_oldest};
-ghost use Rattle.zt_kept.specs.Sound.{IsSound};
+ghost use Rattle.zt_theorem_soundness.specs.Sound.{IsSound};
 ghost use Rattle.zt_laws.specs.Sound.{CallHasFirstIds};
 ghost use Rattle.zt_model.specs.Journal.{cause_of, made_by, outcome_of};
 ghost use Rattle.zt_model.specs.Says.{said};
@@ -21,7 +21,7 @@ use std::mem;
 use std::snapshot::Snapshot;
 use zt_keys::{Key, Memory};
 use zt_protocol::{Call, CallError, Message};
-use zt_restorable::RestorableState;
+use zt_rollback::RestorableState;
 
 /// A gateway: what it keeps, and the messages that it has for its faces until they are taken. Its
 /// faces are numbered from 1 in order of making.
@@ -35,7 +35,7 @@ pub struct Gateway<K: Key> {
 
 impl<K: Key> Model for Gateway<K> {
     ghost use Rattle.zt_gateway.specs.Running.{Running};
-    ghost use Rattle.zt_kept.specs.Sound.{IsSound};
+    ghost use Rattle.zt_theorem_soundness.specs.Sound.{IsSound};
 
     ghost Value = { Running K };
 

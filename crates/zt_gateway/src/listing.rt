@@ -5,14 +5,14 @@ ghost use Rattle.zt_gateway.specs.Declarers.{face_rows, router_row, router_rows}
 ghost use Rattle.zt_model.specs.Sourced.{kind_of, rows_sourced};
 ghost use Rattle.zt_model.specs.Sourced.{rows_sourced_by_faces, rows_sourced_by_routers};
 ghost use Rattle.zt_model.specs.Strategy.{strategy_of};
-ghost use Rattle.zt_routed.specs.Routed.{rows_of};
+ghost use Rattle.zt_link_state.specs.Routed.{rows_of};
 
 use std::alloc::Global;
 use std::collections::BTreeSet;
 use std::marker::Model;
 use zt_keys::{Key, Memory};
+use zt_link_state::Origin;
 use zt_region::{Region, WhatAmI, Zid};
-use zt_routed::Origin;
 use zt_state::{FaceState, GatewayState, RowsById};
 use zt_tokens::is_router_region;
 

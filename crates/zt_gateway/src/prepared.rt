@@ -8,7 +8,7 @@ use std::marker::Model;
 use std::snapshot::Snapshot;
 use zt_keys::Key;
 use zt_protocol::Message;
-use zt_restorable::BoxedState;
+use zt_rollback::BoxedState;
 
 /// A call that a gateway has accepted and not carried out: all that it takes memory for is there.
 /// It is for the gateway that prepared it, as that stood then.
@@ -32,7 +32,7 @@ impl<K: Key> Model for Prepared<K> {
     ghost use Rattle.std.specs.Prelude.{vec_capacity};
     ghost use Rattle.zt_gateway.specs.Running.{Planned};
     ghost use Rattle.zt_gateway.specs.Running.{by_face, without_closed};
-    ghost use Rattle.zt_kept.specs.Sound.{IsSound};
+    ghost use Rattle.zt_theorem_soundness.specs.Sound.{IsSound};
 
     ghost Value = { Planned K };
 

@@ -15,7 +15,7 @@ use Rattle.zt_region.specs.Region.{is_north}
 use Rattle.zt_protocol.specs.Interest.{has_tokens}
 use Rattle.zt_rows.specs.ById.{IsInOrder}
 use Rattle.zt_interest_index.specs.Held.{any_kept}
-use Rattle.zt_seekers.specs.Seekers.{TokenRow, token_rows}
+use Rattle.zt_token_index.specs.Seekers.{TokenRow, token_rows}
 use Rattle.zt_model.specs.Lists.{at_id, first_where, is_some_and}
 use Rattle.zt_model.specs.Parts.{find_face}
 use Rattle.zt_model.specs.Routing.{asks_same, expression_order, is_held_south}

@@ -5,7 +5,7 @@ use Rattle.std.specs.Ordering.{is_eq}
 use Rattle.std.specs.declared.cmp.Ordering.{Ordering}
 use Rattle.zt_region.specs.Region.{is_north}
 use Rattle.zt_protocol.specs.declared.interests.InterestMode.TheVariants.{CurrentFuture}
-use Rattle.zt_seekers.specs.Seekers.{TokenRow}
+use Rattle.zt_token_index.specs.Seekers.{TokenRow}
 use Rattle.zt_model.specs.Lists.{is_some_and}
 use Rattle.zt_model.specs.Parts.{find_face}
 use Rattle.zt_model.specs.Routing.{asks_same, expression_order}

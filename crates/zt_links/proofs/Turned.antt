@@ -18,7 +18,7 @@ use Rattle.zt_laws.specs.Sound.{opens_face, rows_after_call}
 use Rattle.zt_laws.proofs.Gateways.{prints_map}
 use Rattle.zt_laws.proofs.Lists.{by_test}
 use Rattle.zt_laws.proofs.Sorting.{printed}
-use Rattle.zt_queues.specs.Waiting.{with_printed}
+use Rattle.zt_link_queues.specs.Waiting.{with_printed}
 use Rattle.zt_fabric_state.specs.Changes.{row_after}
 use Rattle.zt_links.specs.Lines.{opened_by_call, opened_end, said_by_opening}
 use Rattle.zt_fabric_state.proofs.Carried.{call_there}

@@ -17,7 +17,7 @@ use Rattle.zt_model.specs.Linking.{climbs_to, end_region, is_answer}
 use Rattle.zt_model.specs.Lists.{without_id}
 use Rattle.zt_model.specs.Refusals.{GREATEST_NUMBER, first_cause, is_north_taken}
 use Rattle.zt_model.specs.Strategy.{fits}
-use Rattle.zt_queues.specs.Waiting.{with_printed}
+use Rattle.zt_link_queues.specs.Waiting.{with_printed}
 
 -- a call by the number of its gateway, where there is one
 abbrev pub made_at : {K : Type 0} → Fabric K → Option (ℕ × PlainCall K) → Option (CallAt K)

@@ -13,7 +13,7 @@ use std::marker::Model;
 use zt_fabric_state::{FabricState, oldest, speaking_end};
 use zt_keys::{Key, Memory};
 use zt_protocol::{Call, Line, Message, TreeTable, copy_expression};
-use zt_restorable::{copy_call, copy_keys, copy_queryables};
+use zt_rollback::{copy_call, copy_keys, copy_queryables};
 
 /// A call, and the number of the gateway that it is made on.
 #[derive(Drop)]

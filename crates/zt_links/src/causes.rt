@@ -14,10 +14,10 @@ ghost use Rattle.zt_links.specs.Lines.{cause_at, cause_if, cause_of_line, made_a
 
 use crate::calls::{CallMade, face_of};
 use std::alloc::Global;
-use zt_causes::cause_of;
 use zt_fabric_state::{FabricState, is_linked_face, is_open_link, member_at, oldest};
 use zt_keys::{Key, Memory};
 use zt_protocol::{Call, Line, Refusal};
+use zt_refusals::cause_of;
 use zt_region::{Admission, Region, WhatAmI};
 
 /// Whether all numbers are given out.

@@ -7,7 +7,7 @@ ghost use Rattle.zt_laws.specs.Sound.{opens_face, rows_after_call};
 ghost use Rattle.zt_region.specs.Region.{is_north};
 ghost use Rattle.zt_protocol.specs.Plain.{NewTransport, plain_call};
 ghost use Rattle.zt_region.specs.South.{plain_peer, plain_south, subregion_count};
-ghost use Rattle.zt_places.specs.Found.{AreBelow};
+ghost use Rattle.zt_link_queues.specs.Found.{AreBelow};
 ghost use Rattle.zt_fabric_state.specs.Changes.{row_after, undone, without_last_place};
 ghost use Rattle.zt_links.specs.Lines.{agreed, joined, opened_by_call, opened_end};
 ghost use Rattle.zt_links.specs.Lines.{said_by_opening};
@@ -18,13 +18,13 @@ ghost use Rattle.zt_model.specs.Refusals.{spends_ids};
 
 use std::alloc::Global;
 use zt_calls::carry_out;
-use zt_causes::spends_ids;
 use zt_fabric_state::{
     FabricState, NodeState, Turned, hear_call, member_at, member_place, next_face, peer_of,
     sort_by_face, undo_opening,
 };
 use zt_keys::{Key, Memory};
 use zt_protocol::{Call, Sent};
+use zt_refusals::spends_ids;
 use zt_region::{
     Bound, Region, RegionError, SouthConf, TransportPeer, WhatAmI, compute_region_of,
     compute_transient_bound_of,

@@ -12,7 +12,7 @@ ghost use Rattle.zt_laws.specs.Order.{FabricIsInOrder};
 use std::alloc::Global;
 use zt_fabric_state::{FabricState, Turned, hear_call, member_place, sort_by_face, undo};
 use zt_keys::{Key, Memory};
-use zt_places::LinkState;
+use zt_link_queues::LinkState;
 use zt_protocol::{Call, Sent};
 
 /// A face is closed. After want of memory nothing is changed.

@@ -17,8 +17,8 @@ use Rattle.zt_model.specs.Lists.{is_among, same, with_key}
 use Rattle.zt_model.specs.Rows.{RoutedRow, Rows}
 use Rattle.zt_model.specs.Trees.{is_hidden}
 use Rattle.zt_model.specs.Trees as model
-use Rattle.zt_routed.specs.Routed.{is_left_out, row_of, rows_in, rows_of}
-use Rattle.zt_routed.specs.declared.origin.Origin.{Origin}
+use Rattle.zt_link_state.specs.Routed.{is_left_out, row_of, rows_in, rows_of}
+use Rattle.zt_link_state.specs.declared.origin.Origin.{Origin}
 use Rattle.zt_routers.specs.Hiding.{hidden_among, is_own_of}
 use Rattle.zt_routers.specs.LeftOut.{exprs_left_out}
 use Rattle.zt_tokens.specs.Gathered.{with_keys}

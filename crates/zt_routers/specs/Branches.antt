@@ -14,7 +14,7 @@ use Rattle.zt_protocol.specs.declared.messages.Message.{Message}
 use Rattle.zt_protocol.specs.declared.messages.Message.TheVariants as message
 use Rattle.zt_model.specs.Rows.{Face, Rows}
 use Rattle.zt_model.specs.Trees.{is_face_of_router, is_hidden, is_newly_shown, node_of, table_of}
-use Rattle.zt_tables.specs.Lookups.{HaveChildrenOf}
+use Rattle.zt_link_state.specs.Lookups.{HaveChildrenOf}
 
 module _ {K : Type 0} (g : Rows K) (region : Region) where
   abbrev pub is_reached : List (Zid × Zid) → Face K → Bool

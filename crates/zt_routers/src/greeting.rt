@@ -10,10 +10,10 @@ use crate::passing::is_face_of_router;
 use crate::tables::table_in;
 use std::alloc::Global;
 use zt_keys::{Key, Memory};
+use zt_link_state::KeptTable;
 use zt_protocol::Message;
 use zt_region::{NodeId, Region, Zid};
 use zt_state::{FaceState, GatewayState};
-use zt_tables::KeptTable;
 
 // Adds that the tokens are declared to the face, under the node id.
 fn declare<K: Key>(

@@ -1,17 +1,16 @@
 // Expressions in order.
 ghost use Rattle.std.specs.Prelude.{◌≡◌, IfOk, OnOk};
 ghost use Rattle.zt_model.specs.Trees.{counted_table, left_out, routed_expressions};
-ghost use Rattle.zt_routed.specs.Routed.{rows_of};
+ghost use Rattle.zt_link_state.specs.Routed.{rows_of};
 ghost use Rattle.zt_routers.specs.LeftOut.{exprs_left_out};
 ghost use Rattle.zt_tokens.specs.Gathered.{with_keys};
 
 use std::alloc::Global;
 use std::collections::BTreeSet;
 use zt_keys::{Key, Memory};
+use zt_link_state::{KeptTable, Origin, is_left_out};
 use zt_region::{Region, Zid};
-use zt_routed::{Origin, is_left_out};
 use zt_state::GatewayState;
-use zt_tables::KeptTable;
 use zt_tokens::KeysInOrder;
 
 // Puts keys in their places among those in order. The only error is want of memory.

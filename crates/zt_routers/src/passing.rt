@@ -10,10 +10,10 @@ ghost use Rattle.zt_routers.specs.Branches.{is_reached, passed, unpassed};
 use crate::tables::table_in;
 use std::alloc::Global;
 use zt_keys::{Key, Memory};
+use zt_link_state::is_child_among;
 use zt_protocol::Message;
 use zt_region::{NodeId, Region, Zid};
 use zt_state::{FaceState, GatewayState};
-use zt_tables::is_child_among;
 
 // The lowest open face of a region behind which the router stands.
 fn find_face_of<K: Key>(g: &GatewayState<K>, region: Region, zid: Zid) -> Option<&FaceState<K>>

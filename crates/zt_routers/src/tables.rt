@@ -7,9 +7,9 @@ ghost use Rattle.zt_region.specs.Region.{region_eq};
 
 use std::alloc::Global;
 use zt_keys::{Key, Memory};
+use zt_link_state::KeptTable;
 use zt_region::{NodeId, Region, Zid};
 use zt_state::{FaceState, GatewayState};
-use zt_tables::KeptTable;
 
 // The table that a region was handed, with the region.
 fn kept_table(trees: &[(Region, KeptTable)], region: Region) -> Option<&(Region, KeptTable)>

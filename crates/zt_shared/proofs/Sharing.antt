@@ -5,7 +5,7 @@ use Rattle.zt_model.specs.Fabric.{entry_by, sorted_by_face}
 use Rattle.zt_model.specs.Journal.{Journalled, cause_of, made_by, outcome_of}
 use Rattle.zt_model.specs.Rows.{Rows}
 use Rattle.zt_model.specs.Says.{said}
-use Rattle.zt_passes.specs.Passes.{Adds, Standing}
+use Rattle.zt_shared_value.specs.Passes.{Adds, Standing}
 use Rattle.zt_protocol.specs.Plain.{PlainCall}
 use Rattle.zt_protocol.specs.declared.entries.Sent.{Sent}
 use Rattle.zt_protocol.specs.declared.errors.Refusal.{Refusal}

@@ -3,8 +3,8 @@ use Rattle.std.specs.Prelude.{◌≡◌, ℕ, Bool, List, Option, Result, Ok, Er
 use Rattle.std.specs.declared.cmp.Ordering.{Ordering}
 use Rattle.zt_gateway.specs.Running.{Running}
 use Rattle.zt_model.specs.Journal.{IsReplay, Journalled}
-use Rattle.zt_passes.specs.Account.{AccountsForAll}
-use Rattle.zt_passes.specs.Passes.{Adds, Finds, Standing, pass_looked}
+use Rattle.zt_shared_value.specs.Account.{AccountsForAll}
+use Rattle.zt_shared_value.specs.Passes.{Adds, Finds, Standing, pass_looked}
 use Rattle.zt_protocol.specs.Plain.{PlainCall}
 use Rattle.zt_protocol.specs.declared.errors.Refusal.{Refusal}
 use Rattle.zt_shared.specs.Recorded.{Recorded}

@@ -8,7 +8,7 @@ use std::alloc::Global;
 use zt_gateway::Prepared;
 use zt_keys::{Key, Memory};
 use zt_protocol::{Refusal, Sent};
-use zt_restorable::copy_call;
+use zt_rollback::copy_call;
 
 /// Copies of the messages of a prepared call, in order of face, as those of a gateway with the
 /// number 1. The only error is want of memory.

@@ -12,4 +12,4 @@ pub use copies::sent_by;
 pub use entries::{Journal, JournalEntry, Receipt};
 pub use journaled::Journaled;
 pub use shared::{CloseError, Pass, SharedGateway};
-pub use zt_passes::Spent;
+pub use zt_shared_value::Spent;

@@ -11,8 +11,8 @@ use crate::entries::{JournalEntry, Receipt};
 use crate::journaled::Journaled;
 use std::alloc::{AllocError, Global};
 use zt_keys::Key;
-use zt_passes::Recorder;
 use zt_protocol::Call;
+use zt_shared_value::Recorder;
 
 impl<K: Key> Recorder for Journaled<K> {
     type Call = Call<K>;

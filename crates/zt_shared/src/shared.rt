@@ -4,9 +4,9 @@ ghost use Rattle.std.specs.Prelude.{IfErr};
 ghost use Rattle.std.specs.List.{AllByRecursion, AllZip, Contains};
 ghost use Rattle.zt_gateway.specs.Running.{Running};
 ghost use Rattle.zt_laws.specs.Sound.{CallHasFirstIds};
-ghost use Rattle.zt_passes.specs.Account.{IsComplete, IsCounted};
-ghost use Rattle.zt_passes.specs.Passes.{first_pass, made_pass, pass_counted, pass_drawn};
-ghost use Rattle.zt_passes.specs.Passes.{pass_looked};
+ghost use Rattle.zt_shared_value.specs.Account.{IsComplete, IsCounted};
+ghost use Rattle.zt_shared_value.specs.Passes.{first_pass, made_pass, pass_counted, pass_drawn};
+ghost use Rattle.zt_shared_value.specs.Passes.{pass_looked};
 ghost use Rattle.zt_protocol.specs.Plain.{plain_call};
 ghost use Rattle.zt_shared.specs.Recorded.{journalled, opened};
 ghost use Rattle.zt_shared.specs.Sharing.{Enters, FindsJournal, HasRead, HasReplay, IsWholeJournal};
@@ -18,11 +18,11 @@ use std::marker::Model;
 use std::sync::Wait;
 use zt_gateway::Gateway;
 use zt_keys::{Key, Memory};
-use zt_passes::{SharedRecorder, Spent};
 use zt_protocol::Call;
+use zt_shared_value::{SharedRecorder, Spent};
 
 /// The right to call a shared gateway, for one thread at a time.
-pub type Pass<K> = zt_passes::Pass<Journaled<K>>;
+pub type Pass<K> = zt_shared_value::Pass<Journaled<K>>;
 
 /// A gateway with its journal behind a lock, that passes call from any thread. Contracts see the
 /// table that it stands in.

@@ -13,8 +13,8 @@ use Rattle.zt_model.specs.Rows.{ById, Face, RoutedRow}
 use Rattle.zt_model.specs.Telling.{registered, unregistered}
 use Rattle.zt_model.specs.Visible.{rows_of_face}
 use Rattle.zt_keys.specs.declared.anchor.Anchor.{Anchor}
-use Rattle.zt_seekers.specs.Seekers.{AreSeekers, Seeking, no_seekers}
-use Rattle.zt_seekers.proofs.Changed.{seekers-none, seekers-quiet}
+use Rattle.zt_token_index.specs.Seekers.{AreSeekers, Seeking, no_seekers}
+use Rattle.zt_token_index.proofs.SeekersChanged.{seekers-none, seekers-quiet}
 use Rattle.zt_state.specs.Indexed.{HasLiveInOrder, IsIndexed, KeepsDeclared, KeepsLive, routed_live}
 use Rattle.zt_faces.specs.Rising.{AreUpTo, IsRising}
 use Rattle.zt_state.proofs.Recounted.{all-changed, others, quiet-order, quiet-rows}

@@ -15,7 +15,7 @@ use Rattle.zt_model.specs.Rows.{Face}
 use Rattle.zt_protocol.specs.declared.messages.Message.{Message}
 use Rattle.zt_face.specs.Told.{heard_known}
 use Rattle.zt_model.specs.Hearing.{heard}
-use Rattle.zt_seekers.specs.Seekers.{AreSeekers, IsKnown, IsOnlyOne, Leaves, Reseeks, Seeking}
+use Rattle.zt_token_index.specs.Seekers.{AreSeekers, IsKnown, IsOnlyOne, Leaves, Reseeks, Seeking}
 use Rattle.zt_faces.specs.Rising.{IsRising}
 use Rattle.zt_faces.proofs.Rising.{all-weaker, none-above}
 

@@ -15,11 +15,11 @@ use Rattle.zt_indexes.specs.Rows as counted
 use Rattle.zt_model.specs.Lists.{same}
 use Rattle.zt_model.specs.Rows.{RoutedRow, Rows}
 use Rattle.zt_model.specs.Trees.{is_left_out, is_routed_row, row_at, without_routed}
-use Rattle.zt_routed.specs.More.{HasOneMore, IsMoreBy}
-use Rattle.zt_routed.specs.Routed.{row_of, rows_in, rows_of}
-use Rattle.zt_routed.specs.Routed as routed
-use Rattle.zt_routed.specs.declared.origin.Origin.{Origin}
-use Rattle.zt_routed.proofs.Origins.{is_row_at}
+use Rattle.zt_link_state.specs.More.{HasOneMore, IsMoreBy}
+use Rattle.zt_link_state.specs.Routed.{row_of, rows_in, rows_of}
+use Rattle.zt_link_state.specs.Routed as routed
+use Rattle.zt_link_state.specs.declared.origin.Origin.{Origin}
+use Rattle.zt_link_state.proofs.Origins.{is_row_at}
 use Rattle.zt_state.specs.Indexed.{routed_live}
 use Rattle.zt_state.specs.OwnRows.{is_own_in, listed_rows, without_own_in}
 use Rattle.zt_state.proofs.Recounted.{routed-both, same-refl}

@@ -17,7 +17,7 @@ use Rattle.zt_region.specs.declared.region.Region.{Region}
 use Rattle.zt_region.specs.declared.region.Zid.{Zid}
 use Rattle.zt_keys.specs.declared.anchor.Anchor.{Anchor}
 use Rattle.zt_indexes.specs.Rows.{AreCountsOf}
-use Rattle.zt_seekers.specs.Seekers.{AreSeekers, Seeking}
+use Rattle.zt_token_index.specs.Seekers.{AreSeekers, Seeking}
 use Rattle.zt_model.specs.Rows.{Face, RoutedRow}
 use Rattle.zt_model.specs.Visible.{rows_of_face}
 use Rattle.zt_faces.specs.Rising.{AreUpTo, IsRising}

@@ -3,7 +3,7 @@
 use Rattle.std.specs.Prelude.{◌≡◌, ℕ, List, filter, length}
 use Rattle.std.specs.List.{AllByRecursion}
 use Rattle.std.specs.declared.cmp.Ordering.{Ordering}
-use Rattle.zt_told.specs.Told.{id_of}
+use Rattle.zt_token_index.specs.Told.{id_of}
 use Rattle.zt_model.specs.Parts.{told_id}
 use Rattle.zt_model.specs.Rows.{Face}
 use Rattle.zt_model.specs.Visible.{keeps}

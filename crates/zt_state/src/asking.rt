@@ -2,7 +2,7 @@
 ghost use Rattle.std.specs.Prelude.{◌≡◌, ◌==◌, if◌then◌else◌, map, OnOk};
 ghost use Rattle.zt_model.specs.Parts.{with_face};
 ghost use Rattle.zt_model.specs.Routing.{asked_as, unheld};
-ghost use Rattle.zt_seekers.specs.Seekers.{AreSeekers};
+ghost use Rattle.zt_token_index.specs.Seekers.{AreSeekers};
 
 use crate::changes::empty;
 use crate::gateway::GatewayState;
@@ -11,7 +11,7 @@ use zt_face::{FaceState, RemoteInterest};
 use zt_faces::{FaceAddition, FaceChange, Faces};
 use zt_keys::{Key, Memory};
 use zt_protocol::InterestId;
-use zt_seekers::Seekers;
+use zt_token_index::Seekers;
 
 // An interest of a face, which was sent upstream as these.
 #[derive(Drop)]

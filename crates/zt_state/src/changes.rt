@@ -1,15 +1,15 @@
 // Changes of one face of a gateway.
 ghost use Rattle.std.specs.Prelude.{◌≡◌, [], OnOk};
 ghost use Rattle.zt_model.specs.Parts.{with_face};
-ghost use Rattle.zt_seekers.specs.Seekers.{no_seekers};
+ghost use Rattle.zt_token_index.specs.Seekers.{no_seekers};
 
 use crate::gateway::GatewayState;
 use std::alloc::Global;
 use zt_faces::{FaceAddition, FaceChange, Faces};
 use zt_indexes::LiveCounts;
 use zt_keys::{Key, Memory};
-use zt_routed::RoutedTokens;
-use zt_seekers::Seekers;
+use zt_link_state::RoutedTokens;
+use zt_token_index::Seekers;
 
 /// A change of a face that keeps what it declares, holds and was told.
 pub trait QuietChange<K: Key>: FaceChange<K> {

@@ -5,8 +5,8 @@ use crate::gateway::GatewayState;
 use std::alloc::Global;
 use zt_face::copy_keys;
 use zt_keys::{Key, Memory};
+use zt_link_state::KeptTable;
 use zt_region::{Admission, Region};
-use zt_tables::KeptTable;
 
 // The same tables. The only error is want of memory.
 fn copy_trees(

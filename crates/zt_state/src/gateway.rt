@@ -9,11 +9,11 @@ ghost use Rattle.zt_model.specs.Visible.{live_rows};
 ghost use Rattle.zt_model.specs.Wants.{seeks};
 ghost use Rattle.zt_indexes.specs.Rows.{AreCountsOf};
 ghost use Rattle.zt_interest_index.specs.Holders.{HasAllIn};
-ghost use Rattle.zt_seekers.specs.Seekers.{token_rows};
-ghost use Rattle.zt_seekers.specs.Told.{told_id_at};
+ghost use Rattle.zt_token_index.specs.Seekers.{token_rows};
+ghost use Rattle.zt_token_index.specs.Retold.{told_id_at};
 ghost use Rattle.zt_region.specs.Region.{is_north};
 ghost use Rattle.zt_state.specs.Told.{AreToldIds};
-ghost use Rattle.zt_told.specs.Told.{AreRising};
+ghost use Rattle.zt_token_index.specs.Told.{AreRising};
 
 use std::alloc::Global;
 use std::marker::Model;
@@ -21,10 +21,9 @@ use zt_face::FaceState;
 use zt_faces::Faces;
 use zt_indexes::LiveCounts;
 use zt_keys::{Key, Memory};
+use zt_link_state::{KeptTable, RoutedTokens};
 use zt_region::{Admission, Region, WhatAmI, Zid};
-use zt_routed::RoutedTokens;
-use zt_seekers::Seekers;
-use zt_tables::KeptTable;
+use zt_token_index::Seekers;
 
 /// A gateway: its settings, its open faces in order of number, the tokens of its router regions,
 /// the tables of these, and the numbers of expressions. A change that lacked memory may be half

@@ -2,7 +2,7 @@
 ghost use Rattle.std.specs.Prelude.{◌≡◌, ◌==◌, ◌∷◌, [], if◌then◌else◌, map, OnOk};
 ghost use Rattle.zt_model.specs.Hearing.{heard, rows_heard};
 ghost use Rattle.zt_model.specs.Parts.{with_face};
-ghost use Rattle.zt_seekers.specs.Seekers.{AreSeekers};
+ghost use Rattle.zt_token_index.specs.Seekers.{AreSeekers};
 
 use crate::changes::empty;
 use crate::gateway::GatewayState;
@@ -11,7 +11,7 @@ use zt_face::FaceState;
 use zt_faces::{FaceAddition, Faces};
 use zt_keys::{Key, Memory};
 use zt_protocol::Message;
-use zt_seekers::Seekers;
+use zt_token_index::Seekers;
 
 // A message that is sent to a face at a moment. Of one that says of an expression that it is gone,
 // `known` is the id under which the face was told the expression, if it was.

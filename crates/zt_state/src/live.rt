@@ -11,7 +11,7 @@ ghost use Rattle.zt_model.specs.Lists.{at_id};
 ghost use Rattle.zt_model.specs.Parts.{with_face};
 ghost use Rattle.zt_model.specs.Telling.{registered, unregistered};
 ghost use Rattle.zt_model.specs.Visible.{rows_of_face};
-ghost use Rattle.zt_seekers.specs.Seekers.{AreSeekers};
+ghost use Rattle.zt_token_index.specs.Seekers.{AreSeekers};
 ghost use Rattle.zt_state.specs.Indexed.{HasLiveInOrder};
 
 use crate::changes::empty;
@@ -22,7 +22,7 @@ use zt_faces::{FaceAddition, FaceChange, Faces};
 use zt_indexes::LiveCounts;
 use zt_keys::{Key, Memory};
 use zt_protocol::TokenId;
-use zt_seekers::Seekers;
+use zt_token_index::Seekers;
 
 // A token that a face declares.
 #[derive(Drop)]

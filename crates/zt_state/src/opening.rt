@@ -3,7 +3,7 @@ ghost use Rattle.std.specs.Prelude.{◌≡◌, ◌<◌, ◌+◌, ◌++◌, ◌�
 ghost use Rattle.zt_faces.specs.Rising.{AreUpTo};
 ghost use Rattle.zt_model.specs.Parts.{opened_session};
 ghost use Rattle.zt_model.specs.Routing.{initial_of, opened};
-ghost use Rattle.zt_seekers.specs.Seekers.{AreSeekers};
+ghost use Rattle.zt_token_index.specs.Seekers.{AreSeekers};
 
 use crate::changes::empty;
 use crate::gateway::GatewayState;
@@ -12,7 +12,7 @@ use zt_face::FaceState;
 use zt_faces::Faces;
 use zt_keys::{Key, Memory};
 use zt_region::{Bound, Region, WhatAmI, Zid};
-use zt_seekers::Seekers;
+use zt_token_index::Seekers;
 
 // A face opens that holds nothing and was told nothing yet, under a number above `made`. The only
 // error is want of memory.

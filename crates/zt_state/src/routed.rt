@@ -7,7 +7,7 @@ ghost use Rattle.zt_model.specs.Trees.{routed_order, row_at};
 ghost use Rattle.zt_model.specs.Trees.{with_own_rows, with_routed, with_table, without_left_out};
 ghost use Rattle.zt_model.specs.Trees.{without_routed};
 ghost use Rattle.zt_indexes.specs.Recounts.{Recounts};
-ghost use Rattle.zt_routed.specs.Routed.{rows_of};
+ghost use Rattle.zt_link_state.specs.Routed.{rows_of};
 ghost use Rattle.zt_state.specs.Indexed.{routed_live};
 ghost use Rattle.zt_state.specs.OwnRows.{listed_rows, without_own_in};
 
@@ -18,9 +18,8 @@ use std::alloc::Global;
 use std::collections::BTreeSet;
 use zt_indexes::LiveCounts;
 use zt_keys::{Key, Memory};
+use zt_link_state::{KeptTable, Origin, RoutedTokens, is_left_out};
 use zt_region::{Region, Zid};
-use zt_routed::{Origin, RoutedTokens, is_left_out};
-use zt_tables::KeptTable;
 
 // Counts a router's token, where it is another router's. The only error is want of memory.
 fn count_token<K: Key>(

@@ -12,7 +12,7 @@ use Rattle.zt_model.specs.Telling.{answer_to, answered_expressions, answers_from
 use Rattle.zt_model.specs.Visible.{visible_expressions}
 use Rattle.zt_model.specs.Wants.{is_about}
 use Rattle.zt_state.proofs.Walks.{drop_item}
-use Rattle.zt_told.specs.Told.{id_of}
+use Rattle.zt_token_index.specs.Told.{id_of}
 use Rattle.zt_tokens.specs.Answered.{answer_message, answer_told, id_after}
 
 about_all : {A : Type 0} (xs : List A) → filter (λ _. true) xs ≡ xs

@@ -11,7 +11,7 @@ use Rattle.zt_model.specs.Rows.{ById, Face, Rows}
 use Rattle.zt_model.specs.Telling.{forget_to}
 use Rattle.zt_model.specs.Visible.{is_visible, keeps}
 use Rattle.zt_model.specs.Wants.{seeks, wants}
-use Rattle.zt_told.specs.Told.{id_of}
+use Rattle.zt_token_index.specs.Told.{id_of}
 use Rattle.zt_faces.specs.Rising.{IsRising}
 use Rattle.zt_state.specs.Told.{AreToldIds}
 use Rattle.zt_tokens.specs.Walks.{is_told_at}

@@ -4,7 +4,7 @@ use Rattle.zt_protocol.specs.declared.messages.Message.{Message}
 use Rattle.zt_model.specs.Lists.{first_where, is_some_and}
 use Rattle.zt_model.specs.Parts.{Sends}
 use Rattle.zt_model.specs.Rows.{Face}
-use Rattle.zt_told.specs.Told.{id_of}
+use Rattle.zt_token_index.specs.Told.{id_of}
 
 module _ {K : Type 0} where
   -- what a rule gives to the face of a number

@@ -7,8 +7,8 @@ ghost use Rattle.zt_model.specs.Telling.{answered_expressions, is_answered_by, w
 ghost use Rattle.zt_model.specs.Visible.{visible_expressions};
 ghost use Rattle.zt_model.specs.Wants.{is_about};
 ghost use Rattle.zt_protocol.specs.Interest.{has_tokens, is_current, is_future};
-ghost use Rattle.zt_seekers.specs.Told.{told_id_at};
-ghost use Rattle.zt_told.specs.Told.{AreRising};
+ghost use Rattle.zt_token_index.specs.Retold.{told_id_at};
+ghost use Rattle.zt_token_index.specs.Told.{AreRising};
 ghost use Rattle.zt_tokens.specs.Answered.{answer_message, answer_of, answer_told, id_after};
 
 use crate::questions::find_face;
@@ -19,7 +19,7 @@ use zt_keys::{Key, Memory};
 use zt_protocol::{InterestId, InterestMode, InterestOptions, Message, TokenId};
 use zt_region::Region;
 use zt_state::{AskState, FaceState, GatewayState, RemoteInterest, is_among};
-use zt_told::id_in;
+use zt_token_index::id_in;
 
 // Whether the interest asks for tokens that are there now.
 fn asks_now<K: Key>(interest: &RemoteInterest<K>) -> bool

@@ -7,7 +7,7 @@ ghost use Rattle.zt_model.specs.Strategy.{strategy_of, is_client_hat};
 ghost use Rattle.zt_model.specs.Wants.{wants};
 ghost use Rattle.zt_model.specs.Telling.{forget, forget_untold};
 ghost use Rattle.zt_model.specs.Visible.{shows};
-ghost use Rattle.zt_told.specs.Told.{AreRising, id_of};
+ghost use Rattle.zt_token_index.specs.Told.{AreRising, id_of};
 ghost use Rattle.zt_tokens.specs.Gone.{IsGone, forget_by, forget_told, is_seen};
 ghost use Rattle.zt_tokens.specs.Walks.{given_at, is_told_at, sent_to};
 
@@ -18,7 +18,7 @@ use zt_keys::{Key, Memory};
 use zt_protocol::{Message, TokenId};
 use zt_region::Region;
 use zt_state::{FaceState, GatewayState};
-use zt_told::id_in;
+use zt_token_index::id_in;
 
 // Whether faces of no region see the expression: those of `Local` see each live token.
 fn is_gone<K: Key>(g: &GatewayState<K>, expr: &K) -> bool

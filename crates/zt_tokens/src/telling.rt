@@ -1,7 +1,7 @@
 // Faces hear of tokens that were declared.
 ghost use Rattle.std.specs.Prelude.{◌≡◌, ◌++◌, IfOk, OnOk, map};
 ghost use Rattle.zt_model.specs.Telling.{tell};
-ghost use Rattle.zt_told.specs.Told.{AreRising};
+ghost use Rattle.zt_token_index.specs.Told.{AreRising};
 ghost use Rattle.zt_tokens.specs.Seeking.{declared_to};
 
 use crate::questions::{is_seeker_told, is_told};
@@ -11,7 +11,7 @@ use zt_keys::{Key, Memory};
 use zt_protocol::{Message, TokenId};
 use zt_region::Region;
 use zt_state::{FaceState, GatewayState};
-use zt_told::id_in;
+use zt_token_index::id_in;
 
 // Adds the declaration of a token of the expression.
 fn declare_to<K: Key>(

@@ -2,8 +2,8 @@
 use Rattle.std.proofs.Common.{◌≡◌, ℕ, zero, suc, ◌+◌, ◌<◌, List, [], ◌∷◌, ◌++◌, length, map, take, get_or, refl, sym, ap, ◌∙◌, arith, append_assoc, length-append}
 use Rattle.std.proofs.lemmas.List.{length-map, length-take, take_more}
 use Rattle.zt_laws.proofs.Lists.{map-append}
-use Rattle.zt_replay.specs.Dealt.{numbered_from}
-use Rattle.zt_replay.proofs.Order.{numbered_append}
+use Rattle.zt_theorem_journal.specs.Dealt.{numbered_from}
+use Rattle.zt_theorem_journal.proofs.Order.{numbered_append}
 use Rattle.zt_workers.specs.Dealing.{with_lines}
 use Rattle.zt_workers.proofs.OrderLemmas.{lines_more}
 

@@ -18,13 +18,13 @@ use Rattle.zt_model.specs.Rows.{Rows}
 use Rattle.zt_model.specs.Transcript.{Each}
 use Rattle.zt_laws.specs.Sound.{HasFirstIds}
 use Rattle.zt_laws.proofs.Lists.{each_append, each_filter, each_front, each_map, map-append, map-map}
-use Rattle.zt_faithful.specs.Named.{HasNamedOptions}
+use Rattle.zt_theorem_transcript.specs.Named.{HasNamedOptions}
 use Rattle.zt_gateway.specs.Running.{Running}
 use Rattle.zt_gateway.specs.Settings.{Settings, line_of, new_gateway}
-use Rattle.zt_replay.specs.Alone.{Speaks, made_entries, rows_made}
-use Rattle.zt_replay.specs.Dealt.{IsDealt, numbered_from, order_of, script_of, worker_of}
-use Rattle.zt_replay.proofs.Order.{each_numbered, each_of_map, each_part, is_reordered, map_second, order_lines}
-use Rattle.zt_replay.proofs.Replay.{script_comes, script_refused}
+use Rattle.zt_theorem_journal.specs.Alone.{Speaks, made_entries, rows_made}
+use Rattle.zt_theorem_journal.specs.Dealt.{IsDealt, numbered_from, order_of, script_of, worker_of}
+use Rattle.zt_theorem_journal.proofs.Order.{each_numbered, each_of_map, each_part, is_reordered, map_second, order_lines}
+use Rattle.zt_theorem_journal.proofs.Replay.{script_comes, script_refused}
 use Rattle.zt_shared.specs.Recorded.{journalled, plain_outcome}
 use Rattle.zt_shared.specs.declared.entries.JournalEntry.{JournalEntry}
 use Rattle.zt_workers.specs.Answers.{CarriesOut, answered}

@@ -10,14 +10,14 @@ use Rattle.zt_model.specs.Transcript.{Each}
 use Rattle.zt_laws.specs.Sound.{CallHasFirstIds, EachFrom}
 use Rattle.zt_laws.proofs.Numbered.{each_from_last}
 use Rattle.zt_laws.proofs.Lists.{by_test, each_filter, map-append, never}
-use Rattle.zt_passes.specs.Owned.{owned}
-use Rattle.zt_passes.specs.Passes.{Standing, made_pass, pass_drawn}
+use Rattle.zt_shared_value.specs.Owned.{owned}
+use Rattle.zt_shared_value.specs.Passes.{Standing, made_pass, pass_drawn}
 use Rattle.zt_model.specs.Journal.{Journalled}
-use Rattle.zt_replay.specs.Dealt.{worker_of}
+use Rattle.zt_theorem_journal.specs.Dealt.{worker_of}
 use Rattle.zt_shared.specs.Recorded.{Recorded}
 use Rattle.zt_shared.specs.Sharing.{pass_of}
 use Rattle.zt_workers.specs.Dealing.{Does, HasMade, HaveFirstIds, IsDone, IsJob, MayWork, apart, part}
-use Rattle.zt_replay.specs.Alone.{Speaks}
+use Rattle.zt_theorem_journal.specs.Alone.{Speaks}
 use Rattle.zt_workers.specs.Plans.{call_of, numbered}
 use Rattle.zt_workers.specs.declared.dealing.Job.{Job}
 use Rattle.zt_workers.specs.declared.plan.Numbered.{Numbered}

@@ -23,9 +23,9 @@ use Rattle.zt_model.specs.Transcript.{Each, IsFaithfulFrom, IsStrictFrom}
 use Rattle.zt_model.specs.TreePromises.{KeepTreePromises}
 use Rattle.zt_laws.specs.Sound.{HasFirstIds}
 use Rattle.zt_laws.proofs.Lists.{by_test}
-use Rattle.zt_faithful.specs.Named.{HasNamedOptions}
+use Rattle.zt_theorem_transcript.specs.Named.{HasNamedOptions}
 use Rattle.zt_fabric.proofs.Right.{AreRight}
-use Rattle.zt_replay.specs.Alone.{Speaks}
+use Rattle.zt_theorem_journal.specs.Alone.{Speaks}
 use Rattle.zt_fabric.specs.Transcripts.{most_bytes, streams}
 use Rattle.zt_workers.specs.Answers.{AreTranscript, Answers, CarriesOut, answered, totals_of, IsCarriedOut, Transcribes, transcript_text}
 use Rattle.zt_workers.specs.Plans.{AreRead, call_of, plan_lines, script_lines}

@@ -18,7 +18,7 @@ use Rattle.zt_model.specs.Rows.{Rows}
 use Rattle.zt_model.specs.Says.{Sends, altered, said}
 use Rattle.zt_laws.specs.Sound.{CallHasFirstIds, HasFirstIds}
 use Rattle.zt_laws.proofs.Lists.{map-append}
-use Rattle.zt_replay.specs.Alone.{gateway_named, made_entries, made_entry, made_rows, opening_call, rows_made}
+use Rattle.zt_theorem_journal.specs.Alone.{gateway_named, made_entries, made_entry, made_rows, opening_call, rows_made}
 
 -- the lines that are left at a place
 pub left_none : {A B : Type 0} (f : A → B) (xs : List A) (i : ℕ) → length xs ≤ i → map f (drop i xs) ≡ []

@@ -9,9 +9,9 @@ use Rattle.zt_model.specs.Journal.{IsReplay, Journalled}
 use Rattle.zt_model.specs.Transcript.{Each}
 use Rattle.zt_laws.specs.Sound.{EachFrom}
 use Rattle.zt_laws.proofs.Lists.{by_test, map-map}
-use Rattle.zt_passes.specs.Account.{Accounts}
-use Rattle.zt_passes.specs.Owned.{below, owned, owned_from}
-use Rattle.zt_passes.specs.Passes.{Standing}
+use Rattle.zt_shared_value.specs.Account.{Accounts}
+use Rattle.zt_shared_value.specs.Owned.{below, owned, owned_from}
+use Rattle.zt_shared_value.specs.Passes.{Standing}
 use Rattle.zt_shared.specs.Recorded.{Recorded}
 use Rattle.zt_shared.specs.Sharing.{IsWholeJournal, entries_of, opening_of, pass_of}
 use Rattle.zt_workers.specs.Dealing.{HaveLines, IsDone, IsMadeByWorkers, of_pass, part, with_lines}

@@ -14,8 +14,8 @@ use Rattle.zt_model.specs.Journal.{are_makings_first, is_driven, is_making, is_s
 use Rattle.zt_model.specs.Transcript.{Each}
 use Rattle.zt_laws.proofs.Lists.{map-append}
 use Rattle.zt_gateway.specs.Settings.{Settings, line_of}
-use Rattle.zt_replay.specs.Dealt.{numbered_from, script_of}
-use Rattle.zt_replay.proofs.Order.{numbered_append}
+use Rattle.zt_theorem_journal.specs.Dealt.{numbered_from, script_of}
+use Rattle.zt_theorem_journal.proofs.Order.{numbered_append}
 use Rattle.zt_workers.specs.Plans.{AreInForm, HasNoPlace, IsPlan, call_of, numbered, plan_lines, script_lines}
 use Rattle.zt_workers.specs.declared.plan.Numbered.{Numbered}
 use Rattle.zt_workers.specs.declared.plan.Plan.{Plan}

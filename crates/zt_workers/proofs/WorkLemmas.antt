@@ -8,7 +8,7 @@ use Rattle.zt_protocol.specs.Plain.{PlainCall}
 use Rattle.zt_model.specs.Journal.{Journalled}
 use Rattle.zt_model.specs.Transcript.{Each}
 use Rattle.zt_laws.proofs.Lists.{map-append}
-use Rattle.zt_passes.specs.Passes.{Standing, mine}
+use Rattle.zt_shared_value.specs.Passes.{Standing, mine}
 use Rattle.zt_shared.specs.Recorded.{Recorded}
 use Rattle.zt_shared.specs.Sharing.{Enters, entries_of, pass_of}
 use Rattle.zt_shared.specs.declared.entries.Receipt.{Receipt}

@@ -18,8 +18,8 @@ use Rattle.zt_model.specs.Promises.{MeetsPromises, MeetsStricterPromises, turns_
 use Rattle.zt_model.specs.Transcript.{Each, IsFaithfulFrom, IsStrictFrom, report_of}
 use Rattle.zt_model.specs.TreePromises.{KeepTreePromises}
 use Rattle.zt_laws.specs.Sound.{HasFirstIds}
-use Rattle.zt_faithful.specs.Named.{HasNamedOptions}
-use Rattle.zt_replay.specs.Dealt.{numbered_from}
+use Rattle.zt_theorem_transcript.specs.Named.{HasNamedOptions}
+use Rattle.zt_theorem_journal.specs.Dealt.{numbered_from}
 use Rattle.zt_fabric.specs.Transcripts.{BeginsWith, CountsFaults, HasNoFault, Streams, most_bytes}
 use Rattle.zt_workers.specs.Plans.{AreRead, HasBadText}
 use Rattle.zt_workers.specs.declared.answering.Answer.{Answer}

@@ -7,8 +7,8 @@ use Rattle.zt_model.specs.Journal.{IsReplay, Journalled}
 use Rattle.zt_model.specs.Rows.{Rows}
 use Rattle.zt_model.specs.Transcript.{Each}
 use Rattle.zt_laws.specs.Sound.{CallHasFirstIds}
-use Rattle.zt_passes.specs.Passes.{Standing, mine}
-use Rattle.zt_replay.specs.Dealt.{worker_of}
+use Rattle.zt_shared_value.specs.Passes.{Standing, mine}
+use Rattle.zt_theorem_journal.specs.Dealt.{worker_of}
 use Rattle.zt_shared.specs.Recorded.{Recorded}
 use Rattle.zt_shared.specs.Sharing.{entries_of, pass_of}
 use Rattle.zt_workers.specs.Plans.{numbered}

@@ -8,7 +8,7 @@ use Rattle.zt_wire.specs.Reading.{line_read}
 use Rattle.zt_model.specs.Journal.{is_driven, is_making}
 use Rattle.zt_model.specs.Transcript.{Each}
 use Rattle.zt_gateway.specs.Settings.{line_of}
-use Rattle.zt_replay.specs.Dealt.{numbered_from, script_of}
+use Rattle.zt_theorem_journal.specs.Dealt.{numbered_from, script_of}
 use Rattle.zt_workers.specs.declared.plan.Numbered.{Numbered}
 use Rattle.zt_workers.specs.declared.plan.Plan.{Plan}
 

@@ -2,7 +2,7 @@
 ghost use Rattle.std.specs.Prelude.{◌≡◌, ◌+◌, ◌<◌, ◌^◌, ◌++◌, [], ◌∷◌, Ok, Err, length, map, IfOk};
 ghost use Rattle.std.specs.Prelude.{OnOk};
 ghost use Rattle.zt_protocol.specs.Plain.{plain_entry};
-ghost use Rattle.zt_replay.specs.Dealt.{numbered_from};
+ghost use Rattle.zt_theorem_journal.specs.Dealt.{numbered_from};
 ghost use Rattle.zt_shared.specs.Recorded.{plain_outcome};
 ghost use Rattle.zt_workers.specs.Answers.{answered};
 ghost use Rattle.zt_workers.specs.Dealing.{with_lines};

@@ -1,9 +1,9 @@
 // A plan carried out, from its gateway to the answers of all lines.
 ghost use Rattle.std.specs.Prelude.{◌≡◌, ◌<◌, ◌^◌, length, map, IfOk};
-ghost use Rattle.zt_faithful.specs.Named.{HasNamedOptions};
+ghost use Rattle.zt_theorem_transcript.specs.Named.{HasNamedOptions};
 ghost use Rattle.zt_laws.specs.Sound.{HasFirstIds};
 ghost use Rattle.zt_model.specs.Transcript.{Each};
-ghost use Rattle.zt_replay.specs.Alone.{Speaks};
+ghost use Rattle.zt_theorem_journal.specs.Alone.{Speaks};
 ghost use Rattle.zt_workers.specs.Answers.{CarriesOut, answered};
 ghost use Rattle.zt_workers.specs.Plans.{IsPlan, call_of, plan_lines};
 

@@ -3,7 +3,7 @@ ghost use Rattle.std.specs.Prelude.{◌≡◌, ◌<◌, ◌++◌, [], ◌∷◌,
 ghost use Rattle.zt_laws.specs.Sound.{EachFrom};
 ghost use Rattle.zt_model.specs.Fabric.{call_face};
 ghost use Rattle.zt_protocol.specs.Plain.{plain_call};
-ghost use Rattle.zt_replay.specs.Dealt.{worker_of};
+ghost use Rattle.zt_theorem_journal.specs.Dealt.{worker_of};
 ghost use Rattle.zt_workers.specs.Dealing.{HasMade, HaveFirstIds, IsJob, apart, part};
 ghost use Rattle.zt_workers.specs.Plans.{numbered};
 

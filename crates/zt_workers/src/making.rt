@@ -6,8 +6,8 @@ ghost use Rattle.zt_model.specs.Journal.{cause_of, outcome_of, rows_after};
 ghost use Rattle.zt_model.specs.Says.{said};
 ghost use Rattle.zt_model.specs.Transcript.{Each};
 ghost use Rattle.zt_protocol.specs.Plain.{PlainCall, plain_call, plain_entry, plain_line};
-ghost use Rattle.zt_replay.specs.Alone.{gateway_named, made_entries, made_entry, made_rows};
-ghost use Rattle.zt_replay.specs.Alone.{opening_call, rows_made};
+ghost use Rattle.zt_theorem_journal.specs.Alone.{gateway_named, made_entries, made_entry, made_rows};
+ghost use Rattle.zt_theorem_journal.specs.Alone.{opening_call, rows_made};
 ghost use Rattle.zt_workers.specs.Opening.{IsEntryOf};
 
 use std::alloc::Global;

@@ -1,7 +1,7 @@
 // The calls of a script, made by workers on a gateway that they share.
 ghost use Rattle.std.specs.Prelude.{◌≡◌, ◌<◌, [], map, IfOk};
 ghost use Rattle.zt_model.specs.Transcript.{Each};
-ghost use Rattle.zt_replay.specs.Alone.{Speaks};
+ghost use Rattle.zt_theorem_journal.specs.Alone.{Speaks};
 ghost use Rattle.zt_shared.specs.Recorded.{journalled};
 ghost use Rattle.zt_workers.specs.Dealing.{IsMadeByWorkers};
 ghost use Rattle.zt_workers.specs.Plans.{call_of, numbered};

@@ -1,5 +1,5 @@
 use Rattle.std.proofs.Common.{sym, ◌∙◌}
-use Rattle.zt_kept.proofs.CallsRun.{call_runs}
+use Rattle.zt_theorem_soundness.proofs.CallsRun.{call_runs}
 use Rattle.zt_protocol.specs.Plain.{plain_call}
 use Rattle.zt_calls.proofs.carrying.carry_out.Goals as goal
 

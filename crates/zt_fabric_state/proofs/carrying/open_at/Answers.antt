@@ -1,7 +1,7 @@
 use Rattle.std.proofs.Common.{◌+◌, None, length, ap, subst, sym, ◌∙◌}
 use Rattle.zt_protocol.specs.Plain.{plain_call}
 use Rattle.zt_model.specs.Fabric.{Fabric}
-use Rattle.zt_places.specs.Found.{AreBelow}
+use Rattle.zt_link_queues.specs.Found.{AreBelow}
 use Rattle.zt_fabric_state.specs.Changes.{carried, said_sorted, without_last_place}
 use Rattle.zt_fabric_state.proofs.Carried.{placed_next}
 use Rattle.zt_fabric_state.proofs.Members.{member_there}

@@ -2,7 +2,7 @@ use Rattle.std.proofs.Common.{◌<◌, Some, length, arith, ap, sym, ◌∙◌}
 use Rattle.zt_protocol.specs.Plain.{plain_call}
 use Rattle.zt_model.specs.Fabric.{Node}
 use Rattle.zt_laws.specs.Sound.{rows_after_call}
-use Rattle.zt_places.proofs.Members.{set_at}
+use Rattle.zt_link_queues.proofs.Members.{set_at}
 use Rattle.zt_fabric_state.proofs.Members.{nth_at}
 use Rattle.zt_fabric_state.proofs.state.commit_in.Goals as goal
 

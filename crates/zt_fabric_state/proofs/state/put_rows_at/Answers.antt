@@ -1,6 +1,6 @@
 use Rattle.std.proofs.Common.{◌<◌, length, arith, ap}
 use Rattle.zt_model.specs.Fabric.{Node}
-use Rattle.zt_places.proofs.Members.{set_at}
+use Rattle.zt_link_queues.proofs.Members.{set_at}
 use Rattle.zt_fabric_state.proofs.state.put_rows_at.Goals as goal
 
 pub returns : goal.returns

@@ -4,7 +4,7 @@ use Rattle.zt_protocol.specs.Plain.{plain_call}
 use Rattle.zt_model.specs.Fabric.{Node}
 use Rattle.zt_model.specs.Says.{said}
 use Rattle.zt_laws.specs.Sound.{rows_after_call}
-use Rattle.zt_places.proofs.Members.{set_at}
+use Rattle.zt_link_queues.proofs.Members.{set_at}
 use Rattle.zt_fabric_state.proofs.Members.{member_is}
 use Rattle.zt_fabric_state.proofs.state.turn_in.Goals as goal
 

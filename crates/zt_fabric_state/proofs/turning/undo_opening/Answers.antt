@@ -1,6 +1,6 @@
 use Rattle.std.proofs.Common.{length, subst, sym}
 use Rattle.zt_model.specs.Fabric.{Fabric}
-use Rattle.zt_places.specs.Found.{AreBelow}
+use Rattle.zt_link_queues.specs.Found.{AreBelow}
 use Rattle.zt_fabric_state.proofs.Joints.{undone_free}
 use Rattle.zt_fabric_state.proofs.turning.undo_opening.Goals as goal
 

@@ -1,8 +1,8 @@
 use Rattle.std.proofs.Common.{◌≡◌, None, ap, subst, sym, ◌∙◌}
 use Rattle.zt_protocol.specs.Plain.{plain_call}
 use Rattle.zt_gateway.proofs.Accepted.{face_of_accepted, numbers_are_left, outcome_of_accepted, rows_of_accepted}
-use Rattle.zt_kept.proofs.Calls.{sound_after_any}
-use Rattle.zt_kept.specs.Sound.{IsSound}
+use Rattle.zt_theorem_soundness.proofs.Calls.{sound_after_any}
+use Rattle.zt_theorem_soundness.specs.Sound.{IsSound}
 use Rattle.zt_laws.specs.Sound.{rows_after_call}
 use Rattle.zt_model.specs.Journal.{cause_of, face_of_call}
 use Rattle.zt_gateway.proofs.carrying.carried.Goals as goal

@@ -1,5 +1,5 @@
 use Rattle.std.proofs.Common.{◌≡◌, ap, subst, sym, ◌∙◌}
-use Rattle.zt_kept.specs.Sound.{IsSound}
+use Rattle.zt_theorem_soundness.specs.Sound.{IsSound}
 use Rattle.zt_gateway.specs.Running.{Running}
 use Rattle.zt_gateway.proofs.gateway.plan.Goals as goal
 

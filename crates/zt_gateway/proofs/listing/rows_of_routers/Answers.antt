@@ -2,8 +2,8 @@ use Rattle.std.proofs.Common.{List, ap, flat_map, refl, ◌∙◌}
 use Rattle.std.proofs.lemmas.List.Concat.{flat_map-append}
 use Rattle.std.specs.BTreeSet.{BTreeSet}
 use Rattle.zt_region.specs.declared.region.Zid.{Zid}
-use Rattle.zt_routed.specs.Routed.{rows_in, rows_of}
-use Rattle.zt_routed.specs.declared.origin.Origin.{Origin}
+use Rattle.zt_link_state.specs.Routed.{rows_in, rows_of}
+use Rattle.zt_link_state.specs.declared.origin.Origin.{Origin}
 use Rattle.zt_gateway.specs.Declarers.{router_rows}
 use Rattle.zt_gateway.proofs.Listed.{router_rows_are}
 use Rattle.zt_gateway.proofs.Walks.{rest_done, rest_more}

@@ -1,5 +1,5 @@
 use Rattle.std.proofs.Common.{◌≡◌, ◌++◌, flat_map}
-use Rattle.zt_routed.specs.Routed.{rows_in}
+use Rattle.zt_link_state.specs.Routed.{rows_in}
 use Rattle.zt_gateway.specs.Declarers.{router_rows}
 use Rattle.zt_gateway.proofs.listing.rows_of_routers.Given as goal
 

@@ -1,6 +1,6 @@
 use Rattle.std.proofs.Common.{ap, ◌∙◌}
 use Rattle.zt_model.specs.Fabric.{Fabric, sorted_by_face}
-use Rattle.zt_queues.specs.Waiting.{with_printed}
+use Rattle.zt_link_queues.specs.Waiting.{with_printed}
 use Rattle.zt_links.proofs.linking.join.Goals as goal
 
 pub returns-in-Ok-clause-says : goal.returns-in-Ok-clause-says

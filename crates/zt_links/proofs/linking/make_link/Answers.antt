@@ -2,7 +2,7 @@ use Rattle.std.proofs.Common.{◌≡◌, ◌+◌, ◌++◌, [], ◌∷◌, lengt
 use Rattle.zt_protocol.specs.Plain.{plain_call}
 use Rattle.zt_model.specs.Fabric.{Fabric, call_at, sorted_by_face}
 use Rattle.zt_laws.specs.Order.{FabricIsInOrder}
-use Rattle.zt_places.specs.Found.{AreBelow}
+use Rattle.zt_link_queues.specs.Found.{AreBelow}
 use Rattle.zt_fabric_state.specs.Changes.{undone, without_last_place}
 use Rattle.zt_links.specs.Lines.{joined, opened_by_call, opened_end, said_by_opening}
 use Rattle.zt_links.proofs.Linked.{opening_links}

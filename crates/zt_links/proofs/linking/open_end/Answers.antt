@@ -5,7 +5,7 @@ use Rattle.zt_protocol.specs.Plain.{plain_call}
 use Rattle.zt_model.specs.Fabric.{Fabric, call_at, said_at, with_place, with_rows}
 use Rattle.zt_model.specs.Lists.{nth}
 use Rattle.zt_laws.specs.Sound.{rows_after_call}
-use Rattle.zt_places.specs.Found.{AreBelow}
+use Rattle.zt_link_queues.specs.Found.{AreBelow}
 use Rattle.zt_fabric_state.specs.Changes.{without_last_place}
 use Rattle.zt_fabric_state.proofs.Carried.{placed_next}
 use Rattle.zt_links.proofs.Carried.{said_opened}

@@ -1,6 +1,6 @@
 use Rattle.std.proofs.Common.{◌++◌, length, ap, arith, subst, sym, ◌∙◌}
 use Rattle.zt_model.specs.Fabric.{Fabric, sorted_by_face}
-use Rattle.zt_places.specs.Found.{AreBelow}
+use Rattle.zt_link_queues.specs.Found.{AreBelow}
 use Rattle.zt_fabric_state.specs.Changes.{undone, without_last_place}
 use Rattle.zt_links.specs.Lines.{joined}
 use Rattle.zt_links.proofs.linking.open_other.Goals as goal

@@ -4,7 +4,7 @@ use Rattle.zt_model.specs.Lists.{without_id}
 use Rattle.zt_model.specs.Places.{Link}
 use Rattle.zt_laws.specs.Order.{FabricIsInOrder}
 use Rattle.zt_laws.proofs.Unlinking.{closing_in_order}
-use Rattle.zt_queues.specs.Waiting.{with_printed}
+use Rattle.zt_link_queues.specs.Waiting.{with_printed}
 use Rattle.zt_fabric_state.specs.Changes.{row_after, undone}
 use Rattle.zt_links.specs.Lines.{for_others, parted}
 use Rattle.zt_links.proofs.Closings.{closing_links, closing_waits, unlink_does, unlink_says}

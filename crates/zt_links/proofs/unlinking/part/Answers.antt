@@ -1,7 +1,7 @@
 use Rattle.std.proofs.Common.{◌+◌, ◌++◌, false, ap, ◌∙◌}
 use Rattle.zt_model.specs.Fabric.{Fabric, at_nth, sorted_by_face}
 use Rattle.zt_model.specs.Lists.{without_id}
-use Rattle.zt_queues.specs.Waiting.{with_printed}
+use Rattle.zt_link_queues.specs.Waiting.{with_printed}
 use Rattle.zt_links.specs.Lines.{for_others}
 use Rattle.zt_links.proofs.unlinking.part.Goals as goal
 

@@ -2,8 +2,8 @@ use Rattle.std.proofs.Common.{List, ap, sym, ◌∙◌}
 use Rattle.std.proofs.lemmas.Result.{IfOk-weaker}
 use Rattle.std.specs.BTreeSet.{BTreeSet}
 use Rattle.zt_model.specs.Trees.{counted_table}
-use Rattle.zt_routed.specs.Routed.{rows_in}
-use Rattle.zt_routed.specs.declared.origin.Origin.{Origin}
+use Rattle.zt_link_state.specs.Routed.{rows_in}
+use Rattle.zt_link_state.specs.declared.origin.Origin.{Origin}
 use Rattle.zt_routers.specs.LeftOut.{exprs_left_out}
 use Rattle.zt_routers.proofs.Origins.{left_out-last}
 use Rattle.zt_tokens.specs.Gathered.{with_keys}

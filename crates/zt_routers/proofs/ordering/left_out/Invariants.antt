@@ -1,6 +1,6 @@
 use Rattle.std.proofs.Common.{◌≡◌, []}
 use Rattle.zt_model.specs.Trees.{counted_table}
-use Rattle.zt_routed.specs.Routed.{rows_in}
+use Rattle.zt_link_state.specs.Routed.{rows_in}
 use Rattle.zt_routers.specs.LeftOut.{exprs_left_out}
 use Rattle.zt_tokens.specs.Gathered.{with_keys}
 use Rattle.zt_routers.proofs.ordering.left_out.Given as goal

@@ -1,8 +1,8 @@
 use Rattle.std.proofs.Common.{List, ◌++◌, ap, append_assoc, sym, ◌∙◌}
 use Rattle.std.proofs.lemmas.List.{append-nil}
 use Rattle.std.specs.BTreeSet.{BTreeSet}
-use Rattle.zt_routed.specs.Routed.{rows_in, rows_of}
-use Rattle.zt_routed.specs.declared.origin.Origin.{Origin}
+use Rattle.zt_link_state.specs.Routed.{rows_in, rows_of}
+use Rattle.zt_link_state.specs.declared.origin.Origin.{Origin}
 use Rattle.zt_routers.specs.Hiding.{hidden_among}
 use Rattle.zt_routers.proofs.Origins.{hidden-split}
 use Rattle.zt_routers.proofs.own.hidden_regions.Goals as goal

@@ -1,7 +1,7 @@
 use Rattle.std.proofs.Common.{◌≡◌, ◌++◌}
 use Rattle.std.specs.List.{AllByRecursion}
 use Rattle.std.specs.List.Sorted.{IsStrictlySortedBy}
-use Rattle.zt_routed.specs.Routed.{keys_in, rows_in}
+use Rattle.zt_link_state.specs.Routed.{keys_in, rows_in}
 use Rattle.zt_routers.specs.Hiding.{hidden_among}
 use Rattle.zt_routers.proofs.own.hidden_regions.Given as goal
 

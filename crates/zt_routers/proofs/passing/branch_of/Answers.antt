@@ -1,7 +1,7 @@
 use Rattle.std.proofs.Common.{ap, subst, ◌∙◌}
 use Rattle.zt_protocol.specs.Plain.{Trees}
 use Rattle.zt_model.specs.Trees.{node_of}
-use Rattle.zt_tables.specs.Lookups.{HaveChildrenOf}
+use Rattle.zt_link_state.specs.Lookups.{HaveChildrenOf}
 use Rattle.zt_routers.proofs.Branches.{branch_to_nobody}
 use Rattle.zt_routers.proofs.passing.branch_of.Goals as goal
 

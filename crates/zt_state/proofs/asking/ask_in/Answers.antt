@@ -2,7 +2,7 @@ use Rattle.std.proofs.Common.{◌≡◌, ◌==◌, if◌then◌else◌, map, sub
 use Rattle.std.proofs.lemmas.Result.{on_ok_weaker}
 use Rattle.zt_model.specs.Routing.{asked_as}
 use Rattle.zt_model.specs.Rows.{Face}
-use Rattle.zt_seekers.specs.Seekers.{AreSeekers}
+use Rattle.zt_token_index.specs.Seekers.{AreSeekers}
 use Rattle.zt_state.proofs.Recounted.{not-found}
 use Rattle.zt_faces.proofs.Rising.{none-changed}
 use Rattle.zt_state.proofs.Sought.{sought-changed}

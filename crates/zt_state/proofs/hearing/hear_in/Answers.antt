@@ -3,7 +3,7 @@ use Rattle.std.proofs.lemmas.Result.{on_ok_weaker}
 use Rattle.zt_face.specs.Told.{heard_known}
 use Rattle.zt_model.specs.Hearing.{heard}
 use Rattle.zt_model.specs.Rows.{Face}
-use Rattle.zt_seekers.specs.Seekers.{AreSeekers}
+use Rattle.zt_token_index.specs.Seekers.{AreSeekers}
 use Rattle.zt_state.proofs.Recounted.{not-found}
 use Rattle.zt_faces.proofs.Rising.{none-changed}
 use Rattle.zt_state.proofs.Sought.{known-heard, sought-changed}

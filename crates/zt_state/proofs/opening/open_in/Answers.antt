@@ -1,7 +1,7 @@
 use Rattle.std.proofs.Common.{◌≡◌, ◌++◌, [], ◌∷◌, subst, sym}
 use Rattle.std.proofs.lemmas.Result.{on_ok_weaker}
-use Rattle.zt_seekers.specs.Seekers.{AreSeekers}
-use Rattle.zt_seekers.proofs.Changed.{seekers-opened}
+use Rattle.zt_token_index.specs.Seekers.{AreSeekers}
+use Rattle.zt_token_index.proofs.SeekersChanged.{seekers-opened}
 use Rattle.zt_state.proofs.opening.open_in.Goals as goal
 
 pub returns-clause-seekers : goal.returns-clause-seekers

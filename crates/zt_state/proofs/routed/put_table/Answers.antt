@@ -2,7 +2,7 @@ use Rattle.std.proofs.Common.{◌≡◌, OnOk, subst}
 use Rattle.std.specs.FinMap.Entries.{put}
 use Rattle.std.specs.declared.cmp.Ordering.{Ordering}
 use Rattle.zt_region.specs.declared.region.Region.{Region}
-use Rattle.zt_routed.proofs.Regions.{region_cmp-order}
+use Rattle.zt_link_state.proofs.Regions.{region_cmp-order}
 use Rattle.zt_state.proofs.routed.put_table.Goals as goal
 
 pub returns : goal.returns

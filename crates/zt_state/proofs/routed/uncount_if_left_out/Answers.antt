@@ -1,7 +1,7 @@
 use Rattle.std.proofs.Common.{map, subst, sym, ◌∙◌}
 use Rattle.zt_model.specs.Trees.{counted_table}
 use Rattle.zt_indexes.specs.Recounts.{Recounts, recounts-none}
-use Rattle.zt_routed.specs.Routed.{row_of}
+use Rattle.zt_link_state.specs.Routed.{row_of}
 use Rattle.zt_state.specs.Indexed.{routed_live}
 use Rattle.zt_state.proofs.Unrouted.{all-listed, none-listed}
 use Rattle.zt_state.proofs.routed.uncount_if_left_out.Goals as goal

@@ -1,8 +1,8 @@
 use Rattle.std.proofs.Common.{List, ap, ◌∙◌}
 use Rattle.std.specs.BTreeSet.{BTreeSet}
 use Rattle.zt_model.specs.Trees.{counted_table}
-use Rattle.zt_routed.specs.Routed.{rows_in, rows_of}
-use Rattle.zt_routed.specs.declared.origin.Origin.{Origin}
+use Rattle.zt_link_state.specs.Routed.{rows_in, rows_of}
+use Rattle.zt_link_state.specs.declared.origin.Origin.{Origin}
 use Rattle.zt_state.specs.Indexed.{routed_live}
 use Rattle.zt_state.specs.OwnRows.{listed_rows}
 use Rattle.zt_state.proofs.Unrouted.{leads-on, listed-split, origin-split}

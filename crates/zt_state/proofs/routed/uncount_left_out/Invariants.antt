@@ -1,5 +1,5 @@
 use Rattle.zt_model.specs.Trees.{counted_table}
-use Rattle.zt_routed.specs.Routed.{rows_in}
+use Rattle.zt_link_state.specs.Routed.{rows_in}
 use Rattle.zt_state.specs.Indexed.{routed_live}
 use Rattle.zt_state.specs.OwnRows.{listed_rows}
 use Rattle.zt_state.proofs.Unrouted.{Leads}

@@ -1,5 +1,5 @@
 use Rattle.std.proofs.Common.{◌≡◌, ◌≤◌, ◌<◌, ap, length, arith, ◌∙◌}
-use Rattle.zt_told.specs.Told.{id_of}
+use Rattle.zt_token_index.specs.Told.{id_of}
 use Rattle.zt_model.specs.Parts.{to_each, told_id}
 use Rattle.zt_model.specs.Telling.{answer_to}
 use Rattle.zt_state.proofs.Walks.{to_each_done, to_each_more}

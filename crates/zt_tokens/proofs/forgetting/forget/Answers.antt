@@ -1,6 +1,6 @@
 use Rattle.std.proofs.Common.{◌≡◌, ap, flat_map, sym, true, ◌∙◌}
 use Rattle.std.proofs.lemmas.Result.{IfOk-weaker}
-use Rattle.zt_told.specs.Told.{id_of}
+use Rattle.zt_token_index.specs.Told.{id_of}
 use Rattle.zt_model.specs.Parts.{to_each, told_id}
 use Rattle.zt_model.specs.Telling.{forget_to}
 use Rattle.zt_model.specs.Wants.{seeks}

@@ -1,6 +1,6 @@
 use Rattle.std.proofs.Common.{◌≡◌, [], ap, flat_map, true, false, ◌∙◌}
 use Rattle.std.proofs.lemmas.Result.{IfOk-weaker}
-use Rattle.zt_told.specs.Told.{id_of}
+use Rattle.zt_token_index.specs.Told.{id_of}
 use Rattle.zt_model.specs.Parts.{told_id}
 use Rattle.zt_model.specs.Telling.{tell_to}
 use Rattle.zt_model.specs.Wants.{seeks}

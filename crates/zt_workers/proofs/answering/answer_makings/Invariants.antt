@@ -1,6 +1,6 @@
 use Rattle.std.proofs.Common.{◌≡◌, ◌+◌, [], ◌∷◌, map, length, Ok}
 use Rattle.zt_protocol.specs.Plain.{plain_entry}
-use Rattle.zt_replay.specs.Dealt.{numbered_from}
+use Rattle.zt_theorem_journal.specs.Dealt.{numbered_from}
 use Rattle.zt_workers.specs.Answers.{answered}
 use Rattle.zt_workers.proofs.answering.answer_makings.Given as goal
 

@@ -1,5 +1,5 @@
 use Rattle.std.proofs.Common.{◌≡◌, ◌+◌, ◌++◌, Err, length, map, take}
-use Rattle.zt_replay.specs.Dealt.{numbered_from}
+use Rattle.zt_theorem_journal.specs.Dealt.{numbered_from}
 use Rattle.zt_workers.specs.Answers.{answered}
 use Rattle.zt_workers.proofs.answering.refuse.Given as goal
 

@@ -2,7 +2,7 @@ use Rattle.std.proofs.Common.{◌≡◌, ◌+◌, ◌==◌, ℕ, Bool, true, fal
 use Rattle.zt_protocol.specs.Plain.{plain_line}
 use Rattle.zt_model.specs.Journal.{is_speaking}
 use Rattle.zt_gateway.specs.Settings.{line_of}
-use Rattle.zt_replay.specs.Dealt.{numbered_from}
+use Rattle.zt_theorem_journal.specs.Dealt.{numbered_from}
 use Rattle.zt_workers.specs.Plans.{call_of, numbered}
 use Rattle.zt_workers.specs.declared.plan.Numbered.{Numbered}
 use Rattle.zt_workers.proofs.PlanLemmas.{numbers_more, other_kind, script_ended, script_speaks}

@@ -1,7 +1,7 @@
 use Rattle.std.proofs.Common.{◌≡◌, length, map, subst, sym, ap, arith}
 use Rattle.std.proofs.lemmas.List.{length-map}
 use Rattle.std.specs.List.{AllByRecursion}
-use Rattle.zt_passes.specs.Passes.{Standing}
+use Rattle.zt_shared_value.specs.Passes.{Standing}
 use Rattle.zt_shared.specs.Recorded.{Recorded, journalled}
 use Rattle.zt_workers.specs.Dealing.{IsMadeByWorkers, MayWork}
 use Rattle.zt_workers.specs.Plans.{numbered}

@@ -1,6 +1,6 @@
 use Rattle.std.proofs.Common.{◌∙◌, ap, subst, sym, length}
 use Rattle.zt_model.specs.Places.{Fabric}
-use Rattle.zt_places.specs.Found.{AreBelow}
+use Rattle.zt_link_queues.specs.Found.{AreBelow}
 use Rattle.zt_fabric_state.proofs.Joints.{placed_popped}
 use Rattle.zt_fabric_state.proofs.Placed.{place_popped, popped_as_many}
 use Rattle.zt_fabric_state.proofs.state.FabricState.pop_place.Goals as goal

@@ -1,6 +1,6 @@
 use Rattle.std.proofs.Common.{List, ◌+◌, ◌-◌, ◌≤◌, true, length, take, ap, subst, sym, arith, ◌∙◌}
 use Rattle.zt_model.specs.Places.{Fabric, Link}
-use Rattle.zt_places.specs.Found.{AreBelow}
+use Rattle.zt_link_queues.specs.Found.{AreBelow}
 use Rattle.zt_fabric_state.proofs.Carried.{on_ok}
 use Rattle.zt_fabric_state.proofs.Joints.{links_pushed}
 use Rattle.zt_fabric_state.proofs.Placed.{fabric_of, front}

@@ -1,5 +1,5 @@
 use Rattle.std.proofs.Common.{◌≡◌, ◌++◌, ap, subst, sym, ◌∙◌}
-use Rattle.zt_kept.specs.Sound.{IsSound}
+use Rattle.zt_theorem_soundness.specs.Sound.{IsSound}
 use Rattle.zt_model.specs.Rows.{Rows}
 use Rattle.zt_model.specs.Says.{Sends}
 use Rattle.zt_gateway.specs.Running.{Planned, Running, without_closed}

@@ -1,6 +1,6 @@
 use Rattle.std.proofs.Common.{◌≡◌, ◌++◌, ap, subst, sym, ◌∙◌}
 use Rattle.zt_protocol.specs.Plain.{plain_call}
-use Rattle.zt_kept.specs.Sound.{IsSound}
+use Rattle.zt_theorem_soundness.specs.Sound.{IsSound}
 use Rattle.zt_laws.specs.Sound.{rows_after_call}
 use Rattle.zt_model.specs.Rows.{Rows}
 use Rattle.zt_model.specs.Says.{Sends}

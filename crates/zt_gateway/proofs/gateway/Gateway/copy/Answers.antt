@@ -1,5 +1,5 @@
 use Rattle.std.proofs.Common.{subst, sym}
-use Rattle.zt_kept.specs.Sound.{IsSound}
+use Rattle.zt_theorem_soundness.specs.Sound.{IsSound}
 use Rattle.zt_gateway.proofs.gateway.Gateway.copy.Goals as goal
 
 pub invariant_of-result : goal.invariant_of-result

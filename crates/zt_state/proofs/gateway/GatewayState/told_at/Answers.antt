@@ -1,8 +1,8 @@
 use Rattle.std.proofs.Common.{subst, sym}
 use Rattle.zt_model.specs.Rows.{Face}
-use Rattle.zt_seekers.proofs.ToldAt.{count-told, ids-told}
+use Rattle.zt_token_index.proofs.ToldAt.{count-told, ids-told}
 use Rattle.zt_state.specs.Told.{AreToldIds}
-use Rattle.zt_told.specs.Told.{AreRising}
+use Rattle.zt_token_index.specs.Told.{AreRising}
 use Rattle.zt_state.proofs.Sought.{numbers-sorted}
 use Rattle.zt_state.proofs.gateway.GatewayState.told_at.Goals as goal
 

@@ -1,3 +1,0 @@
-pub mod Silent
-pub mod Named
-pub mod Whole

@@ -1,5 +1,0 @@
-use Rattle.zt_kept.proofs.Calls.{keeps_exactly}
-use Rattle.zt_kept.proofs.admitted_faces_keep_exactly.Goals as goal
-
-pub returns : goal.returns
-returns g c = λ rows f e right none_ covered. keeps_exactly g.K.Ord.cmp g.K.Key.matching g.met.K.Ord.total g.met.K.Key.laws.equal_is_same rows f e right none_ covered

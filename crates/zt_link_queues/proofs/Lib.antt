@@ -1,0 +1,5 @@
+pub mod Growing
+mod Ends
+pub mod Members
+mod Numbers
+mod Pairs

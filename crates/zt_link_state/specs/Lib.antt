@@ -1,0 +1,5 @@
+pub mod More
+pub mod Routed
+pub mod KeysOf
+pub mod Listed
+pub mod Lookups

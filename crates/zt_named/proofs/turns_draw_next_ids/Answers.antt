@@ -1,5 +1,0 @@
-use Rattle.zt_named.proofs.Turns.{turns_draw}
-use Rattle.zt_named.proofs.turns_draw_next_ids.Goals as goal
-
-pub returns : goal.returns
-returns g c = λ lines s real fine. turns_draw g.K.Ord.cmp g.K.Key.matching g.met.K.Ord.total lines s real fine

@@ -1,9 +1,0 @@
-use Rattle.std.proofs.Common.{◌≡◌, ◌≤◌, length, take}
-use Rattle.std.specs.List.{AllByRecursion, AllZip}
-use Rattle.zt_passes.specs.Account.{IsCounted}
-use Rattle.zt_passes.proofs.closing.missing.Given as goal
-
-abbrev pub invariant-loop-i : goal.invariant-loop-i
-invariant-loop-i g l = AllZip IsCounted l.fn.passes.items l.passes.items
-    × AllByRecursion (λ pass. pass.known ≤ l.handed) (take l.i l.passes.items)
-    × (l.handed ≡ length l.passes.items)

@@ -1,6 +1,0 @@
-use Rattle.std.proofs.Common.{rules}
-use Rattle.zt_passes.proofs.Allowed.{counts_at}
-use Rattle.zt_passes.proofs.steps.count.Goals as goal
-
-pub load-requires : goal.load-requires
-load-requires g c = (search rules, search rules, counts_at _ _ _ _ _ _ _ c.requires.one)

@@ -1,4 +1,0 @@
-mod Ends
-pub mod Members
-mod Numbers
-mod Pairs

@@ -1,5 +1,0 @@
-use Rattle.zt_places.proofs.Numbers.{numbers_none}
-use Rattle.zt_places.proofs.places.Places.new.Goals as goal
-
-pub invariant_of-result : goal.invariant_of-result
-invariant_of-result c = rw (c.new-2.ensures.empty, c.new.ensures.items) numbers_none

@@ -1,5 +1,0 @@
-use Rattle.zt_replay.proofs.Replay.{calls_come}
-use Rattle.zt_replay.proofs.journals_are_transcripts.Goals as goal
-
-pub returns : goal.returns
-returns g c = calls_come g.K.Ord.cmp g.K.Key.matching g.met.K.Ord.total

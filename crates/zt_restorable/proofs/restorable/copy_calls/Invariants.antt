@@ -1,7 +1,0 @@
-use Rattle.std.proofs.Common.{◌≡◌, ◌++◌, drop, map}
-use Rattle.zt_restorable.specs.Kept.{kept_call}
-use Rattle.zt_restorable.proofs.restorable.copy_calls.Given as goal
-
--- what is copied so far, and what is left, is all
-abbrev pub invariant-loop-kept : goal.invariant-loop-kept
-invariant-loop-kept g l = map kept_call l.copies.items ++ map kept_call (drop l.kept-index l.calls) ≡ map kept_call l.calls

@@ -1,5 +1,0 @@
-pub mod Entries
-pub mod Flat
-pub mod More
-pub mod Origins
-pub mod Regions

@@ -1,6 +1,0 @@
-use Rattle.std.proofs.Common.{refl}
-use Rattle.zt_seekers.proofs.Changed.{seekers-unheld}
-use Rattle.zt_seekers.proofs.seekers.Seekers.unhold.Goals as goal
-
-pub returns : goal.returns
-returns g c = rw (← c.self.view_is) (seekers-unheld g.K.Ord.cmp g.K.Key.anchored c.args.f.now c.args.id _ _ refl refl c.drop_held.ensures.drops)

@@ -1,2 +1,0 @@
-pub mod Seekers
-pub mod Told

@@ -1,5 +1,0 @@
-use Rattle.zt_spared.proofs.Sparing.{turns_spare}
-use Rattle.zt_spared.proofs.turns_are_sparing.Goals as goal
-
-pub returns : goal.returns
-returns g c = λ lines s real fine. turns_spare g.K.Ord.cmp g.K.Key.matching g.met.K.Ord.total lines s real fine

@@ -1,4 +1,0 @@
-mod Children
-mod Clashes
-mod Looked
-mod Nodes

@@ -1,7 +1,0 @@
-use Rattle.std.proofs.Common.{◌∙◌}
-use Rattle.zt_tables.proofs.Children.{pair_found}
-use Rattle.zt_tables.proofs.lookups.has_pair.Goals as goal
-
-pub returns : goal.returns
-returns c =
-    c.is_ok.ensures.value ∙ pair_found c.args.source c.args.router c.args.pairs.now c.binary_search.result c.requires c.binary_search.ensures.bound c.binary_search.ensures.position

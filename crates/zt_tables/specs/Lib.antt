@@ -1,3 +1,0 @@
-pub mod KeysOf
-pub mod Listed
-pub mod Lookups

@@ -1,0 +1,14 @@
+pub mod Last
+pub mod Initial
+pub mod Asks
+pub mod Ending
+pub mod Still
+pub mod Closing
+pub mod Calls
+pub mod Interests
+pub mod Standing
+pub mod Linked
+pub mod Turns
+pub mod Silent
+pub mod Named
+pub mod Whole

@@ -1,0 +1,11 @@
+use Rattle.zt_model.specs.Fabric.{empty_fabric}
+use Rattle.zt_theorem_soundness.proofs.Sound.{sound_start}
+use Rattle.zt_theorem_tree_invariant.proofs.Start.{agree_at_first}
+use Rattle.zt_theorem_tree_knowledge.proofs.Turns.{turns_know}
+use Rattle.zt_theorem_tree_knowledge.proofs.turns_know_their_trees.Goals as goal
+
+pub returns : goal.returns
+returns g c = record {
+  start = λ lines real trees. turns_know g.K.Ord.cmp g.K.Key.matching g.met.K.Ord.total g.met.K.Key.laws.equal_is_same lines empty_fabric real (sound_start g.K.Ord.cmp g.K.Key.matching) (agree_at_first g.K.Ord.cmp g.K.Key.matching) trees;
+  later = λ lines s real sound agree trees. turns_know g.K.Ord.cmp g.K.Key.matching g.met.K.Ord.total g.met.K.Key.laws.equal_is_same lines s real sound agree trees;
+}

@@ -1,6 +1,0 @@
-mod Changed
-mod Copied
-mod Left
-mod Ordered
-mod Pairs
-mod Placed

@@ -1,8 +1,0 @@
-use Rattle.std.proofs.Common.{sym, ◌∙◌}
-use Rattle.zt_told.proofs.Ordered.{told-ordered}
-use Rattle.zt_told.proofs.index.ToldIndex.at.Goals as goal
-
-pub returns-clause-told : goal.returns-clause-told
-returns-clause-told g c =
-    rw (← c.self.view_is)
-    (c.pairs_at.ensures.pairs ∙ sym (told-ordered g.K.Ord.cmp g.met.K.Ord.total c.args.expr.now c.self.inside.faces.entries))
