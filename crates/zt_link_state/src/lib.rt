@@ -1,6 +1,6 @@
 //! The link state of router regions. A region's table is kept as it was handed in, with look-ups of
-//! the entries that count; it stands for Zenoh's link-state tree tables. Beside it are the tokens of
-//! the region's routers, in order: by region, by the router that declares them, by expression. A
+//! the entries that count; it stands for Zenoh's link-state tree tables. Beside it are the tokens
+//! of the region's routers, in order: by region, by the router that declares them, by expression. A
 //! token is put in its place, taken away or looked up without going through the others.
 #![tactic(auto)]
 

@@ -1,7 +1,7 @@
 //! What a transcript of the machine is: theorems over the machine of `zt_model`, each the contract
-//! of a function that does nothing. They stand on `zt_theorem_soundness`, `zt_theorem_drawn_ids` and `zt_theorem_visibility`. Each part
-//! is said of the turns of a transcript, from any fabric of sound gateways on, and at the end they
-//! are put together.
+//! of a function that does nothing. They stand on `zt_theorem_soundness`, `zt_theorem_drawn_ids`
+//! and `zt_theorem_visibility`. Each part is said of the turns of a transcript, from any fabric of
+//! sound gateways on, and at the end they are put together.
 #![tactic(auto)]
 
 ghost use Rattle.std.specs.Prelude.{List};

@@ -1,7 +1,7 @@
 //! What faces know in trees of client gateways, over every list of lines: theorems over the
 //! definitions of `zt_model`, each the contract of a function that does nothing. They stand on
-//! `zt_theorem_tree_invariant`, which says what is true of trees after every line. The first two say
-//! what calls leave of single gateways.
+//! `zt_theorem_tree_invariant`, which says what is true of trees after every line. The first two
+//! say what calls leave of single gateways.
 #![tactic(auto)]
 
 ghost use Rattle.std.specs.Prelude.{◌≡◌, ℕ, Bool, true, false, None, ◌≢◌, List, Err};
