@@ -17,9 +17,10 @@ use Rattle.zt_model.specs.Hearing.{heard, heard_all, put_if}
 use Rattle.zt_model.specs.Lists.{at_id, has_id, is_among, same}
 use Rattle.zt_model.specs.Rows.{Ask, ById, Face, InterestRow, Rows}
 use Rattle.zt_model.specs.Says.{answered_expressions, answers_from, asked, final_of, told_id}
-use Rattle.zt_model.specs.Transcript.{Each, KeepsWhatItShould}
+use Rattle.zt_model.specs.Transcript.{Each}
 use Rattle.zt_model.specs.Visible.{is_admitted, is_visible, keeps, visible_expressions}
 use Rattle.zt_model.specs.Wants.{asks_token, covers, is_about, seeks, wants}
+use Rattle.zt_laws.specs.Keeping.{KeepsRight}
 use Rattle.zt_laws.specs.Sound.{IsToldInOrder}
 use Rattle.zt_laws.proofs.Keys.{InKeyOrder, among-filter, in_order_filter, once_in_order}
 use Rattle.zt_laws.proofs.Lists.{by_test, never, each_append, each_passes, each_weaker, any-append}
@@ -228,7 +229,7 @@ module _ {K : Type 0} (cmp : K → K → Ordering) (matching : K → K → Bool)
         → ((x : K) → is_admitted cmp g2 f2.region x ≡ is_admitted cmp g0 f0.region x)
         → ((x : K) → seeks matching f2 x ≡ (seeks matching f0 x || (is_future interest.mode && asks_token matching interest x)))
         → ((x : K) → covers matching f2 x ≡ (covers matching f0 x || (is_future interest.mode && (is_current interest.mode && asks_token matching interest x))))
-        → KeepsWhatItShould cmp matching g0 f0 → KeepsWhatItShould cmp matching g2 f2
+        → KeepsRight cmp matching g0 f0 → KeepsRight cmp matching g2 f2
     keeps_after_asking g0 g2 f0 f2 interest kept_ visible_ admitted_ seeks_ covers_ right = record {
       kept_is_visible = λ x h.
           ⊎_elim (λ old. visible_ x ∙ right.kept_is_visible x old) (λ new_. visible_ x ∙ (told_parts x new_).3)

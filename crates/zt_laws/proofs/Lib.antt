@@ -3,6 +3,7 @@ pub mod Hearing
 pub mod Keys
 pub mod Told
 pub mod Visible
+pub mod Seen
 pub mod Telling
 pub mod Forgetting
 pub mod Interests

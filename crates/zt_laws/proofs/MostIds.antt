@@ -158,7 +158,7 @@ module _ {K : Type 0} (cmp : K → K → Ordering) (matching : K → K → Bool)
 
   -- A call that could draw more ids than are left is one of a line that could, whatever is printed for it.
   pub call_may_lack : (ps : List (ℕ × ℕ)) (c : PlainCall K) (g : Rows K) → could_spend_ids cmp matching c g ≡ true → LacksIn (rows_shown cmp ps c g)
-  unfolding could_spend_ids could rows_shown with_face
+  unfolding could_spend_ids could rows_shown with_face source_of
   call_may_lack ps (DeclareToken n id e node interest) g spends = cases (find_face n g) spends
     where
       by_source : (f : Face K) (o : Option Zid) → LacksMore g (upstream_ids (with_source cmp f o e g)) g.faces → LacksIn (with_source cmp f o e g)

@@ -168,7 +168,7 @@ module _ {K : Type 0} (cmp : K → K → Ordering) (matching : K → K → Bool)
 
   pub declared_shown : (n id node : ℕ) (e : K) (interest : Option ℕ) (pendings : List (ℕ × ℕ)) (g : Rows K)
       → without_own (altered cmp matching (DeclareToken n id e node interest) g) ≡ without_own (rows_shown cmp pendings (DeclareToken n id e node interest) g)
-  unfolding parts_of rows_shown altered_by
+  unfolding parts_of rows_shown altered_by table_of source_of
   declared_shown n id node e interest pendings g = cases (find_face n g)
     where
       by_source : (f : Face K) (o : Option Zid) → without_own (altered_by cmp matching (declaring_of cmp matching n o e f) g) ≡ without_own (with_source cmp f o e g)
@@ -191,7 +191,7 @@ module _ {K : Type 0} (cmp : K → K → Ordering) (matching : K → K → Bool)
 
   undeclared_shown : (n id node : ℕ) (given : Option K) (pendings : List (ℕ × ℕ)) (g : Rows K) → ListsAreInOrder cmp matching g
       → without_own (altered cmp matching (UndeclareToken n id given node) g) ≡ without_own (rows_shown cmp pendings (UndeclareToken n id given node) g)
-  unfolding parts_of rows_shown altered_by
+  unfolding parts_of rows_shown altered_by table_of source_of
   undeclared_shown n id node given pendings g lists = cases (find_face n g) refl
     where
       by_source : (f : Face K) (o : Option Zid) (e : Option K) → without_own (altered_by cmp matching (undeclaring_of cmp matching n o e f) g) ≡ without_own (without_source cmp f o e g)

@@ -1,4 +1,5 @@
 pub mod Effects
+pub mod Keeping
 pub mod Kept
 pub mod Order
 pub mod Shown

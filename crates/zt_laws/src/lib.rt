@@ -31,7 +31,7 @@ pub use messages::{
     sorting_keeps_each_faces_messages, told_is_kept,
 };
 pub use order::{calls_keep_order, lines_keep_order};
-pub use shown::transcripts_show_what_is_kept;
+pub use shown::{transcripts_show_what_is_kept, words_of_promises_are_kept_to};
 use zt_keys::Key;
 
 /// What faces hear of a rule's messages. Where each face is sent what the rule gives for it, each

@@ -11,6 +11,7 @@ pub mod Entities
 pub mod Trees
 pub mod Closing
 pub mod Says
+pub mod Seen
 pub mod Shown
 pub mod Refusals
 pub mod Places

@@ -25,11 +25,12 @@ use Rattle.zt_model.specs.Lists.{at_id, has_id, is_among, is_some_and, nth, same
 use Rattle.zt_model.specs.Parts.{find_face, is_routed}
 use Rattle.zt_model.specs.Routing.{asks_same, is_held_south, is_target, opening_interests, stands}
 use Rattle.zt_model.specs.Rows.{Ask, Face, InterestRow, Rows}
-use Rattle.zt_model.specs.Shown.{interest_kept}
-use Rattle.zt_model.specs.Telling.{registers, was_sent_as}
+use Rattle.zt_model.specs.Seen.{concerns, is_interested, is_owed, is_seen, is_seen_and_admitted, may_hear, sees}
+use Rattle.zt_model.specs.Shown.{counts_as_declared, interest_kept}
+use Rattle.zt_model.specs.Telling.{was_sent_as}
 use Rattle.zt_model.specs.Transcript.{Each, fabric_shown, fabric_with, messages_of, openings}
-use Rattle.zt_model.specs.Visible.{is_admitted, is_visible, keeps, shows}
-use Rattle.zt_model.specs.Wants.{asks_token, covers, is_about, seeks, wants}
+use Rattle.zt_model.specs.Visible.{keeps}
+use Rattle.zt_model.specs.Wants.{is_about}
 pub use Rattle.zt_model.specs.Transcript.{FaceAt}
 unfoldable pub use Rattle.zt_model.specs.Transcript.{face_numbered}
 
@@ -130,20 +131,20 @@ module _ {K : Type 0} (cmp : K → K → Ordering) (matching : K → K → Bool)
 
   -- Where an admission table refuses no pair, a face keeps of what it covers exactly what is visible.
   abbrev pub KeepsExactly : Turn K → Type 0
-  KeepsExactly t = EachFace (λ n g f. is_routed g f ≡ false → g.refused ≡ [] → (e : K) → covers matching f e ≡ true → keeps cmp f e ≡ is_visible cmp g f.region e) t.after
+  KeepsExactly t = EachFace (λ n g f. is_routed g f ≡ false → g.refused ≡ [] → (e : K) → is_owed matching f e ≡ true → keeps cmp f e ≡ is_seen cmp g f.region e) t.after
 
   -- ---- sparing
 
   -- an ask of the id that asks for the expression's tokens stood at the face, or was made
   abbrev pub is_asked_for : Turn K → ℕ → ℕ → K → Bool
   is_asked_for t n id e =
-      is_some_and (face_numbered (with_line t) n) (λ x. is_some_and (at_id id x.face.asks) (λ ask. asks_token matching ask.interest e))
+      is_some_and (face_numbered (with_line t) n) (λ x. is_some_and (at_id id x.face.asks) (λ ask. concerns matching ask.interest e))
 
   -- Outside router regions a token that answers nobody is printed for a face only with a real id, and only if the face
   -- seeks it then; an answer only for a token ask of its id that it matches.
   abbrev pub SparesMessage : Turn K → ℕ → Message K → Option (FaceAt K) → Type 0
   SparesMessage t n (message.DeclareToken id e None node) (Some x) =
-      is_routed x.rows x.face ≡ false → (nat_lt 0 id ≡ true) × (seeks matching x.face e ≡ true)
+      is_routed x.rows x.face ≡ false → (nat_lt 0 id ≡ true) × (may_hear matching x.face e ≡ true)
   SparesMessage t n (message.DeclareToken id e (Some interest) node) (Some x) =
       is_routed x.rows x.face ≡ false → is_asked_for t n interest e ≡ true
   SparesMessage t n _ at = Unit {0}
@@ -154,7 +155,7 @@ module _ {K : Type 0} (cmp : K → K → Ordering) (matching : K → K → Bool)
   -- And, but where the face is new, the token is admitted to it; and an answer is printed so for faces of every region.
   abbrev pub SparesMore : Turn K → ℕ → Message K → Option (FaceAt K) → Type 0
   SparesMore t n (message.DeclareToken id e None node) (Some x) =
-      is_routed x.rows x.face ≡ false → is_open_face t.before n ≡ true → is_admitted cmp x.rows x.face.region e ≡ true
+      is_routed x.rows x.face ≡ false → is_open_face t.before n ≡ true → is_seen_and_admitted cmp x.rows x.face.region e ≡ true
   SparesMore t n (message.DeclareToken id e (Some interest) node) at = is_asked_for t n interest e ≡ true
   SparesMore t n _ at = Unit {0}
 
@@ -167,7 +168,7 @@ module _ {K : Type 0} (cmp : K → K → Ordering) (matching : K → K → Bool)
   -- the region shown.
   abbrev pub TellsWhoWants : Region → K → Rows K → Type 0
   TellsWhoWants source e g =
-      Each (λ f. is_routed g f ≡ false → wants matching f e ≡ true → admits g.refused source f.region ≡ true → shows f.region source ≡ true → keeps cmp f e ≡ true) g.faces
+      Each (λ f. is_routed g f ≡ false → is_interested matching f e ≡ true → admits g.refused source f.region ≡ true → sees f.region source ≡ true → keeps cmp f e ≡ true) g.faces
 
   -- they do after an accepted declaration that passes a test
   abbrev pub TellsAfter : (Rows K → Face K → Option ℕ → Bool) → Fabric K → CallAt K → Type 0
@@ -184,7 +185,7 @@ module _ {K : Type 0} (cmp : K → K → Ordering) (matching : K → K → Bool)
 
   -- after a declaration that registers
   abbrev pub TellsTheFuture : Turn K → Type 0
-  TellsTheFuture t = Each (TellsAfter (λ g f interest. not (is_routed g f) && registers f interest) t.after) (calls_in t)
+  TellsTheFuture t = Each (TellsAfter (λ g f interest. not (is_routed g f) && counts_as_declared f interest) t.after) (calls_in t)
 
   -- and after one in a router region
   abbrev pub TellsOfRouters : Turn K → Type 0
@@ -215,7 +216,7 @@ module _ {K : Type 0} (cmp : K → K → Ordering) (matching : K → K → Bool)
   -- A token ask is answered in its own entry exactly the matching expressions visible to its face. Later it is
   -- answered an expression only where that is declared under one of its pendings, and then it is, once.
   pub record IsAnswered (t : Turn K) (gateway : ℕ) (g : Rows K) (f : Face K) (id : ℕ) (ask : Ask K) : Type 0 where
-    pub at_once : list_any (is_asking gateway f.number id) (calls_in t) ≡ true → (e : K) → is_among cmp e (answers_in id (printed_to t gateway f)) ≡ (is_about matching ask.interest.expr e && is_visible cmp g f.region e)
+    pub at_once : list_any (is_asking gateway f.number id) (calls_in t) ≡ true → (e : K) → is_among cmp e (answers_in id (printed_to t gateway f)) ≡ (is_about matching ask.interest.expr e && is_seen cmp g f.region e)
     pub only_declared : list_any (is_asking gateway f.number id) (calls_in t) ≡ false → (e : K) → is_among cmp e (answers_in id (printed_to t gateway f)) ≡ true → list_any (is_answering gateway ask e) (calls_in t) ≡ true
     pub each_declared : (e : K) → is_about matching ask.interest.expr e ≡ true → list_any (is_answering gateway ask e) (calls_in t) ≡ true → is_among cmp e (ask.answered ++ answers_in id (printed_to t gateway f)) ≡ true
     pub once : are_new ask.answered (answers_in id (printed_to t gateway f)) ≡ true
@@ -300,7 +301,7 @@ module _ {K : Type 0} (cmp : K → K → Ordering) (matching : K → K → Bool)
 
   -- Outside router regions an undeclaration by expression is printed only where the expression isn't visible.
   abbrev pub IsGone : Message K → Option (FaceAt K) → Type 0
-  IsGone (message.UndeclareToken id (Some e) node) (Some x) = is_routed x.rows x.face ≡ false → is_visible cmp x.rows x.face.region e ≡ false
+  IsGone (message.UndeclareToken id (Some e) node) (Some x) = is_routed x.rows x.face ≡ false → is_seen cmp x.rows x.face.region e ≡ false
   IsGone _ at = Unit {0}
 
   abbrev pub UndeclaresWhatIsGone : Turn K → Type 0
@@ -331,8 +332,8 @@ module _ {K : Type 0} (cmp : K → K → Ordering) (matching : K → K → Bool)
 
   -- ---- what messages name
 
-  -- A token that answers nobody is told once: under the next id. What is ended by an id stands under it then: a kept
-  -- pair by an undeclaration, a local by an interest's final.
+  -- A token that answers nobody is told under the next id. What is ended by an id stands under it then: a kept pair by
+  -- an undeclaration, a local by an interest's final.
   abbrev pub names_what_stands : Message K → Face K → Bool
   names_what_stands (message.DeclareToken id e None node) f = (id == 0) || (id == f.next)
   names_what_stands (message.UndeclareToken id None node) f = has_id id f.told

@@ -17,15 +17,15 @@ use Rattle.zt_protocol.specs.declared.errors.Refusal.{Refusal}
 use Rattle.zt_protocol.specs.declared.errors.Refusal.TheVariants.{IdsSpent}
 use Rattle.zt_protocol.specs.declared.messages.Message.{Message}
 use Rattle.zt_protocol.specs.declared.messages.Message.TheVariants.{Interest}
-use Rattle.zt_model.specs.Fabric.{CallAt, Fabric, Node, after_hearing, after_refusal, both_ends, call_of, closing_call, line_causes, new_rows, number_of_place, opening_at, printed_for, with_gateway, with_place, with_rows, with_session, with_waiting, without_message}
-use Rattle.zt_model.specs.Linking.{LinkEnd, link_ends, with_link, without_link}
+use Rattle.zt_model.specs.Fabric.{CallAt, Fabric, Link, Node, after_hearing, after_refusal, both_ends, call_at_place, call_of, closing_call, line_causes, new_rows, number_of_place, opening_at, printed_for, with_gateway, with_place, with_rows, with_session, with_waiting}
+use Rattle.zt_model.specs.Linking.{LinkEnd, call_of_message, link_ends, waiting_of, with_link, without_link}
 use Rattle.zt_model.specs.Lists.{is_some_and, nth}
 use Rattle.zt_model.specs.Parts.{find_face, is_routed}
 use Rattle.zt_model.specs.Refusals.{could_spend_ids, first_cause, left_ids}
 use Rattle.zt_model.specs.Rows.{Face, Rows}
+use Rattle.zt_model.specs.Seen.{is_owed, is_seen, is_seen_and_admitted, may_hear}
 use Rattle.zt_model.specs.Shown.{rows_shown}
-use Rattle.zt_model.specs.Visible.{is_admitted, is_visible, keeps, visible_expressions}
-use Rattle.zt_model.specs.Wants.{covers, seeks}
+use Rattle.zt_model.specs.Visible.{keeps, visible_expressions}
 
 -- a fact of each member
 abbrev pub Each : {A : Type 0} → (A → Type 0) → List A → Type 0
@@ -94,6 +94,39 @@ abbrev pub pendings_printed : {K : Type 0} → Fabric K → List (Sent K) → Ca
 pendings_printed s ms at =
     flat_map (λ f. if is_north f.region then map (λ id. (f.number, id)) (current_ids (printed_for (number_of_place s at.gateway f.number) ms)) else []) at.rows.faces
 
+-- A step takes the oldest message of a direction: forth it is one that was printed for the link's first face, and the
+-- second face speaks it. Back is the other way round.
+abbrev pub printed_end : Link → Bool → ℕ
+printed_end link back = if back then link.two else link.one
+
+abbrev pub speaking_face : Link → Bool → ℕ
+speaking_face link back = if back then link.one else link.two
+
+abbrev pub without_oldest : {M : Type 0} → List M → List M
+without_oldest [] = []
+without_oldest (m ∷ ms) = ms
+
+abbrev pub oldest_of : {M : Type 0} → List M → Option M
+oldest_of [] = None
+oldest_of (m ∷ ms) = Some m
+
+-- the call that a step makes
+abbrev pub call_stepped : {K : Type 0} → Fabric K → Bool → Option Link → Option (CallAt K)
+call_stepped s back None = None
+call_stepped s back (Some link) =
+    elim (oldest_of (waiting_of s (printed_end link back))) [
+      | None ↦ None
+      | Some m ↦ elim (call_of_message 0 m) [ None ↦ None | Some call ↦ call_at_place s call (nth (speaking_face link back) s.faces) ]
+    ]
+
+-- and what it leaves waiting
+abbrev pub with_stepped : {K : Type 0} → ℕ → Bool → Fabric K → Fabric K
+with_stepped n back s =
+    elim (nth n s.links) [
+      | None ↦ s
+      | Some link ↦ record s { waiting = map (λ row. if printed_end link back == row.0 then (row.0, without_oldest row.1) else row) s.waiting }
+    ]
+
 module _ {K : Type 0} (cmp : K → K → Ordering) (matching : K → K → Bool) where
   -- an accepted call changes the rows of its gateway
   abbrev pub with_call : List (Sent K) → Option (CallAt K) → Fabric K → Fabric K
@@ -129,7 +162,7 @@ module _ {K : Type 0} (cmp : K → K → Ordering) (matching : K → K → Bool)
       with_opening (call_of (FaceLine gateway mode zid region bound first) s) s
   fabric_with (LinkLine one two first back) ms s = with_openings (link_ends s one two first back) (with_link s)
   fabric_with (Unlink link) ms s = without_link link (with_closings (both_ends cmp matching s link) s)
-  fabric_with (Step link back) ms s = with_call ms (call_of (Step link back) s) (without_message link back s)
+  fabric_with (Step link back) ms s = with_call ms (call_stepped s back (nth link s.links)) (with_stepped link back s)
   fabric_with (Speak call) ms s = with_call ms (call_of (Speak call) s) s
   fabric_with (Moment gateway now) ms s = with_call ms (call_of (Moment gateway now) s) s
   fabric_with (SetTreesAt gateway region table) ms s = with_call ms (call_of (SetTreesAt gateway region table) s) s
@@ -172,9 +205,9 @@ module _ {K : Type 0} (cmp : K → K → Ordering) (matching : K → K → Bool)
   -- An open face keeps, by its own printed messages alone, only visible tokens that it seeks, among them
   -- every admitted one that it covers.
   pub record KeepsWhatItShould (g : Rows K) (f : Face K) : Type 0 where
-    pub kept_is_visible : (e : K) → keeps cmp f e ≡ true → is_visible cmp g f.region e ≡ true
-    pub kept_is_sought : (e : K) → keeps cmp f e ≡ true → seeks matching f e ≡ true
-    pub admitted_is_kept : (e : K) → is_admitted cmp g f.region e ≡ true → covers matching f e ≡ true → keeps cmp f e ≡ true
+    pub kept_is_visible : (e : K) → keeps cmp f e ≡ true → is_seen cmp g f.region e ≡ true
+    pub kept_is_sought : (e : K) → keeps cmp f e ≡ true → may_hear matching f e ≡ true
+    pub admitted_is_kept : (e : K) → is_seen_and_admitted cmp g f.region e ≡ true → is_owed matching f e ≡ true → keeps cmp f e ≡ true
 
   -- each open face outside router regions does
   abbrev pub FacesKeepWhatTheyShould : Rows K → Type 0

@@ -1,5 +1,5 @@
 -- The asks of each turn of a transcript are answered.
-use Rattle.std.proofs.Common.{◌≡◌, ◌≢◌, ℕ, ◌==◌, Bool, true, false, not, List, [], ◌∷◌, ◌++◌, map, filter, Option, Some, None, is_none, refl, ap}
+use Rattle.std.proofs.Common.{◌≡◌, ◌≢◌, ℕ, ◌==◌, ◌&&◌, Bool, true, false, not, List, [], ◌∷◌, ◌++◌, map, filter, Option, Some, None, is_none, refl, sym, ap, ◌∙◌}
 use Rattle.std.specs.Cmp.{IsTotalOrder}
 use Rattle.std.specs.List.{list_any, flat_map}
 use Rattle.std.specs.Option.{option_to_list}
@@ -17,6 +17,7 @@ use Rattle.zt_model.specs.Refusals.{call_causes, first_cause, is_interest_id_in_
 use Rattle.zt_model.specs.Rows.{Ask, Face, Rows}
 use Rattle.zt_model.specs.Says.{altered, find_face, parts_of, said, said_by}
 use Rattle.zt_model.specs.Transcript.{Each, openings, with_opening}
+use Rattle.zt_model.specs.Wants.{is_about}
 use Rattle.zt_laws.specs.Order.{FabricIsInOrder, RowsAreInOrder}
 use Rattle.zt_laws.specs.Shown.{as_shown, without_own}
 use Rattle.zt_laws.specs.Sound.{EachFrom, HasFirstIds, is_placed, opens_face}
@@ -27,6 +28,7 @@ use Rattle.zt_laws.proofs.Gateways.{prints_sorted}
 use Rattle.zt_laws.proofs.LinesOrder.{called_at, faces_placed, gateway_in_order}
 use Rattle.zt_laws.proofs.Lists.{each_always, each_append, each_map, each_weaker, never}
 use Rattle.zt_laws.proofs.PartsOrder.{each_flat_map, each_message_for}
+use Rattle.zt_laws.proofs.Seen.{seen_is}
 use Rattle.zt_laws.proofs.Sorting.{printed as printed_at}
 use Rattle.zt_laws.proofs.Unlinking.{closing_case, each_from_always}
 use Rattle.zt_theorem_visibility.proofs.Calls.{IsOfCalls, IsShownTurn, Shown, messages_at, turns_show}
@@ -162,7 +164,7 @@ module _ {K : Type 0} (cmp : K → K → Ordering) (matching : K → K → Bool)
 
     -- as a turn has it
     answered_in : (t : Turn K) (n : ℕ) (g : Rows K) (f : Face K) (id : ℕ) (ask : Ask K) → Answered cmp matching (calls_in cmp matching t) (printed_to t n f) n g f id ask → IsAnswered cmp matching t n g f id ask
-    answered_in t n g f id ask is = record { at_once = is.at_once; only_declared = is.only_declared; each_declared = is.each_declared; once = is.once }
+    answered_in t n g f id ask is = record { at_once = λ asks e. is.at_once asks e ∙ ap (λ b. is_about matching ask.interest.expr e && b) (sym (seen_is cmp g f.region e)); only_declared = is.only_declared; each_declared = is.each_declared; once = is.once }
 
     asks_shown : (s : Fabric K) (t : Turn K) → FabricIsInOrder cmp matching s → Unit {0} → IsShownTurn cmp matching total (λ s. Unit {0}) Comes asks_of_calls s t → AnswersAsks cmp matching t
     unfolding AsksAnswered

@@ -90,6 +90,7 @@ module _ {K : Type 0} (cmp : K → K → Ordering) (matching : K → K → Bool)
     token_could : (n id node : ℕ) (e : K) (interest : Option ℕ) (from : Face K) (g : Rows K) → find_face n g ≡ Some from → IsSound cmp matching g
         → ((i : ℕ) → interest ≡ Some i → is_north from.region ≡ true) → is_unknown_ask id interest g from ≡ false → is_unknown_router node g from ≡ false → (is_routed g from ≡ false → registers from interest ≡ true → is_token_id_in_use cmp id e from ≡ false)
         → Each (λ f. (if registers from interest && (is_told cmp matching g from.region e f || is_answered_anew cmp matching n interest e from f) then 1 else 0) ≤ could_from cmp matching (with_declared cmp n id e node interest g from) f) g.faces
+    unfolding source_of
     token_could n id node e interest from g found sound north known router free = by_test (is_routed g from) routed plain
       where
         need_of : Face K → ℕ

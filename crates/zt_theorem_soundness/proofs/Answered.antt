@@ -24,9 +24,10 @@ use Rattle.zt_model.specs.Rows.{Ask, ById, Face, InterestRow, Rows}
 use Rattle.zt_model.specs.Says.{answered_expressions, answers_from, answers_of, asked, is_routed, told_id}
 use Rattle.zt_model.specs.Strategy.{is_broker, is_router_hat, strategy_of}
 use Rattle.zt_model.specs.Telling.{answer_to, is_answered_by, was_sent_as}
-use Rattle.zt_model.specs.Transcript.{Each, KeepsWhatItShould}
+use Rattle.zt_model.specs.Transcript.{Each}
 use Rattle.zt_model.specs.Visible.{is_admitted, is_visible, keeps, shows, visible_expressions}
 use Rattle.zt_model.specs.Wants.{asks_token, covers, seeks, wants}
+use Rattle.zt_laws.specs.Keeping.{KeepsRight}
 use Rattle.zt_laws.specs.Sound.{IsToldInOrder, NamesOnce, RiseFrom}
 use Rattle.zt_laws.specs.Effects.{told_after_answers}
 use Rattle.zt_laws.proofs.Hearing.{heard_all-append, heard_all-held, heard_all-region}
@@ -68,14 +69,14 @@ filters_swap p q xs = filters_join p q xs ∙ filter_alike (λ x. p x && q x) (�
 module _ {K : Type 0} (cmp : K → K → Ordering) (matching : K → K → Bool) where
   -- ---- what should be kept, with nothing left to be done
 
-  pub should_keep : (g : Rows K) (f : Face K) → KeepsBut cmp matching nothing_left nothing_left g f → KeepsWhatItShould cmp matching g f
+  pub should_keep : (g : Rows K) (f : Face K) → KeepsBut cmp matching nothing_left nothing_left g f → KeepsRight cmp matching g f
   should_keep g f right = record {
     kept_is_visible = λ e kept. right.kept_is_visible e kept refl;
     kept_is_sought = right.kept_is_sought;
     admitted_is_kept = λ e admitted covered. right.admitted_is_kept e admitted covered refl;
   }
 
-  pub with_nothing_left : (g : Rows K) (f : Face K) → KeepsWhatItShould cmp matching g f → KeepsBut cmp matching nothing_left nothing_left g f
+  pub with_nothing_left : (g : Rows K) (f : Face K) → KeepsRight cmp matching g f → KeepsBut cmp matching nothing_left nothing_left g f
   with_nothing_left g f right = record {
     kept_is_visible = λ e kept _. right.kept_is_visible e kept;
     kept_is_sought = right.kept_is_sought;

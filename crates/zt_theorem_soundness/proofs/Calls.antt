@@ -15,10 +15,10 @@ use Rattle.zt_model.specs.Refusals.{adds_row, call_causes, first_cause, is_inter
 use Rattle.zt_model.specs.Rows.{Face, Rows}
 use Rattle.zt_model.specs.Says.{Part, answering, declaring, declaring_of, find_face, hiding_undeclared, is_routed, parts_of, registers, row_of, undeclaring, undeclaring_of}
 use Rattle.zt_model.specs.Routing.{finalising}
-use Rattle.zt_model.specs.Transcript.{KeepsWhatItShould}
 use Rattle.zt_model.specs.Trees.{showing, source_of}
 use Rattle.zt_model.specs.Visible.{is_admitted, is_visible, keeps, live_rows, shows}
 use Rattle.zt_model.specs.Wants.{covers}
+use Rattle.zt_laws.specs.Keeping.{KeepsRight}
 use Rattle.zt_laws.specs.Sound.{CallHasFirstIds, opens_face, rows_after_call}
 use Rattle.zt_laws.proofs.Calls.{no_cause, not_on_face}
 use Rattle.zt_laws.proofs.Lists.{any_alike, each_weaker, never, of_cond, same_tests}
@@ -40,7 +40,7 @@ module _ {K : Type 0} (cmp : K → K → Ordering) (matching : K → K → Bool)
   pub to_parts : (g : Rows K) → IsSound cmp matching g → Fine g
   to_parts g sound = record {
     ordered = sound.ordered;
-    keeps = each_weaker (λ f. is_routed g f ≡ false → KeepsWhatItShould cmp matching g f) (λ f. is_routed g f ≡ false → false ≡ false → KeepsBut cmp matching nothing_left nothing_left g f) (λ f one plain _. with_nothing_left cmp matching g f (one plain)) g.faces sound.keeps;
+    keeps = each_weaker (λ f. is_routed g f ≡ false → KeepsRight cmp matching g f) (λ f. is_routed g f ≡ false → false ≡ false → KeepsBut cmp matching nothing_left nothing_left g f) (λ f one plain _. with_nothing_left cmp matching g f (one plain)) g.faces sound.keeps;
     held = sound.held;
     named = sound.named;
     routed = sound.routed;
@@ -49,7 +49,7 @@ module _ {K : Type 0} (cmp : K → K → Ordering) (matching : K → K → Bool)
   pub from_parts : (g : Rows K) → Fine g → IsSound cmp matching g
   from_parts g sound = record {
     ordered = sound.ordered;
-    keeps = each_weaker (λ f. is_routed g f ≡ false → false ≡ false → KeepsBut cmp matching nothing_left nothing_left g f) (λ f. is_routed g f ≡ false → KeepsWhatItShould cmp matching g f) (λ f one plain. should_keep cmp matching g f (one plain refl)) g.faces sound.keeps;
+    keeps = each_weaker (λ f. is_routed g f ≡ false → false ≡ false → KeepsBut cmp matching nothing_left nothing_left g f) (λ f. is_routed g f ≡ false → KeepsRight cmp matching g f) (λ f one plain. should_keep cmp matching g f (one plain refl)) g.faces sound.keeps;
     held = sound.held;
     named = sound.named;
     routed = sound.routed;
@@ -163,6 +163,6 @@ module _ {K : Type 0} (cmp : K → K → Ordering) (matching : K → K → Bool)
       and_true true = refl
       and_true false = refl
 
-  pub keeps_exactly : (g : Rows K) (f : Face K) (e : K) → KeepsWhatItShould cmp matching g f → g.refused ≡ [] → covers matching f e ≡ true → keeps cmp f e ≡ is_visible cmp g f.region e
+  pub keeps_exactly : (g : Rows K) (f : Face K) (e : K) → KeepsRight cmp matching g f → g.refused ≡ [] → covers matching f e ≡ true → keeps cmp f e ≡ is_visible cmp g f.region e
   keeps_exactly g f e right none_ covered =
       same_tests (keeps cmp f e) (is_visible cmp g f.region e) (λ kept. right.kept_is_visible e kept) (λ sees. right.admitted_is_kept e (none_refused g f.region e none_ ∙ sees) covered)

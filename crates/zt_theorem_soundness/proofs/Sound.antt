@@ -8,7 +8,7 @@ use Rattle.zt_region.specs.declared.region.WhatAmI.{WhatAmI}
 use Rattle.zt_region.specs.declared.region.Zid.{Zid}
 use Rattle.zt_protocol.specs.Plain.{PlainLine}
 use Rattle.zt_model.specs.Fabric.{Fabric, Node, empty_fabric, entry_of, fabric_after, new_rows}
-use Rattle.zt_model.specs.Transcript.{AllKeepWhatTheyShould, FacesKeepWhatTheyShould}
+use Rattle.zt_laws.specs.Keeping.{AllKeepRight, FacesKeepRight}
 use Rattle.zt_laws.specs.Sound.{HasFirstIds}
 use Rattle.zt_laws.proofs.LinesOrder.{calls_nothing, in_order_empty}
 use Rattle.zt_laws.proofs.Lists.{each_weaker}
@@ -30,8 +30,8 @@ module _ {K : Type 0} (cmp : K → K → Ordering) (matching : K → K → Bool)
   pub sound_start : EachGatewayIs cmp matching (IsSound cmp matching) empty_fabric
   sound_start = record { order = in_order_empty cmp matching; gateways = tt }
 
-  pub sound_gateways_keep : (s : Fabric K) → EachGatewayIs cmp matching (IsSound cmp matching) s → AllKeepWhatTheyShould cmp matching s
-  sound_gateways_keep s is = each_weaker (λ (node : Node K). IsSound cmp matching node.rows) (λ (node : Node K). FacesKeepWhatTheyShould cmp matching node.rows) (λ node sound. sound.keeps) s.gateways is.gateways
+  pub sound_gateways_keep : (s : Fabric K) → EachGatewayIs cmp matching (IsSound cmp matching) s → AllKeepRight cmp matching s
+  sound_gateways_keep s is = each_weaker (λ (node : Node K). IsSound cmp matching node.rows) (λ (node : Node K). FacesKeepRight cmp matching node.rows) (λ node sound. sound.keeps) s.gateways is.gateways
 
   module _ (total : IsTotalOrder cmp) (equal_is_same : (a b : K) → cmp a b ≡ Equal → a ≡ b) where
     pub sound_is_left : IsLeftByCalls cmp matching (IsSound cmp matching)

@@ -14,9 +14,10 @@ use Rattle.zt_protocol.specs.declared.interests.InterestMode.{InterestMode}
 use Rattle.zt_model.specs.Lists.{at_id, is_among, same}
 use Rattle.zt_model.specs.Rows.{Ask, Face, Rows}
 use Rattle.zt_model.specs.Says.{is_routed}
-use Rattle.zt_model.specs.Transcript.{Each, FacesKeepWhatTheyShould}
+use Rattle.zt_model.specs.Transcript.{Each}
 use Rattle.zt_model.specs.Visible.{is_admitted, is_visible, keeps, shows}
 use Rattle.zt_model.specs.Wants.{covers, seeks}
+use Rattle.zt_laws.specs.Keeping.{FacesKeepRight}
 use Rattle.zt_laws.specs.Order.{RowsAreInOrder}
 
 -- ---- what is left to be done, in a region
@@ -108,7 +109,7 @@ module _ {K : Type 0} (cmp : K → K → Ordering) (matching : K → K → Bool)
   -- needs, and faces of router regions declare no rows of their own.
   pub record IsSound (g : Rows K) : Type 0 where
     pub ordered : RowsAreInOrder cmp matching g
-    pub keeps : FacesKeepWhatTheyShould cmp matching g
+    pub keeps : FacesKeepRight cmp matching g
     pub held : AsksAreHeld (λ n. false) g
     pub named : PendingsAreKnown g
     pub routed : RoutedDeclareNothing g

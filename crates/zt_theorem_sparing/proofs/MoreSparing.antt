@@ -34,6 +34,7 @@ use Rattle.zt_laws.proofs.Hearing.{find_each, find_passes}
 use Rattle.zt_laws.proofs.LinesOrder.{called_at, faces_placed, gateway_in_order, heard_faces_placed}
 use Rattle.zt_laws.proofs.Lists.{each_always, each_append, each_both, each_filter, each_map, each_weaker, never}
 use Rattle.zt_laws.proofs.Places.{not_placed_yet, number_new}
+use Rattle.zt_laws.proofs.Seen.{admitted_is, asked_for_is}
 use Rattle.zt_laws.proofs.Sorting.{printed as printed_at, sorted_each}
 use Rattle.zt_laws.proofs.Unlinking.{each_from_always}
 use Rattle.zt_theorem_visibility.proofs.Calls.{IsOfCalls, IsShownTurn, messages_at, turns_show}
@@ -271,9 +272,10 @@ module _ {K : Type 0} (cmp : K → K → Ordering) (matching : K → K → Bool)
           spares : (k : ℕ) (m : Message K) (o : Option (FaceAt K)) → face_numbered t.after k ≡ o → AnswersAsk cmp matching (asked_here is.changed.faces is.changed.gateways) k m
               → ((x : FaceAt K) → face_numbered t.after k ≡ Some x → is_open_face t.before k ≡ true → Admitted cmp matching x.rows x.face m) → SparesMore cmp matching t k m o
           spares k (message.DeclareToken id e None node) None found asked_ told = tt
-          spares k (message.DeclareToken id e None node) (Some x) found asked_ told = λ plain open_. told x found open_ plain
+          spares k (message.DeclareToken id e None node) (Some x) found asked_ told = λ plain open_. admitted_is cmp x.rows x.face.region e ∙ told x found open_ plain
           spares k (message.DeclareToken id e (Some i) node) o found asked_ told =
-              ap (λ (X : Fabric K). is_some_and (face_numbered X k) (λ x. is_some_and (at_id i x.face.asks) (λ ask. asks_token matching ask.interest e))) is.with_is
+              asked_for_is cmp matching t k i e
+              ∙ ap (λ (X : Fabric K). is_some_and (face_numbered X k) (λ x. is_some_and (at_id i x.face.asks) (λ ask. asks_token matching ask.interest e))) is.with_is
               ∙ shown_asked is.changed k i e asked_
           spares k (message.UndeclareToken id e node) o found asked_ told = tt
           spares k (message.DeclareFinal interest) o found asked_ told = tt

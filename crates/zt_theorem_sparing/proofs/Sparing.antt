@@ -33,6 +33,7 @@ use Rattle.zt_laws.proofs.Hearing.{find_passes}
 use Rattle.zt_laws.proofs.LinesOrder.{faces_placed, faces_still_placed, gateway_in_order, heard_faces_placed, opened_faces}
 use Rattle.zt_laws.proofs.Lists.{each_always, each_append, each_both, each_map, each_weaker, of_cond}
 use Rattle.zt_laws.proofs.Places.{placed_new, placed_still}
+use Rattle.zt_laws.proofs.Seen.{asked_for_is, hears_is}
 use Rattle.zt_laws.proofs.Sorting.{printed as printed_at}
 use Rattle.zt_laws.proofs.Unlinking.{each_from_always, each_from_both}
 use Rattle.zt_theorem_visibility.proofs.Calls.{IsOfCalls, IsShownTurn, Shown, messages_at, turns_show}
@@ -246,7 +247,7 @@ module _ {K : Type 0} (cmp : K → K → Ordering) (matching : K → K → Bool)
       where
         spares : (k : ℕ) (m : Message K) (o : Option (FaceAt K)) → face_numbered t.after k ≡ o → ((x : FaceAt K) → face_numbered t.after k ≡ Some x → Spares is.changed.gateways x.gateway x.rows x.face m) → SparesMessage cmp matching t k m o
         spares k (message.DeclareToken id e None node) None found judged = tt
-        spares k (message.DeclareToken id e None node) (Some x) found judged = (judged x found).0
+        spares k (message.DeclareToken id e None node) (Some x) found judged = λ plain. let spared = (judged x found).0 plain in (spared.0, hears_is matching x.face e ∙ spared.1)
         spares k (message.DeclareToken id e (Some i) node) None found judged = tt
         spares k (message.DeclareToken id e (Some i) node) (Some x) found judged =
             λ plain.
@@ -255,7 +256,8 @@ module _ {K : Type 0} (cmp : K → K → Ordering) (matching : K → K → Bool)
             let number_ : p.face ≡ x.face.number = eqb-true p.face x.face.number (find_passes (λ f. p.face == f.number) it.node.rows.faces x.face it.face_is) in
             let has : asked_in is.changed.gateways p.gateway p.face i e ≡ true =
             ap (λ j. asked_in is.changed.gateways j p.face i e) (sym it.gateway_is) ∙ ap (λ j. asked_in is.changed.gateways x.gateway j i e) number_ ∙ (judged x found).1 in
-            ap (λ (X : Fabric K). is_some_and (face_numbered X k) (λ y. is_some_and (at_id i y.face.asks) (λ ask. asks_token matching ask.interest e))) is.with_is
+            asked_for_is cmp matching t k i e
+            ∙ ap (λ (X : Fabric K). is_some_and (face_numbered X k) (λ y. is_some_and (at_id i y.face.asks) (λ ask. asks_token matching ask.interest e))) is.with_is
             ∙ numbered_asked is.changed k p i e (ap (nth k) (sym is.after_places) ∙ it.place_is) has
         spares k (message.UndeclareToken id e node) o found judged = tt
         spares k (message.DeclareFinal interest) o found judged = tt

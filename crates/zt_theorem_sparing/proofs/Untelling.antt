@@ -22,6 +22,7 @@ use Rattle.zt_laws.proofs.CallsOrder.{altered_faces}
 use Rattle.zt_laws.proofs.Gateways.{prints_sorted}
 use Rattle.zt_laws.proofs.LinesOrder.{faces_placed, gateway_in_order, heard_faces_placed}
 use Rattle.zt_laws.proofs.Lists.{each_always, each_append, each_both, each_map, each_weaker}
+use Rattle.zt_laws.proofs.Seen.{seen_is}
 use Rattle.zt_laws.proofs.Sorting.{printed as printed_at}
 use Rattle.zt_laws.proofs.Unlinking.{each_from_always}
 use Rattle.zt_theorem_visibility.proofs.Calls.{IsOfCalls, IsShownTurn, messages_at, turns_show}
@@ -54,7 +55,7 @@ module _ {K : Type 0} (cmp : K → K → Ordering) (matching : K → K → Bool)
 
   -- as a turn has it
   is_gone : (m : Message K) (o : Option (FaceAt K)) → ((x : FaceAt K) → o ≡ Some x → GoneFor cmp matching x.rows x.face.region m) → IsGone cmp matching m o
-  is_gone (message.UndeclareToken id (Some e) node) (Some x) gone = gone x refl
+  is_gone (message.UndeclareToken id (Some e) node) (Some x) gone = λ plain. seen_is cmp x.rows x.face.region e ∙ gone x refl plain
   is_gone (message.UndeclareToken id (Some e) node) None gone = tt
   is_gone (message.UndeclareToken id None node) o gone = tt
   is_gone (message.DeclareToken id e interest node) o gone = tt

@@ -82,7 +82,7 @@ module _ {K : Type 0} (cmp : K → K → Ordering) (matching : K → K → Bool)
 
   -- what a call changes, as a transcript shows it
   pub named_shown : (ps : List (ℕ × ℕ)) (c : PlainCall K) (g : Rows K) → CallHasNamedOptions c → HoldNamedOptions g → HoldNamedOptions (rows_shown cmp ps c g)
-  unfolding rows_shown with_routed without_routed
+  unfolding rows_shown with_routed without_routed source_of
   named_shown ps (NewSession first) g named all = each_append HeldNamed g.faces _ all (tt, tt)
   named_shown ps (NewTransport zid whatami region bound first) g named all = each_append HeldNamed g.faces _ all (tt, tt)
   named_shown ps (DeclareToken n id e node interest) g named all = cases (find_face n g)

@@ -11,10 +11,11 @@ use Rattle.zt_model.specs.Fabric.{Fabric, Node}
 use Rattle.zt_model.specs.Lists.{is_some_and, nth, same}
 use Rattle.zt_model.specs.Parts.{find_face, is_routed}
 use Rattle.zt_model.specs.Rows.{ById, Face}
-use Rattle.zt_model.specs.Transcript.{AllKeepWhatTheyShould, Each, FaceAt, FacesKeepWhatTheyShould, KeepsWhatItShould, face_numbered}
+use Rattle.zt_model.specs.Transcript.{Each, FaceAt, face_numbered}
 use Rattle.zt_model.specs.TreePromises.{IsTreeFabric, LeadsUpByLink, ServesClients, are_links_empty, is_live_at, is_plain_number, is_plainly_live_at}
 use Rattle.zt_model.specs.Visible.{keeps, shows}
 use Rattle.zt_model.specs.Wants.{covers}
+use Rattle.zt_laws.specs.Keeping.{AllKeepRight, FacesKeepRight, KeepsRight}
 use Rattle.zt_laws.specs.Order.{FabricIsInOrder}
 use Rattle.zt_laws.specs.Sound.{IsToldInOrder, RiseFrom}
 use Rattle.zt_laws.proofs.Hearing.{find_each}
@@ -90,7 +91,7 @@ module _ {K : Type 0} (cmp : K → K → Ordering) (matching : K → K → Bool)
 
     -- ---- a token is carried up
 
-    module _ (keep : AllKeepWhatTheyShould cmp matching s) (e : K) where
+    module _ (keep : AllKeepRight cmp matching s) (e : K) where
       node_keeps : (g h : ℕ) (step : StepUp s g h) (k : ℕ) (x : FaceAt K) → face_numbered s k ≡ Some x → x.gateway ≡ g → is_north x.face.region ≡ false → is_live cmp e x.face ≡ true → keeps cmp step.x.face e ≡ true
       unfolding covers
       node_keeps g h step k x found here down live =
@@ -103,7 +104,7 @@ module _ {K : Type 0} (cmp : K → K → Ordering) (matching : K → K → Bool)
           let found_x : find_face x.face.number r ≡ Some x.face = ap (λ (y : Node K). find_face x.face.number y.rows) (sym same_node) ∙ ap (find_face x.face.number) tx.rows_are ∙ tx.face_is in
           let gateway = each_nth (λ (y : Node K). IsTreeGateway cmp matching y.rows) step.x.gateway s.gateways node agree.gateways th.node_is in
           let face = find_each (IsTreeFace r.mode) (λ (f : Face K). step.x.face.number == f.number) r.faces step.x.face gateway.faces found_low in
-          let keeps_ = find_each (λ f. is_routed r f ≡ false → KeepsWhatItShould cmp matching r f) (λ (f : Face K). step.x.face.number == f.number) r.faces step.x.face (each_nth (λ (y : Node K). FacesKeepWhatTheyShould cmp matching y.rows) step.x.gateway s.gateways node keep th.node_is) found_low in
+          let keeps_ = find_each (λ f. is_routed r f ≡ false → KeepsRight cmp matching r f) (λ (f : Face K). step.x.face.number == f.number) r.faces step.x.face (each_nth (λ (y : Node K). FacesKeepRight cmp matching y.rows) step.x.gateway s.gateways node keep th.node_is) found_low in
           let refused = (each_gateway_nth ServesClients 1 step.x.gateway step.x.gateway s.gateways node (omega arith) trees.clients th.node_is).1 in
           let shown : is_shown_by cmp step.x.face.region e x.face ≡ true =
           and_from (is_live cmp e x.face) (shows step.x.face.region x.face.region) live (ap (λ q. shows q x.face.region) (region_eq-same step.x.face.region North step.up) ∙ ap not down) in

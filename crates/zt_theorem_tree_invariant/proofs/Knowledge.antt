@@ -19,10 +19,11 @@ use Rattle.zt_model.specs.Rows.{ById, Face, InterestRow, Rows}
 use Rattle.zt_model.specs.Strategy.{is_broker, is_router_hat, strategy_of}
 use Rattle.zt_model.specs.Linking.{is_end_of}
 use Rattle.zt_model.specs.Parts.{find_face, is_routed}
-use Rattle.zt_model.specs.Transcript.{AllKeepWhatTheyShould, Each, FaceAt, FacesKeepWhatTheyShould, KeepsWhatItShould, face_numbered}
+use Rattle.zt_model.specs.Transcript.{Each, FaceAt, face_numbered}
 use Rattle.zt_model.specs.TreePromises.{IsInTree, Itself, Beyond, IsPlainlyLive, IsTreeFabric, KnowsItsTree, LeadsUpByLink, ServesClients, are_links_empty, is_plain_number}
 use Rattle.zt_model.specs.Visible.{keeps, shows}
 use Rattle.zt_model.specs.Wants.{asks_token, covers, is_about}
+use Rattle.zt_laws.specs.Keeping.{AllKeepRight, FacesKeepRight, KeepsRight}
 use Rattle.zt_laws.specs.Order.{FabricIsInOrder}
 use Rattle.zt_laws.proofs.Hearing.{find_each}
 use Rattle.zt_laws.proofs.Keys.{is_equal}
@@ -74,7 +75,7 @@ module _ {K : Type 0} (cmp : K → K → Ordering) (matching : K → K → Bool)
       let bits : a.options.0 ≡ b.options.0 = ranked a.options.0 b.options.0 Equal (sym (is_equal (nat_cmp a.options.0 b.options.0) parts.1)) in
       ap (λ (n : ℕ). has_tokens (record { 0 = n }) && is_about matching a.expr e) bits ∙ ap (λ c. has_tokens b.options && c) (about_same a.expr b.expr e parts.0)
 
-module _ {K : Type 0} (cmp : K → K → Ordering) (matching : K → K → Bool) (s : Fabric K) (fine : FabricIsInOrder cmp matching s) (agree : TreesAgree cmp matching s) (trees : IsTreeFabric s) (keep : AllKeepWhatTheyShould cmp matching s) (quiet : are_links_empty s ≡ true) where
+module _ {K : Type 0} (cmp : K → K → Ordering) (matching : K → K → Bool) (s : Fabric K) (fine : FabricIsInOrder cmp matching s) (agree : TreesAgree cmp matching s) (trees : IsTreeFabric s) (keep : AllKeepRight cmp matching s) (quiet : are_links_empty s ≡ true) where
   -- what holds of a face
   record Known (k : ℕ) (x : FaceAt K) : Type 0 where
     node : Node K
@@ -82,7 +83,7 @@ module _ {K : Type 0} (cmp : K → K → Ordering) (matching : K → K → Bool)
     rows_are : node.rows ≡ x.rows
     gateway : IsTreeGateway cmp matching x.rows
     face : IsTreeFace x.rows.mode x.face
-    keeps_ : KeepsWhatItShould cmp matching x.rows x.face
+    keeps_ : KeepsRight cmp matching x.rows x.face
     refused : x.rows.refused ≡ []
 
   known : (k : ℕ) (x : FaceAt K) → face_numbered s k ≡ Some x → Known k x
@@ -90,14 +91,14 @@ module _ {K : Type 0} (cmp : K → K → Ordering) (matching : K → K → Bool)
       let at_ = is_there s k x found in
       let gateway = gateway_of cmp matching s k x agree found in
       let face = find_each (IsTreeFace x.rows.mode) (λ (f : Face K). x.face.number == f.number) x.rows.faces x.face gateway.faces at_.face_is in
-      let keep_all : FacesKeepWhatTheyShould cmp matching x.rows = subst (FacesKeepWhatTheyShould cmp matching) at_.rows_are (each_nth (λ (node : Node K). FacesKeepWhatTheyShould cmp matching node.rows) x.gateway s.gateways at_.node keep at_.node_is) in
+      let keep_all : FacesKeepRight cmp matching x.rows = subst (FacesKeepRight cmp matching) at_.rows_are (each_nth (λ (node : Node K). FacesKeepRight cmp matching node.rows) x.gateway s.gateways at_.node keep at_.node_is) in
       record {
         node = at_.node;
         node_is = at_.node_is;
         rows_are = at_.rows_are;
         gateway = gateway;
         face = face;
-        keeps_ = find_each (λ f. is_routed x.rows f ≡ false → KeepsWhatItShould cmp matching x.rows f) (λ (f : Face K). x.face.number == f.number) x.rows.faces x.face keep_all at_.face_is (is_no_router x.rows x.face face);
+        keeps_ = find_each (λ f. is_routed x.rows f ≡ false → KeepsRight cmp matching x.rows f) (λ (f : Face K). x.face.number == f.number) x.rows.faces x.face keep_all at_.face_is (is_no_router x.rows x.face face);
         refused = subst (λ (g : Rows K). g.refused ≡ []) at_.rows_are (each_gateway_nth ServesClients 1 x.gateway x.gateway s.gateways at_.node (omega arith) trees.clients at_.node_is).1;
       }
 

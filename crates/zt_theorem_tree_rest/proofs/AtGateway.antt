@@ -10,8 +10,9 @@ use Rattle.zt_model.specs.Lists.{first_where, is_among, same}
 use Rattle.zt_model.specs.Parts.{find_face, is_routed}
 use Rattle.zt_model.specs.Rows.{ById, Face, Rows}
 use Rattle.zt_model.specs.Strategy.{is_router_hat, strategy_of}
-use Rattle.zt_model.specs.Transcript.{Each, KeepsWhatItShould}
+use Rattle.zt_model.specs.Transcript.{Each}
 use Rattle.zt_model.specs.Visible.{is_visible, visible_expressions}
+use Rattle.zt_laws.specs.Keeping.{KeepsRight}
 use Rattle.zt_laws.specs.Order.{HasRowsInOrder}
 use Rattle.zt_laws.specs.Sound.{RiseFrom}
 use Rattle.zt_laws.proofs.Hearing.{find_each}
@@ -61,13 +62,13 @@ module _ {K : Type 0} (cmp : K → K → Ordering) (matching : K → K → Bool)
   pub live_rise : (n : ℕ) (f : Face K) → find_face n g ≡ Some f → RiseFrom (λ row. row.0) 0 f.live
   live_rise n f found = (find_each HasRowsInOrder (λ (h : Face K). n == h.number) g.faces f sound.ordered.lists.rows found).live
 
-  keep : Each (KeepsWhatItShould cmp matching g) g.faces
-  keep = each_both (IsTreeFace g.mode) (λ f. is_routed g f ≡ false → KeepsWhatItShould cmp matching g f) (KeepsWhatItShould cmp matching g) (λ f own kept. kept (is_no_router g f own)) g.faces tree.faces sound.keeps
+  keep : Each (KeepsRight cmp matching g) g.faces
+  keep = each_both (IsTreeFace g.mode) (λ f. is_routed g f ≡ false → KeepsRight cmp matching g f) (KeepsRight cmp matching g) (λ f own kept. kept (is_no_router g f own)) g.faces tree.faces sound.keeps
 
   -- what faces were told are tokens that were there
   pub told_tokens : Each (λ (f : Face K). Each (λ e. is_among cmp e tokens ≡ true) (map (λ row. row.1) f.told)) g.faces
   told_tokens =
-      each_weaker (KeepsWhatItShould cmp matching g) (λ f. Each (λ e. is_among cmp e tokens ≡ true) (map (λ row. row.1) f.told))
+      each_weaker (KeepsRight cmp matching g) (λ f. Each (λ e. is_among cmp e tokens ≡ true) (map (λ row. row.1) f.told))
       (λ f kept.
       each_map (λ e. is_among cmp e tokens ≡ true) (λ (row : ℕ × K). row.1) f.told
       (each_weaker (λ (row : ℕ × K). list_any (λ r. same cmp row.1 r.1) f.told ≡ true) (λ row. is_among cmp row.1 tokens ≡ true)
@@ -80,7 +81,7 @@ module _ {K : Type 0} (cmp : K → K → Ordering) (matching : K → K → Bool)
   module _ (price : ℕ → ℕ) (end_price : ℕ) where
     pub looks : Each (LooksDown cmp matching tokens price end_price g.mode os rises plain total_order equal_is_same g) g.faces
     looks =
-        each_both (IsTreeFace g.mode) (KeepsWhatItShould cmp matching g) (LooksDown cmp matching tokens price end_price g.mode os rises plain total_order equal_is_same g)
+        each_both (IsTreeFace g.mode) (KeepsRight cmp matching g) (LooksDown cmp matching tokens price end_price g.mode os rises plain total_order equal_is_same g)
         (λ f own kept. record { holds_nothing = λ north. (own.up north).held; sees_what_it_keeps = λ north e k. kept.kept_is_visible e k }) g.faces tree.faces keep
 
     abbrev pub Down : ℕ

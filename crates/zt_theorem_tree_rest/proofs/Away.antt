@@ -14,8 +14,9 @@ use Rattle.zt_model.specs.Parts.{Sends, find_face, is_routed, with_face}
 use Rattle.zt_model.specs.Rows.{Ask, ById, Face, RoutedRow, Rows}
 use Rattle.zt_model.specs.Says.{parts_of, said}
 use Rattle.zt_model.specs.Telling.{forget_to, undeclared, unregistered}
-use Rattle.zt_model.specs.Transcript.{Each, KeepsWhatItShould}
+use Rattle.zt_model.specs.Transcript.{Each}
 use Rattle.zt_model.specs.Visible.{is_visible}
+use Rattle.zt_laws.specs.Keeping.{KeepsRight}
 use Rattle.zt_laws.specs.Order.{HasRowsInOrder}
 use Rattle.zt_laws.specs.Sound.{RiseFrom}
 use Rattle.zt_laws.proofs.Hearing.{find_each, find_passes}
@@ -79,8 +80,8 @@ module _ {K : Type 0} (cmp : K → K → Ordering) (matching : K → K → Bool)
   forgets n id given f e found north about =
       let g1 = with_face n (unregistered id) g in
       let live_rises = (find_each HasRowsInOrder (λ (h : Face K). n == h.number) g.faces f sound.ordered.lists.rows found).live in
-      let Sees = λ (h : Face K). (is_north h.region ≡ true → h.held ≡ []) × KeepsWhatItShould cmp matching g h in
-      let sees : Each Sees g.faces = each_both (IsTreeFace g.mode) (λ (h : Face K). is_routed g h ≡ false → KeepsWhatItShould cmp matching g h) Sees (λ h own kept. ((λ up. (own.up up).held), kept (is_no_router g h own))) g.faces tree.faces sound.keeps in
+      let Sees = λ (h : Face K). (is_north h.region ≡ true → h.held ≡ []) × KeepsRight cmp matching g h in
+      let sees : Each Sees g.faces = each_both (IsTreeFace g.mode) (λ (h : Face K). is_routed g h ≡ false → KeepsRight cmp matching g h) Sees (λ h own kept. ((λ up. (own.up up).held), kept (is_no_router g h own))) g.faces tree.faces sound.keeps in
       let nothing = λ (h k : Face K) (see : Sees h) (region_ : k.region ≡ h.region) (held_ : k.held ≡ h.held) (told_ : k.told ≡ h.told) (up : is_north k.region ≡ true).
       (let up_h : is_north h.region ≡ true = sym (ap is_north region_) ∙ up in
       forgets_nothing cmp matching [] (λ n. 0) 0 g.mode os rises plain g1 f.region e k

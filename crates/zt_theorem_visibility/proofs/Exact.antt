@@ -12,12 +12,14 @@ use Rattle.zt_model.specs.Lists.{same}
 use Rattle.zt_model.specs.Promises.{EachGateway, KeepsExactly, Turn, turns_from}
 use Rattle.zt_model.specs.Rows.{Face, RoutedRow, Rows}
 use Rattle.zt_model.specs.Says.{is_routed}
-use Rattle.zt_model.specs.Transcript.{AllKeepWhatTheyShould, Each, FacesKeepWhatTheyShould, KeepsWhatItShould}
+use Rattle.zt_model.specs.Seen.{is_owed, is_seen}
+use Rattle.zt_model.specs.Transcript.{AllKeepWhatTheyShould, Each}
 use Rattle.zt_model.specs.Visible.{is_admitted, is_visible, keeps, live_rows, rows_of_face, shows}
-use Rattle.zt_model.specs.Wants.{covers}
+use Rattle.zt_laws.specs.Keeping.{AllKeepRight, FacesKeepRight, KeepsRight}
 use Rattle.zt_laws.specs.Shown.{as_shown, is_from_other, node_shown, without_own}
 use Rattle.zt_laws.specs.Sound.{HasFirstIds}
 use Rattle.zt_laws.proofs.Lists.{each_map, each_weaker}
+use Rattle.zt_laws.proofs.Seen.{all_as_promised, owed_is, seen_is}
 use Rattle.zt_laws.proofs.ShownLines.{turns_have}
 use Rattle.zt_laws.proofs.ShownRows.{filter_within}
 use Rattle.zt_theorem_soundness.specs.Lines.{EachGatewayIs}
@@ -42,51 +44,60 @@ module _ {K : Type 0} (cmp : K → K → Ordering) (matching : K → K → Bool)
   unfolding is_admitted
   admitted_shown g own e = ap (list_any (λ row. same cmp e row.1 && (shows own row.0 && admits g.refused row.0 own))) (live_shown g)
 
-  keeps_shown : (g : Rows K) (f : Face K) → KeepsWhatItShould cmp matching g f → KeepsWhatItShould cmp matching (without_own g) f
+  keeps_shown : (g : Rows K) (f : Face K) → KeepsRight cmp matching g f → KeepsRight cmp matching (without_own g) f
   keeps_shown g f right = record {
     kept_is_visible = λ e kept. visible_shown g f.region e ∙ right.kept_is_visible e kept;
     kept_is_sought = λ e kept. right.kept_is_sought e kept;
     admitted_is_kept = λ e admitted covered. right.admitted_is_kept e (sym (admitted_shown g f.region e) ∙ admitted) covered;
   }
 
-  rows_shown_keep : (g : Rows K) → FacesKeepWhatTheyShould cmp matching g → FacesKeepWhatTheyShould cmp matching (without_own g)
+  rows_shown_keep : (g : Rows K) → FacesKeepRight cmp matching g → FacesKeepRight cmp matching (without_own g)
   rows_shown_keep g all =
-      each_weaker (λ f. is_routed g f ≡ false → KeepsWhatItShould cmp matching g f) (λ f. is_routed g f ≡ false → KeepsWhatItShould cmp matching (without_own g) f)
+      each_weaker (λ f. is_routed g f ≡ false → KeepsRight cmp matching g f) (λ f. is_routed g f ≡ false → KeepsRight cmp matching (without_own g) f)
       (λ f one plain. keeps_shown g f (one plain)) g.faces all
 
   -- what a transcript shows of sound gateways
-  pub shown_keep : (s : Fabric K) → EachGatewayIs cmp matching (IsSound cmp matching) s → AllKeepWhatTheyShould cmp matching (as_shown s)
+  pub shown_keep : (s : Fabric K) → EachGatewayIs cmp matching (IsSound cmp matching) s → AllKeepRight cmp matching (as_shown s)
   shown_keep s is =
-      each_map (λ (node : Node K). FacesKeepWhatTheyShould cmp matching node.rows) node_shown s.gateways
-      (each_weaker (λ (node : Node K). IsSound cmp matching node.rows) (λ (node : Node K). FacesKeepWhatTheyShould cmp matching (without_own node.rows))
+      each_map (λ (node : Node K). FacesKeepRight cmp matching node.rows) node_shown s.gateways
+      (each_weaker (λ (node : Node K). IsSound cmp matching node.rows) (λ (node : Node K). FacesKeepRight cmp matching (without_own node.rows))
       (λ node sound. rows_shown_keep node.rows sound.keeps) s.gateways is.gateways)
 
   module _ (total : IsTotalOrder cmp) (equal_is_same : (a b : K) → cmp a b ≡ Equal → a ≡ b) where
     -- where faces keep what they should, they keep exactly what they cover and see
-    pub exactly : (t : Turn K) → AllKeepWhatTheyShould cmp matching t.after → KeepsExactly cmp matching t
+    pub exactly : (t : Turn K) → AllKeepRight cmp matching t.after → KeepsExactly cmp matching t
     exactly t all =
-        each_gateway (λ n (node : Node K). Each (λ f. is_routed node.rows f ≡ false → node.rows.refused ≡ [] → (e : K) → covers matching f e ≡ true → keeps cmp f e ≡ is_visible cmp node.rows f.region e) node.rows.faces)
-        (λ (node : Node K). FacesKeepWhatTheyShould cmp matching node.rows)
+        each_gateway (λ n (node : Node K). Each (λ f. is_routed node.rows f ≡ false → node.rows.refused ≡ [] → (e : K) → is_owed matching f e ≡ true → keeps cmp f e ≡ is_seen cmp node.rows f.region e) node.rows.faces)
+        (λ (node : Node K). FacesKeepRight cmp matching node.rows)
         (λ n node right.
-        each_weaker (λ f. is_routed node.rows f ≡ false → KeepsWhatItShould cmp matching node.rows f)
-        (λ f. is_routed node.rows f ≡ false → node.rows.refused ≡ [] → (e : K) → covers matching f e ≡ true → keeps cmp f e ≡ is_visible cmp node.rows f.region e)
-        (λ f one plain none_ e covered. keeps_exactly cmp matching total equal_is_same node.rows f e (one plain) none_ covered) node.rows.faces right)
+        each_weaker (λ f. is_routed node.rows f ≡ false → KeepsRight cmp matching node.rows f)
+        (λ f. is_routed node.rows f ≡ false → node.rows.refused ≡ [] → (e : K) → is_owed matching f e ≡ true → keeps cmp f e ≡ is_seen cmp node.rows f.region e)
+        (λ f one plain none_ e owed.
+        keeps_exactly cmp matching total equal_is_same node.rows f e (one plain) none_ (sym (owed_is matching f e) ∙ owed) ∙ sym (seen_is cmp node.rows f.region e))
+        node.rows.faces right)
         1 t.after.gateways all
 
     abbrev SoundFabric : Fabric K → Type 0
     SoundFabric s = EachGatewayIs cmp matching (IsSound cmp matching) s
 
-    pub turns_keep : (lines : List (PlainLine K)) (s : Fabric K) → Each HasFirstIds lines → SoundFabric s
-        → Each (λ t. AllKeepWhatTheyShould cmp matching t.after) (turns_from cmp matching lines (entries_from cmp matching lines s) (as_shown s))
-    turns_keep lines s real sound =
-        turns_have cmp matching total (λ t. AllKeepWhatTheyShould cmp matching t.after) SoundFabric
+    turns_keep_right : (lines : List (PlainLine K)) (s : Fabric K) → Each HasFirstIds lines → SoundFabric s
+        → Each (λ t. AllKeepRight cmp matching t.after) (turns_from cmp matching lines (entries_from cmp matching lines s) (as_shown s))
+    turns_keep_right lines s real sound =
+        turns_have cmp matching total (λ t. AllKeepRight cmp matching t.after) SoundFabric
         (λ line x first fine holds.
         let after = sound_after_line cmp matching total equal_is_same line x first holds in
         (shown_keep _ after, after))
         lines s real sound.order sound
 
+    -- as promises read it
+    pub turns_keep : (lines : List (PlainLine K)) (s : Fabric K) → Each HasFirstIds lines → SoundFabric s
+        → Each (λ t. AllKeepWhatTheyShould cmp matching t.after) (turns_from cmp matching lines (entries_from cmp matching lines s) (as_shown s))
+    turns_keep lines s real sound =
+        let ts = turns_from cmp matching lines (entries_from cmp matching lines s) (as_shown s) in
+        each_weaker (λ (t : Turn K). AllKeepRight cmp matching t.after) (λ (t : Turn K). AllKeepWhatTheyShould cmp matching t.after) (λ t right. all_as_promised cmp matching t.after right) ts (turns_keep_right lines s real sound)
+
     pub turns_exact : (lines : List (PlainLine K)) (s : Fabric K) → Each HasFirstIds lines → SoundFabric s
         → Each (KeepsExactly cmp matching) (turns_from cmp matching lines (entries_from cmp matching lines s) (as_shown s))
     turns_exact lines s real sound =
         let ts = turns_from cmp matching lines (entries_from cmp matching lines s) (as_shown s) in
-        each_weaker (λ (t : Turn K). AllKeepWhatTheyShould cmp matching t.after) (KeepsExactly cmp matching) (λ t right. exactly t right) ts (turns_keep lines s real sound)
+        each_weaker (λ (t : Turn K). AllKeepRight cmp matching t.after) (KeepsExactly cmp matching) (λ t right. exactly t right) ts (turns_keep_right lines s real sound)

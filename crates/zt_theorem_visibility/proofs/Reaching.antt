@@ -15,6 +15,7 @@ use Rattle.zt_model.specs.Promises.{TellsWhoWants}
 use Rattle.zt_model.specs.Refusals.{call_causes, first_cause, is_unknown_router}
 use Rattle.zt_model.specs.Rows.{Face, Rows}
 use Rattle.zt_model.specs.Says.{Part, Say, Sends, answering, declaring, declaring_of, find_face, is_routed, is_told, parts_of, registered, registers, tell_to, to_each, with_face}
+use Rattle.zt_model.specs.Seen.{is_interested, sees}
 use Rattle.zt_model.specs.Strategy.{is_router_hat, strategy_of}
 use Rattle.zt_model.specs.Telling.{answer_to}
 use Rattle.zt_model.specs.Transcript.{Each}
@@ -30,6 +31,7 @@ use Rattle.zt_laws.proofs.Hearing.{heard_all-region}
 use Rattle.zt_laws.proofs.Keys.{same_itself}
 use Rattle.zt_laws.proofs.Lists.{by_test, each_both, each_filter, each_map, each_weaker, never, of_cond}
 use Rattle.zt_laws.proofs.PartsOrder.{orderly_each, quiet_face}
+use Rattle.zt_laws.proofs.Seen.{interested_is, sees_is}
 use Rattle.zt_laws.proofs.Telling.{heard_tell}
 use Rattle.zt_laws.proofs.Told.{names-append}
 use Rattle.zt_laws.proofs.ToldOrder.{DrawsNothing, in_order_answer}
@@ -45,15 +47,26 @@ module _ {K : Type 0} (cmp : K → K → Ordering) (matching : K → K → Bool)
   abbrev Reached : Region → K → WhatAmI → List (Region × Region) → Face K → Type 0
   Reached source e mode refused f = is_router_hat (strategy_of mode f.region) ≡ false → wants matching f e ≡ true → admits refused source f.region ≡ true → shows f.region source ≡ true → keeps cmp f e ≡ true
 
+  -- each face of a gateway does
+  abbrev Reaches : Region → K → Rows K → Type 0
+  Reaches source e g = Each (Reached source e g.mode g.refused) g.faces
+
+  -- as promises read it
+  as_promised : (source : Region) (e : K) (g : Rows K) → Reaches source e g → TellsWhoWants cmp matching source e g
+  as_promised source e g all =
+      each_weaker (Reached source e g.mode g.refused)
+      (λ f. is_routed g f ≡ false → is_interested matching f e ≡ true → admits g.refused source f.region ≡ true → sees f.region source ≡ true → keeps cmp f e ≡ true)
+      (λ f one plain interested admitted seen. one plain (sym (interested_is matching f e) ∙ interested) admitted (sym (sees_is f.region source) ∙ seen)) g.faces all
+
   -- a change that leaves faces alone
-  reached_rows : (source : Region) (e : K) (g h : Rows K) → h.faces ≡ g.faces → h.mode ≡ g.mode → h.refused ≡ g.refused → TellsWhoWants cmp matching source e g → TellsWhoWants cmp matching source e h
+  reached_rows : (source : Region) (e : K) (g h : Rows K) → h.faces ≡ g.faces → h.mode ≡ g.mode → h.refused ≡ g.refused → Reaches source e g → Reaches source e h
   reached_rows source e g h faces_ mode_ refused_ all =
       subst (λ (fs : List (Face K)). Each (Reached source e h.mode h.refused) fs) (sym faces_)
       (subst (λ (mode : WhatAmI). Each (Reached source e mode h.refused) g.faces) (sym mode_)
       (subst (λ (refused : List (Region × Region)). Each (Reached source e g.mode refused) g.faces) (sym refused_) all))
 
   -- what faces outside router regions don't hear
-  reached_heard : (source : Region) (e : K) (ss : Sends K) (g : Rows K) → Each (λ f. is_routed g f ≡ false → messages_for f.number ss ≡ []) g.faces → TellsWhoWants cmp matching source e g → TellsWhoWants cmp matching source e (rows_heard cmp ss g)
+  reached_heard : (source : Region) (e : K) (ss : Sends K) (g : Rows K) → Each (λ f. is_routed g f ≡ false → messages_for f.number ss ≡ []) g.faces → Reaches source e g → Reaches source e (rows_heard cmp ss g)
   unfolding rows_heard heard_all
   reached_heard source e ss g none_ all =
       let hears = λ (f : Face K). heard_all cmp g.moment (messages_for f.number ss) f in
@@ -66,7 +79,7 @@ module _ {K : Type 0} (cmp : K → K → Ordering) (matching : K → K → Bool)
       g.faces none_ all)
 
   -- a telling reaches all
-  reached_told : (source : Region) (e : K) (g : Rows K) → IsTotalOrder cmp → RowsAreInOrder cmp matching g → TellsWhoWants cmp matching source e (rows_heard cmp (to_each (tell_to cmp matching g source e) g.faces) g)
+  reached_told : (source : Region) (e : K) (g : Rows K) → IsTotalOrder cmp → RowsAreInOrder cmp matching g → Reaches source e (rows_heard cmp (to_each (tell_to cmp matching g source e) g.faces) g)
   unfolding rows_heard seeks
   reached_told source e g total ordered =
       let ss = to_each (tell_to cmp matching g source e) g.faces in
@@ -98,7 +111,7 @@ module _ {K : Type 0} (cmp : K → K → Ordering) (matching : K → K → Bool)
   shows_routed region x g f plain = rw plain refl
 
   -- what router regions are shown, faces outside of them don't hear
-  reached_shown : (source region : Region) (e x : K) (g : Rows K) → RowsAreInOrder cmp matching g → TellsWhoWants cmp matching source e g → TellsWhoWants cmp matching source e (ran cmp (showing cmp region x) g)
+  reached_shown : (source region : Region) (e x : K) (g : Rows K) → RowsAreInOrder cmp matching g → Reaches source e g → Reaches source e (ran cmp (showing cmp region x) g)
   unfolding ran
   reached_shown source region e x g ordered all =
       let h = rows_heard cmp (to_each (show_to cmp g region x) g.faces) g in
@@ -111,7 +124,7 @@ module _ {K : Type 0} (cmp : K → K → Ordering) (matching : K → K → Bool)
 
   module _ (total : IsTotalOrder cmp) where
     -- the telling, and what comes after it
-    reached_telling : (source : Region) (e : K) (g : Rows K) → RowsAreInOrder cmp matching g → TellsWhoWants cmp matching source e (ran cmp (Say (λ h. to_each (tell_to cmp matching h source e) h.faces) ∷ showing cmp source e) g)
+    reached_telling : (source : Region) (e : K) (g : Rows K) → RowsAreInOrder cmp matching g → Reaches source e (ran cmp (Say (λ h. to_each (tell_to cmp matching h source e) h.faces) ∷ showing cmp source e) g)
     unfolding ran
     reached_telling source e g ordered =
         let k = rows_heard cmp (to_each (tell_to cmp matching g source e) g.faces) g in
@@ -132,17 +145,17 @@ module _ {K : Type 0} (cmp : K → K → Ordering) (matching : K → K → Bool)
         (λ _. ordered)
 
     reached_plain : (n id : ℕ) (e : K) (interest : Option ℕ) (from : Face K) (g : Rows K) → registers from interest ≡ true → RowsAreInOrder cmp matching g
-        → TellsWhoWants cmp matching from.region e (ran cmp (answering cmp matching n interest e from ++ (if registers from interest then declaring cmp matching n id e from ++ showing cmp from.region e else [])) g)
+        → Reaches from.region e (ran cmp (answering cmp matching n interest e from ++ (if registers from interest then declaring cmp matching n id e from ++ showing cmp from.region e else [])) g)
     unfolding ran
     reached_plain n id e interest from g registers_ ordered =
         let parts = declaring cmp matching n id e from ++ showing cmp from.region e in
         let h = ran cmp (answering cmp matching n interest e from) g in
-        let here : TellsWhoWants cmp matching from.region e (ran cmp parts h) = reached_telling from.region e (with_face n (registered id e) h) (ordered_registered n id e h (ordered_answering n interest e from g ordered)) in
-        subst (TellsWhoWants cmp matching from.region e) (sym (ran-append cmp (answering cmp matching n interest e from) (if registers from interest then parts else []) g))
-        (subst (λ b. TellsWhoWants cmp matching from.region e (ran cmp (if b then parts else []) h)) (sym registers_) here)
+        let here : Reaches from.region e (ran cmp parts h) = reached_telling from.region e (with_face n (registered id e) h) (ordered_registered n id e h (ordered_answering n interest e from g ordered)) in
+        subst (Reaches from.region e) (sym (ran-append cmp (answering cmp matching n interest e from) (if registers from interest then parts else []) g))
+        (subst (λ b. Reaches from.region e (ran cmp (if b then parts else []) h)) (sym registers_) here)
 
     reached_routed : (n : ℕ) (source : Option Zid) (e : K) (from : Face K) (g : Rows K) → is_none source ≡ false → RowsAreInOrder cmp matching g
-        → TellsWhoWants cmp matching from.region e (ran cmp (declaring_of cmp matching n source e from) g)
+        → Reaches from.region e (ran cmp (declaring_of cmp matching n source e from) g)
     unfolding ran
     reached_routed n None e from g known ordered = never refl known
     reached_routed n (Some zid) e from g known ordered =
@@ -155,31 +168,42 @@ module _ {K : Type 0} (cmp : K → K → Ordering) (matching : K → K → Bool)
         (silent_ordered cmp matching ss h (each_weaker (λ s. IsQuietMessage s.1) (λ s. DrawsNothing s.1) (λ s one. drawn_if_quiet s.1 one) ss quiet)
         (ordered_altered cmp matching (with_routed cmp region zid e) g (quiet_with_routed cmp matching total region zid e) ordered))
 
-    pub plain_reach : (n id node : ℕ) (e : K) (interest : Option ℕ) (f : Face K) (g : Rows K) → RowsAreInOrder cmp matching g → find_face n g ≡ Some f → is_routed g f ≡ false → registers f interest ≡ true
-        → TellsWhoWants cmp matching f.region e (rows_after_call cmp matching (DeclareToken n id e node interest) g)
+    plain_reaches : (n id node : ℕ) (e : K) (interest : Option ℕ) (f : Face K) (g : Rows K) → RowsAreInOrder cmp matching g → find_face n g ≡ Some f → is_routed g f ≡ false → registers f interest ≡ true
+        → Reaches f.region e (rows_after_call cmp matching (DeclareToken n id e node interest) g)
     unfolding parts_of
-    plain_reach n id node e interest f g ordered found plain registers_ =
-        subst (TellsWhoWants cmp matching f.region e) (sym (call_runs cmp matching (DeclareToken n id e node interest) g ∙ ap (λ ps. ran cmp ps g) (parts_at found)))
-        (subst (λ b. TellsWhoWants cmp matching f.region e (ran cmp (if b then declaring_of cmp matching n (source_of g f node) e f else answering cmp matching n interest e f ++ (if registers f interest then declaring cmp matching n id e f ++ showing cmp f.region e else [])) g)) (sym plain)
+    plain_reaches n id node e interest f g ordered found plain registers_ =
+        subst (Reaches f.region e) (sym (call_runs cmp matching (DeclareToken n id e node interest) g ∙ ap (λ ps. ran cmp ps g) (parts_at found)))
+        (subst (λ b. Reaches f.region e (ran cmp (if b then declaring_of cmp matching n (source_of g f node) e f else answering cmp matching n interest e f ++ (if registers f interest then declaring cmp matching n id e f ++ showing cmp f.region e else [])) g)) (sym plain)
         (reached_plain n id e interest f g registers_ ordered))
       where
         parts_at : find_face n g ≡ Some f → parts_of cmp matching (DeclareToken n id e node interest) g ≡ (if is_routed g f then declaring_of cmp matching n (source_of g f node) e f else answering cmp matching n interest e f ++ (if registers f interest then declaring cmp matching n id e f ++ showing cmp f.region e else []))
         parts_at is = ap (λ (o : Option (Face K)). elim o [ None ↦ [] | Some k ↦ if is_routed g k then declaring_of cmp matching n (source_of g k node) e k else answering cmp matching n interest e k ++ (if registers k interest then declaring cmp matching n id e k ++ showing cmp k.region e else []) ]) is
 
-    pub routed_reach : (spent : Bool) (n id node : ℕ) (e : K) (interest : Option ℕ) (f : Face K) (g : Rows K) → RowsAreInOrder cmp matching g
+    routed_reaches : (spent : Bool) (n id node : ℕ) (e : K) (interest : Option ℕ) (f : Face K) (g : Rows K) → RowsAreInOrder cmp matching g
         → first_cause (call_causes cmp matching spent (DeclareToken n id e node interest) g) ≡ None → find_face n g ≡ Some f → is_routed g f ≡ true
-        → TellsWhoWants cmp matching f.region e (rows_after_call cmp matching (DeclareToken n id e node interest) g)
+        → Reaches f.region e (rows_after_call cmp matching (DeclareToken n id e node interest) g)
     unfolding parts_of call_causes
-    routed_reach spent n id node e interest f g ordered accepted found routed =
+    routed_reaches spent n id node e interest f g ordered accepted found routed =
         let one = no_cause _ _ _ accepted in
         let two = no_cause _ _ _ one.1 in
         let three = no_cause _ _ _ two.1 in
         let four = no_cause _ _ _ three.1 in
         let unknown : is_unknown_router node g f ≡ false = not_on_face n g (is_unknown_router node g) f found four.0 in
         let known : is_none (source_of g f node) ≡ false = ap (λ b. b && is_none (source_of g f node)) (sym routed) ∙ unknown in
-        subst (TellsWhoWants cmp matching f.region e) (sym (call_runs cmp matching (DeclareToken n id e node interest) g ∙ ap (λ ps. ran cmp ps g) (parts_at found)))
-        (subst (λ b. TellsWhoWants cmp matching f.region e (ran cmp (if b then declaring_of cmp matching n (source_of g f node) e f else answering cmp matching n interest e f ++ (if registers f interest then declaring cmp matching n id e f ++ showing cmp f.region e else [])) g)) (sym routed)
+        subst (Reaches f.region e) (sym (call_runs cmp matching (DeclareToken n id e node interest) g ∙ ap (λ ps. ran cmp ps g) (parts_at found)))
+        (subst (λ b. Reaches f.region e (ran cmp (if b then declaring_of cmp matching n (source_of g f node) e f else answering cmp matching n interest e f ++ (if registers f interest then declaring cmp matching n id e f ++ showing cmp f.region e else [])) g)) (sym routed)
         (reached_routed n (source_of g f node) e f g known ordered))
       where
         parts_at : find_face n g ≡ Some f → parts_of cmp matching (DeclareToken n id e node interest) g ≡ (if is_routed g f then declaring_of cmp matching n (source_of g f node) e f else answering cmp matching n interest e f ++ (if registers f interest then declaring cmp matching n id e f ++ showing cmp f.region e else []))
         parts_at is = ap (λ (o : Option (Face K)). elim o [ None ↦ [] | Some k ↦ if is_routed g k then declaring_of cmp matching n (source_of g k node) e k else answering cmp matching n interest e k ++ (if registers k interest then declaring cmp matching n id e k ++ showing cmp k.region e else []) ]) is
+
+    pub plain_reach : (n id node : ℕ) (e : K) (interest : Option ℕ) (f : Face K) (g : Rows K) → RowsAreInOrder cmp matching g → find_face n g ≡ Some f → is_routed g f ≡ false → registers f interest ≡ true
+        → TellsWhoWants cmp matching f.region e (rows_after_call cmp matching (DeclareToken n id e node interest) g)
+    plain_reach n id node e interest f g ordered found plain registers_ =
+        as_promised f.region e (rows_after_call cmp matching (DeclareToken n id e node interest) g) (plain_reaches n id node e interest f g ordered found plain registers_)
+
+    pub routed_reach : (spent : Bool) (n id node : ℕ) (e : K) (interest : Option ℕ) (f : Face K) (g : Rows K) → RowsAreInOrder cmp matching g
+        → first_cause (call_causes cmp matching spent (DeclareToken n id e node interest) g) ≡ None → find_face n g ≡ Some f → is_routed g f ≡ true
+        → TellsWhoWants cmp matching f.region e (rows_after_call cmp matching (DeclareToken n id e node interest) g)
+    routed_reach spent n id node e interest f g ordered accepted found routed =
+        as_promised f.region e (rows_after_call cmp matching (DeclareToken n id e node interest) g) (routed_reaches spent n id node e interest f g ordered accepted found routed)
