@@ -1,4 +1,4 @@
--- What the loops over a text keep that find its number, its first chunk, its first two and its last.
+-- What the loops over a text keep that find its first chunk, its first two and its last.
 use Rattle.std.proofs.Common.{◌≡◌, ℕ, ◌+◌, ◌-◌, ◌<◌, ◌≤◌, Bool, true, false, ◌||◌, List, [], ◌∷◌, ◌++◌, length, take, drop, get_or, refl, sym, ap, ◌∙◌, eqb, arith, append_assoc, add-one}
 use Rattle.std.specs.List.{list_any, onto_first}
 use Rattle.std.proofs.Math.Seq.{take-suc}
@@ -6,42 +6,11 @@ use Rattle.std.proofs.lemmas.Bool.{false≢true, eqb-true}
 use Rattle.std.proofs.lemmas.List.{append-nil, take_all, length-drop, at_drop_more, at_drop_all, take-append-drop}
 use Rattle.std.proofs.lemmas.List.Splits.{slice_split-cons_yes, slice_split-cons_no}
 use Rattle.zt_keys.specs.Test.{by_test}
-use Rattle.zt_keys.specs.Chunks.{chunks, is_star}
-use Rattle.zt_keys.specs.Anchors.{seed, with_byte, hash_from, first_chunk, first_two, last_chunk, last_from}
+use Rattle.zt_keys.specs.Chunks.{chunks}
+use Rattle.zt_keys.specs.Anchors.{first_chunk, first_two, last_chunk, last_from}
 
 abbrev pub is_slash : ℕ → Bool
 is_slash b = eqb b 47
-
--- the hash of a text, and whether it has a `*`
-
--- the hash so far goes on to that of the whole text
-abbrev pub HashGoesOn : List ℕ → ℕ → ℕ → Type 0
-HashGoesOn text hash place = hash_from hash (drop place text) ≡ hash_from seed text
-
-pub hash-more : (text : List ℕ) (hash place : ℕ) → place < length text → HashGoesOn text hash place → HashGoesOn text (with_byte hash (get_or text place 0)) (place + 1)
-hash-more text hash place h says = sym (at_drop_more (hash_from hash) text place 0 h) ∙ says
-
-pub hash-end : (text : List ℕ) (hash place : ℕ) → length text ≤ place → HashGoesOn text hash place → hash ≡ hash_from seed text
-hash-end text hash place h says = sym (at_drop_all (hash_from hash) text place h) ∙ says
-
--- a `*` was found or is to be found exactly if the text has one
-abbrev pub StarFound : List ℕ → Bool → ℕ → Type 0
-StarFound text found place = (found || list_any is_star (drop place text)) ≡ list_any is_star text
-
-pub star-found : (text : List ℕ) (found : Bool) (place : ℕ) → place < length text → is_star (get_or text place 0) ≡ true → StarFound text found place → StarFound text true (place + 1)
-star-found text true place h e says = says
-star-found text false place h e says = rw e at (sym (at_drop_more (list_any is_star) text place 0 h) ∙ says)
-
-pub star-more : (text : List ℕ) (found : Bool) (place : ℕ) → place < length text → is_star (get_or text place 0) ≡ false → StarFound text found place → StarFound text found (place + 1)
-star-more text true place h e says = says
-star-more text false place h e says = rw e at (sym (at_drop_more (list_any is_star) text place 0 h) ∙ says)
-
-or-false : (found : Bool) → (found || false) ≡ found
-or-false true = refl
-or-false false = refl
-
-pub star-end : (text : List ℕ) (found : Bool) (place : ℕ) → length text ≤ place → StarFound text found place → found ≡ list_any is_star text
-star-end text found place h says = sym (ap (λ more. found || more) (at_drop_all (list_any is_star) text place h) ∙ or-false found) ∙ says
 
 -- a byte more is taken of what a text begins with
 more-taken : (whole : List ℕ) (here there : List ℕ → List ℕ) (text : List ℕ) (place : ℕ) → place < length text

@@ -1,31 +1,15 @@
 -- The numbers by which key expressions are told apart.
-use Rattle.std.specs.Prelude.{ℕ, ◌*◌, ◌/◌, ◌%◌, ◌^◌, List, [], ◌∷◌, ◌++◌, Option, Some, None, cond, bit_xor}
+use Rattle.std.specs.Prelude.{ℕ, List, [], ◌∷◌, ◌++◌, Option, Some, None, cond}
+use Rattle.std.specs.Hash.DefaultHasher as sip
 use Rattle.std.specs.List.{list_any}
 use Rattle.zt_keys.specs.declared.anchor.Anchor.{Anchor}
 use Rattle.zt_keys.specs.declared.anchor.Anchor.TheVariants.{Whole, First, FirstTwo, Last}
 use Rattle.zt_keys.specs.Chunks.{chunks, is_star}
 use Rattle.zt_keys.specs.Expression.{Expression}
 
--- the hash of no byte
-abbrev pub seed : ℕ
-seed = 0xCBF2_9CE4_8422_2325
-
--- the hash of the bytes so far and of one more
-unfoldable pub with_byte : ℕ → ℕ → ℕ
-with_byte hash byte = (bit_xor hash byte * 0x9E37_79B9_7F4A_7C15) % 2 ^ 64
-
--- the high half folded into the low one
-unfoldable pub spread : ℕ → ℕ
-spread hash = bit_xor hash (hash / 2 ^ 32)
-
--- the hash of the bytes so far and of these
-abbrev pub hash_from : ℕ → List ℕ → ℕ
-hash_from hash [] = hash
-hash_from hash (byte ∷ bytes) = hash_from (with_byte hash byte) bytes
-
--- the hash of a text
-abbrev pub hash_of : List ℕ → ℕ
-hash_of text = spread (hash_from seed text)
+-- the hash of a text: SipHash of its bytes
+unfoldable pub hash_of : List ℕ → ℕ
+hash_of text = sip.finish (sip.write sip.initial text)
 
 -- a number of a text, or `None` where it has a `*`
 abbrev pub number_of : List ℕ → Option ℕ

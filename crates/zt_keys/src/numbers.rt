@@ -2,30 +2,30 @@
 ghost use Rattle.std.specs.Prelude.{◌≡◌, cond, Some, None};
 ghost use Rattle.std.specs.List.{list_any};
 ghost use Rattle.zt_keys.specs.Chunks.{chunks, is_star};
-ghost use Rattle.zt_keys.specs.Anchors.{with_byte, spread, hash_of, number_of};
+ghost use Rattle.zt_keys.specs.Anchors.{hash_of, number_of};
 ghost use Rattle.zt_keys.specs.Anchors.{first_chunk, first_two, last_chunk};
 
-const SEED: u64 = 0xCBF2_9CE4_8422_2325;
+use std::hash::{DefaultHasher, Hasher};
 
-const FACTOR: u64 = 0x9E37_79B9_7F4A_7C15;
-
-// The hash of the bytes so far and of one more.
-#[tactic(auto, unfolding(crate::specs::Anchors::with_byte))]
-fn with_byte(hash: u64, byte: u8) -> u64
-    ensures { result ≡ with_byte hash byte }
+// SipHash, which keeps 256 bits while it reads: to find many texts of one hash, one has to try texts
+// without end. The seed is the same in each run, since the hash is a function of the text alone.
+#[tactic(auto, unfolding(crate::specs::Anchors::hash_of))]
+fn hash_of(text: &[u8]) -> u64
+    ensures { result ≡ hash_of text.now }
 {
-    (hash ^ u64::from(byte)).wrapping_mul(FACTOR)
+    let mut hasher = DefaultHasher::new();
+    hasher.write(text);
+    hasher.finish()
 }
 
-// The factor carries each bit upwards only, so the high half is folded into the low one.
-#[tactic(auto, unfolding(crate::specs::Anchors::spread))]
-fn spread(hash: u64) -> u64
-    ensures { result ≡ spread hash }
+// Whether the text has a `*`.
+fn has_star(text: &[u8]) -> bool
+    ensures { result ≡ list_any is_star text.now }
 {
-    hash ^ (hash >> 32)
+    text.iter().any(|b| *b == b'*')
 }
 
-// What one walk over a text finds.
+// What is found once of a text.
 #[derive(Clone, Copy)]
 pub(crate) struct Digest {
     pub(crate) hash: u64,
@@ -37,17 +37,9 @@ impl Digest {
         ensures hash { result.hash ≡ hash_of text.now }
         ensures star { result.has_star ≡ list_any is_star text.now }
     {
-        let mut hash = SEED;
-        let mut has_star = false;
-        for byte in text {
-            if *byte == b'*' {
-                has_star = true;
-            }
-            hash = with_byte(hash, *byte);
-        }
         Digest {
-            hash: spread(hash),
-            has_star,
+            hash: hash_of(text),
+            has_star: has_star(text),
         }
     }
 
@@ -63,7 +55,10 @@ impl Digest {
 pub(crate) fn number_of(text: &[u8]) -> Option<u64>
     ensures { result ≡ number_of text.now }
 {
-    Digest::of(text).number()
+    if has_star(text) {
+        return None;
+    }
+    Some(hash_of(text))
 }
 
 // The text's first chunk. Nothing behind it is read.
