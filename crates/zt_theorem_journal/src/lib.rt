@@ -5,13 +5,17 @@
 #![tactic(auto)]
 
 ghost use Rattle.std.specs.Prelude.{◌≡◌, ℕ, ◌+◌, Bool, true, false, List, ◌∷◌, length, map};
+ghost use Rattle.std.specs.Prelude.{Ok, Option, Some, slice_get};
 ghost use Rattle.zt_model.specs.Fabric.{Fabric, entries_from};
 ghost use Rattle.zt_model.specs.Journal.{IsReordered, IsReplay, Journalled, are_makings_first};
-ghost use Rattle.zt_model.specs.Journal.{is_driven, is_making, starts_none};
+ghost use Rattle.zt_model.specs.Journal.{is_driven, is_making, made_by, outcome_of, starts_none};
 ghost use Rattle.zt_model.specs.Rows.{Rows};
 ghost use Rattle.zt_model.specs.Transcript.{Each};
 ghost use Rattle.zt_protocol.specs.Plain.{PlainCall, PlainLine, Speak};
+ghost use Rattle.zt_protocol.specs.declared.entries.Sent.{Sent};
+ghost use Rattle.zt_laws.specs.Order.{InKeyOrder};
 ghost use Rattle.zt_theorem_journal.specs.Alone.{IsAlone, Speaks};
+ghost use Rattle.zt_theorem_journal.specs.Asked.{AreVisible, answers_to, rows_before, token_ask};
 ghost use Rattle.zt_theorem_journal.specs.Dealt.{IsDealt, numbered_from, order_of, script_of};
 
 use zt_keys::Key;
@@ -38,4 +42,24 @@ pub fn dealt_scripts_are_reordered<K: Key>()
         → starts_none K.cmp K.matching (numbered_from 1 (script_of line makings calls)) ≡ false
         → IsReordered K.cmp K.matching (numbered_from 1 (script_of line makings calls))
         (order_of line makings journal) }
+{}
+
+/// Each entry of a replay has the face and the outcome that its call comes to on the rows that the
+/// entries before it leave.
+pub fn entries_are_what_calls_come_to<K: Key>()
+    ensures { (place : ℕ) (entries : List (Journalled K)) (g : Rows K) (entry : Journalled K)
+        → IsReplay K.cmp K.matching entries g → slice_get entries place ≡ Some entry
+        → (let before = rows_before K.cmp K.matching place entries g in
+        (entry.made ≡ made_by K.cmp K.matching entry.call before)
+        × (entry.outcome ≡ outcome_of K.cmp K.matching entry.call before)) }
+{}
+
+/// An ask for the tokens that are there now, where it is accepted, is answered in its own outcome
+/// the matching expressions that are visible to its face, in key order, each once.
+pub fn asks_are_answered_what_is_visible<K: Key>()
+    ensures visible { (face id : ℕ) (expr : Option K) (g : Rows K) (sent : List (Sent K))
+        → outcome_of K.cmp K.matching (token_ask face id expr) g ≡ Ok sent
+        → AreVisible K.cmp K.matching face expr g (answers_to face id sent) }
+    ensures ordered { (face : ℕ) (expr : Option K) (g : Rows K) (keys : List K)
+        → AreVisible K.cmp K.matching face expr g keys → InKeyOrder K.cmp keys }
 {}
