@@ -3,3 +3,4 @@ pub mod RegionError
 pub mod Admission
 pub mod South
 pub mod Tables
+pub mod ZidHash

@@ -8,6 +8,7 @@ mod matching;
 mod region;
 #[cfg(test)]
 mod tests;
+mod zid;
 
 pub use compute::{
     compute_multicast_region, compute_multicast_region_of, compute_region_of,

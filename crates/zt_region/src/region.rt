@@ -13,7 +13,7 @@ pub enum WhatAmI {
 }
 
 /// The number of a node, the same wherever the node is spoken of. It is at least 1.
-#[derive(Clone, Copy, PartialEq, Eq, PartialOrd, Ord, Hash, Debug)]
+#[derive(Clone, Copy, PartialEq, Eq, PartialOrd, Ord, Debug)]
 pub struct Zid(pub u128);
 
 /// A node's number in one tree table of a router region; another table may number it otherwise.
