@@ -9,9 +9,17 @@ pub admission : ComesOut part.admission
 unfolding opened
 admission = (refl, refl)
 
+pub aggregates : ComesOut part.aggregates
+unfolding opened
+aggregates = (refl, refl)
+
 pub answers : ComesOut part.answers
 unfolding opened
 answers = (refl, refl)
+
+pub asks_after_a_final_0 : ComesOut part.asks_after_a_final_0
+unfolding opened
+asks_after_a_final_0 = (refl, refl)
 
 pub asks_in_a_tree : ComesOut part.asks_in_a_tree
 unfolding opened
@@ -81,30 +89,10 @@ pub entities : ComesOut part.entities
 unfolding opened
 entities = (refl, refl)
 
-pub expiry_at_the_timeout : ComesOut part.expiry_at_the_timeout
+pub entities_of_a_region : ComesOut part.entities_of_a_region
 unfolding opened
-expiry_at_the_timeout = (refl, refl)
+entities_of_a_region = (refl, refl)
 
-pub finalised_interest_forgotten : ComesOut part.finalised_interest_forgotten
+pub equal_ids_at_two_faces : ComesOut part.equal_ids_at_two_faces
 unfolding opened
-finalised_interest_forgotten = (refl, refl)
-
-pub hostile_01 : ComesOut part.hostile_01
-unfolding opened
-hostile_01 = (refl, refl)
-
-pub hostile_02 : ComesOut part.hostile_02
-unfolding opened
-hostile_02 = (refl, refl)
-
-pub hostile_03 : ComesOut part.hostile_03
-unfolding opened
-hostile_03 = (refl, refl)
-
-pub hostile_04 : ComesOut part.hostile_04
-unfolding opened
-hostile_04 = (refl, refl)
-
-pub hostile_05 : ComesOut part.hostile_05
-unfolding opened
-hostile_05 = (refl, refl)
+equal_ids_at_two_faces = (refl, refl)

@@ -5,6 +5,34 @@ use Rattle.zt_model_test.specs.Script.{ComesOut}
 use Rattle.zt_model_test.specs.Part2 as part
 use Rattle.zt_model_test.proofs.Opened.{opened}
 
+pub expiry_at_the_timeout : ComesOut part.expiry_at_the_timeout
+unfolding opened
+expiry_at_the_timeout = (refl, refl)
+
+pub finalised_interest_forgotten : ComesOut part.finalised_interest_forgotten
+unfolding opened
+finalised_interest_forgotten = (refl, refl)
+
+pub hostile_01 : ComesOut part.hostile_01
+unfolding opened
+hostile_01 = (refl, refl)
+
+pub hostile_02 : ComesOut part.hostile_02
+unfolding opened
+hostile_02 = (refl, refl)
+
+pub hostile_03 : ComesOut part.hostile_03
+unfolding opened
+hostile_03 = (refl, refl)
+
+pub hostile_04 : ComesOut part.hostile_04
+unfolding opened
+hostile_04 = (refl, refl)
+
+pub hostile_05 : ComesOut part.hostile_05
+unfolding opened
+hostile_05 = (refl, refl)
+
 pub hostile_06 : ComesOut part.hostile_06
 unfolding opened
 hostile_06 = (refl, refl)
@@ -32,6 +60,10 @@ hostile_11 = (refl, refl)
 pub hostile_12 : ComesOut part.hostile_12
 unfolding opened
 hostile_12 = (refl, refl)
+
+pub interests_at_opening_and_closing : ComesOut part.interests_at_opening_and_closing
+unfolding opened
+interests_at_opening_and_closing = (refl, refl)
 
 pub interests_sent_at_opening_client_client : ComesOut part.interests_sent_at_opening_client_client
 unfolding opened
@@ -76,27 +108,3 @@ own_token_shown = (refl, refl)
 pub peer_asks : ComesOut part.peer_asks
 unfolding opened
 peer_asks = (refl, refl)
-
-pub peer_linked_to_itself : ComesOut part.peer_linked_to_itself
-unfolding opened
-peer_linked_to_itself = (refl, refl)
-
-pub peers_finalised : ComesOut part.peers_finalised
-unfolding opened
-peers_finalised = (refl, refl)
-
-pub peers_not_finalised : ComesOut part.peers_not_finalised
-unfolding opened
-peers_not_finalised = (refl, refl)
-
-pub router_disconnect : ComesOut part.router_disconnect
-unfolding opened
-router_disconnect = (refl, refl)
-
-pub sessions_alone : ComesOut part.sessions_alone
-unfolding opened
-sessions_alone = (refl, refl)
-
-pub three_routers : ComesOut part.three_routers
-unfolding opened
-three_routers = (refl, refl)

@@ -4,7 +4,7 @@ use Rattle.std.specs.Prelude.{true, false, [], ◌∷◌, Some, None, Ok, Err}
 use Rattle.zt_region.specs.declared.region.Bound.TheVariants as bound
 use Rattle.zt_region.specs.declared.region.Region.TheVariants.{North, Local, South}
 use Rattle.zt_region.specs.declared.region.WhatAmI.TheVariants.{Router, Peer, Client}
-use Rattle.zt_protocol.specs.Plain.{DeclareToken, UndeclareToken, Interest, InterestFinal, DeclareFinal, CloseFace, SetEntities, Gateway, Session, Face as FaceLine, Link as LinkLine, Step, Speak, Moment}
+use Rattle.zt_protocol.specs.Plain.{DeclareToken, UndeclareToken, Interest, InterestFinal, DeclareFinal, CloseFace, SetEntities, Gateway, Session, Face as FaceLine, Link as LinkLine, Step, Speak}
 use Rattle.zt_protocol.specs.declared.errors.Refusal.TheVariants as refusal
 use Rattle.zt_protocol.specs.declared.interests.InterestMode.TheVariants.{Current, Future, CurrentFuture}
 use Rattle.zt_protocol.specs.declared.messages.Message.TheVariants as message
@@ -33,6 +33,57 @@ admission = record {
       ∷ Ok (sent 1 1 (message.UndeclareToken 1 None 0) ∷ [])
       ∷ [];
   totals = Some (record { lines = 7; messages = 4; refusals = 0 });
+}
+
+-- aggregates: 0 is k/*, 1 is k/a, 2 is k/b
+abbrev pub aggregates : Script
+aggregates = record {
+  matches = (0, 1) ∷ (0, 2) ∷ (1, 0) ∷ (2, 0) ∷ [];
+  lines =
+      Gateway Peer (zid 1) (South 0 Peer ∷ South 1 Client ∷ []) None None 10000 []
+      ∷ Session 1 1
+      ∷ FaceLine 1 Peer (zid 2) (South 0 Peer) bound.North 1
+      ∷ FaceLine 1 Client (zid 3) (South 1 Client) bound.North 1
+      ∷ FaceLine 1 Router (zid 4) North bound.South 1
+      ∷ Speak (SetEntities 1 (1 ∷ 2 ∷ []) ((1, record { complete = false; distance = 3 }) ∷ []))
+      ∷ Speak (Interest 2 1 CurrentFuture (options 22) (Some 0))
+      ∷ Speak (Interest 3 1 CurrentFuture (options 22) (Some 0))
+      ∷ Speak (DeclareToken 1 1 1 0 None)
+      ∷ Speak (Interest 2 2 CurrentFuture (options 26) (Some 0))
+      ∷ Speak (Interest 3 2 CurrentFuture (options 26) (Some 0))
+      ∷ Speak (Interest 3 3 CurrentFuture (options 24) (Some 0))
+      ∷ Speak (Interest 3 4 Current (options 24) (Some 0))
+      ∷ Speak (Interest 2 3 Future (options 18) (Some 0))
+      ∷ Speak (InterestFinal 3 1)
+      ∷ Speak (InterestFinal 2 1)
+      ∷ Speak (InterestFinal 2 3)
+      ∷ Speak (InterestFinal 3 2)
+      ∷ Speak (InterestFinal 2 2)
+      ∷ Speak (InterestFinal 3 3)
+      ∷ [];
+  entries =
+      Ok []
+      ∷ Ok []
+      ∷ Ok []
+      ∷ Ok []
+      ∷ Ok []
+      ∷ Ok []
+      ∷ Ok (sent 1 2 (message.DeclareSubscriber 1 1 1) ∷ sent 1 2 (message.DeclareSubscriber 2 2 1) ∷ sent 1 2 (message.DeclareQueryable 1 1 (record { complete = false; distance = 3 }) 1) ∷ sent 1 4 (message.Interest 1 CurrentFuture (options 6) (Some 0)) ∷ [])
+      ∷ Ok (sent 1 3 (message.DeclareSubscriber 3 0 1) ∷ sent 1 3 (message.DeclareQueryable 3 0 (record { complete = false; distance = 3 }) 1) ∷ sent 1 4 (message.Interest 2 CurrentFuture (options 22) (Some 0)) ∷ [])
+      ∷ Ok (sent 1 4 (message.DeclareToken 3 1 None 0) ∷ [])
+      ∷ Ok (sent 1 2 (message.DeclareSubscriber 1 1 2) ∷ sent 1 2 (message.DeclareSubscriber 2 2 2) ∷ sent 1 2 (message.DeclareToken 1 1 (Some 2) 0) ∷ sent 1 4 (message.Interest 4 CurrentFuture (options 10) (Some 0)) ∷ [])
+      ∷ Ok (sent 1 3 (message.DeclareSubscriber 1 1 2) ∷ sent 1 3 (message.DeclareSubscriber 2 2 2) ∷ sent 1 3 (message.DeclareToken 1 1 (Some 2) 0) ∷ sent 1 4 (message.Interest 5 CurrentFuture (options 10) (Some 0)) ∷ [])
+      ∷ Ok (sent 1 3 (message.DeclareToken 1 1 (Some 3) 0) ∷ sent 1 4 (message.Interest 6 CurrentFuture (options 8) (Some 0)) ∷ [])
+      ∷ Ok (sent 1 3 (message.DeclareToken 0 1 (Some 4) 0) ∷ sent 1 4 (message.Interest 7 Current (options 8) (Some 0)) ∷ [])
+      ∷ Ok (sent 1 4 (message.Interest 8 Future (options 2) (Some 0)) ∷ [])
+      ∷ Ok (sent 1 3 (message.DeclareFinal 1) ∷ sent 1 4 (message.InterestFinal 2) ∷ [])
+      ∷ Ok (sent 1 2 (message.DeclareFinal 1) ∷ sent 1 4 (message.InterestFinal 1) ∷ [])
+      ∷ Ok (sent 1 4 (message.InterestFinal 8) ∷ [])
+      ∷ Ok (sent 1 3 (message.DeclareFinal 2) ∷ [])
+      ∷ Ok (sent 1 2 (message.UndeclareToken 1 None 0) ∷ sent 1 2 (message.DeclareFinal 2) ∷ sent 1 4 (message.InterestFinal 4) ∷ sent 1 4 (message.InterestFinal 5) ∷ [])
+      ∷ Ok (sent 1 3 (message.UndeclareToken 1 None 0) ∷ sent 1 3 (message.DeclareFinal 3) ∷ sent 1 4 (message.InterestFinal 6) ∷ [])
+      ∷ [];
+  totals = Some (record { lines = 20; messages = 34; refusals = 0 });
 }
 
 -- answers: 0 is j, 1 is k
@@ -70,6 +121,47 @@ answers = record {
       ∷ Err refusal.TokenIdInUse
       ∷ [];
   totals = Some (record { lines = 13; messages = 3; refusals = 6 });
+}
+
+-- asks-after-a-final-0: 0 is k
+abbrev pub asks_after_a_final_0 : Script
+asks_after_a_final_0 = record {
+  matches = [];
+  lines =
+      Gateway Peer (zid 1) (South 0 Client ∷ []) None None 10000 []
+      ∷ FaceLine 1 Peer (zid 2) North bound.North 1
+      ∷ Session 1 1
+      ∷ FaceLine 1 Client (zid 4) (South 0 Client) bound.North 1
+      ∷ Speak (Interest 2 1 Current (options 8) None)
+      ∷ Speak (DeclareFinal 1 1)
+      ∷ Speak (DeclareFinal 1 7)
+      ∷ Speak (Interest 2 2 Current (options 8) (Some 0))
+      ∷ Speak (DeclareFinal 1 0)
+      ∷ Speak (Interest 2 3 Current (options 8) (Some 0))
+      ∷ Speak (DeclareFinal 1 2)
+      ∷ Speak (Interest 3 1 Current (options 8) None)
+      ∷ Speak (Interest 3 2 CurrentFuture (options 8) None)
+      ∷ Speak (DeclareFinal 1 0)
+      ∷ Speak (Interest 3 3 Current (options 8) (Some 0))
+      ∷ [];
+  entries =
+      Ok []
+      ∷ Ok (sent 1 1 (message.DeclareFinal 0) ∷ [])
+      ∷ Ok []
+      ∷ Ok []
+      ∷ Ok (sent 1 1 (message.Interest 1 Current (options 8) None) ∷ [])
+      ∷ Ok (sent 1 2 (message.DeclareFinal 1) ∷ [])
+      ∷ Err refusal.UnknownAsk
+      ∷ Ok (sent 1 1 (message.Interest 2 Current (options 8) (Some 0)) ∷ [])
+      ∷ Ok []
+      ∷ Ok (sent 1 2 (message.DeclareFinal 3) ∷ [])
+      ∷ Ok (sent 1 2 (message.DeclareFinal 2) ∷ [])
+      ∷ Ok (sent 1 3 (message.DeclareFinal 1) ∷ [])
+      ∷ Ok (sent 1 3 (message.DeclareFinal 2) ∷ [])
+      ∷ Ok []
+      ∷ Ok (sent 1 3 (message.DeclareFinal 3) ∷ [])
+      ∷ [];
+  totals = Some (record { lines = 15; messages = 9; refusals = 1 });
 }
 
 -- asks-in-a-tree: 0 is k
@@ -477,165 +569,82 @@ entities = record {
   totals = Some (record { lines = 7; messages = 7; refusals = 0 });
 }
 
--- expiry-at-the-timeout
-abbrev pub expiry_at_the_timeout : Script
-expiry_at_the_timeout = record {
-  matches = [];
-  lines =
-      Gateway Client (zid 1) [] None None 10 []
-      ∷ FaceLine 1 Router (zid 9) North bound.South 1
-      ∷ Session 1 1
-      ∷ Moment 1 5
-      ∷ Speak (Interest 2 1 Current (options 8) None)
-      ∷ Speak (Interest 2 2 CurrentFuture (options 8) None)
-      ∷ Moment 1 14
-      ∷ Moment 1 15
-      ∷ Speak (DeclareFinal 1 1)
-      ∷ Speak (DeclareFinal 1 2)
-      ∷ Moment 1 14
-      ∷ [];
-  entries =
-      Ok []
-      ∷ Ok []
-      ∷ Ok []
-      ∷ Ok []
-      ∷ Ok (sent 1 1 (message.Interest 1 Current (options 8) None) ∷ [])
-      ∷ Ok (sent 1 1 (message.Interest 2 CurrentFuture (options 8) None) ∷ [])
-      ∷ Ok []
-      ∷ Ok (sent 1 2 (message.DeclareFinal 1) ∷ sent 1 2 (message.DeclareFinal 2) ∷ [])
-      ∷ Err refusal.UnknownAsk
-      ∷ Ok []
-      ∷ Err refusal.MomentBack
-      ∷ [];
-  totals = Some (record { lines = 11; messages = 4; refusals = 2 });
-}
-
--- finalised-interest-forgotten: 0 is k/*, 1 is k/a, 2 is k/b
-abbrev pub finalised_interest_forgotten : Script
-finalised_interest_forgotten = record {
+-- entities-of-a-region: 0 is k/*, 1 is k/a, 2 is k/b, 3 is y, 4 is z
+abbrev pub entities_of_a_region : Script
+entities_of_a_region = record {
   matches = (0, 1) ∷ (0, 2) ∷ (1, 0) ∷ (2, 0) ∷ [];
   lines =
-      Gateway Client (zid 1) [] None None 10000 []
+      Gateway Peer (zid 1) (South 0 Peer ∷ []) None None 10000 []
+      ∷ FaceLine 1 Peer (zid 2) (South 0 Peer) bound.North 1
+      ∷ FaceLine 1 Peer (zid 3) (South 0 Peer) bound.North 1
       ∷ Session 1 1
       ∷ Session 1 1
-      ∷ Speak (Interest 1 1 CurrentFuture (options 8) (Some 0))
-      ∷ Speak (Interest 1 2 Future (options 8) (Some 1))
-      ∷ Speak (DeclareToken 2 1 1 0 None)
-      ∷ Speak (DeclareToken 2 2 2 0 None)
-      ∷ Speak (InterestFinal 1 1)
-      ∷ Speak (InterestFinal 1 2)
-      ∷ Speak (UndeclareToken 2 1 None 0)
-      ∷ Speak (Interest 1 3 CurrentFuture (options 8) None)
+      ∷ Speak (SetEntities 1 (1 ∷ []) ((1, record { complete = false; distance = 3 }) ∷ []))
+      ∷ Speak (SetEntities 3 (2 ∷ 4 ∷ []) ((2, record { complete = true; distance = 5 }) ∷ (2, record { complete = false; distance = 2 }) ∷ (4, record { complete = false; distance = 1 }) ∷ []))
+      ∷ Speak (Interest 1 1 CurrentFuture (options 6) (Some 0))
+      ∷ Speak (Interest 2 1 CurrentFuture (options 6) None)
+      ∷ Speak (Interest 4 1 CurrentFuture (options 6) (Some 0))
+      ∷ Speak (Interest 2 2 CurrentFuture (options 20) (Some 0))
+      ∷ Speak (Interest 2 3 CurrentFuture (options 22) (Some 3))
       ∷ [];
   entries =
       Ok []
       ∷ Ok []
       ∷ Ok []
-      ∷ Ok (sent 1 1 (message.DeclareFinal 1) ∷ [])
       ∷ Ok []
-      ∷ Ok (sent 1 1 (message.DeclareToken 1 1 None 0) ∷ [])
-      ∷ Ok (sent 1 1 (message.DeclareToken 2 2 None 0) ∷ [])
-      ∷ Ok (sent 1 1 (message.UndeclareToken 2 None 0) ∷ [])
-      ∷ Ok (sent 1 1 (message.UndeclareToken 1 None 0) ∷ [])
       ∷ Ok []
-      ∷ Ok (sent 1 1 (message.DeclareToken 3 2 (Some 3) 0) ∷ sent 1 1 (message.DeclareFinal 3) ∷ [])
+      ∷ Ok []
+      ∷ Ok []
+      ∷ Ok (sent 1 1 (message.DeclareSubscriber 2 2 1) ∷ sent 1 1 (message.DeclareQueryable 2 2 (record { complete = true; distance = 2 }) 1) ∷ sent 1 1 (message.DeclareFinal 1) ∷ [])
+      ∷ Ok (sent 1 2 (message.DeclareSubscriber 2 2 1) ∷ sent 1 2 (message.DeclareSubscriber 3 4 1) ∷ sent 1 2 (message.DeclareQueryable 2 2 (record { complete = true; distance = 2 }) 1) ∷ sent 1 2 (message.DeclareQueryable 3 4 (record { complete = false; distance = 1 }) 1) ∷ sent 1 2 (message.DeclareFinal 1) ∷ [])
+      ∷ Ok (sent 1 4 (message.DeclareSubscriber 1 1 1) ∷ sent 1 4 (message.DeclareSubscriber 2 2 1) ∷ sent 1 4 (message.DeclareQueryable 1 1 (record { complete = false; distance = 3 }) 1) ∷ sent 1 4 (message.DeclareQueryable 2 2 (record { complete = true; distance = 2 }) 1) ∷ sent 1 4 (message.DeclareFinal 1) ∷ [])
+      ∷ Ok (sent 1 2 (message.DeclareQueryable 2 2 (record { complete = true; distance = 2 }) 2) ∷ sent 1 2 (message.DeclareFinal 2) ∷ [])
+      ∷ Ok (sent 1 2 (message.DeclareFinal 3) ∷ [])
       ∷ [];
-  totals = Some (record { lines = 11; messages = 7; refusals = 0 });
+  totals = Some (record { lines = 12; messages = 16; refusals = 0 });
 }
 
--- hostile-01: 0 is k
-abbrev pub hostile_01 : Script
-hostile_01 = record {
+-- equal-ids-at-two-faces: 0 is k, 1 is l
+abbrev pub equal_ids_at_two_faces : Script
+equal_ids_at_two_faces = record {
   matches = [];
   lines =
-      Gateway Client (zid 1) [] None None 10000 []
-      ∷ FaceLine 1 Router (zid 9) North bound.South 1
+      Gateway Peer (zid 1) [] None None 10000 []
+      ∷ FaceLine 1 Peer (zid 2) North bound.North 1
+      ∷ FaceLine 1 Router (zid 3) North bound.South 1
       ∷ Session 1 1
-      ∷ Speak (DeclareToken 2 0 0 0 None)
+      ∷ Session 1 1
+      ∷ Speak (Interest 3 1 Current (options 8) None)
+      ∷ FaceLine 1 Peer (zid 4) North bound.North 1
+      ∷ Speak (Interest 4 1 Current (options 8) (Some 0))
+      ∷ Speak (DeclareToken 2 0 0 0 (Some 1))
+      ∷ Speak (DeclareToken 5 0 0 0 (Some 1))
+      ∷ Speak (DeclareToken 1 0 0 0 (Some 1))
+      ∷ Speak (DeclareFinal 5 1)
+      ∷ Speak (DeclareFinal 1 1)
+      ∷ Speak (DeclareToken 2 0 1 0 (Some 1))
+      ∷ Speak (DeclareFinal 2 1)
+      ∷ Speak (DeclareFinal 1 2)
+      ∷ Speak (DeclareFinal 2 2)
       ∷ [];
   entries =
       Ok []
+      ∷ Ok (sent 1 1 (message.DeclareFinal 0) ∷ [])
       ∷ Ok []
       ∷ Ok []
-      ∷ Err refusal.TokenIdZero
+      ∷ Ok []
+      ∷ Ok (sent 1 1 (message.Interest 1 Current (options 8) None) ∷ sent 1 2 (message.Interest 1 Current (options 8) None) ∷ [])
+      ∷ Ok (sent 1 5 (message.DeclareFinal 0) ∷ [])
+      ∷ Ok (sent 1 1 (message.Interest 2 Current (options 8) (Some 0)) ∷ sent 1 2 (message.Interest 2 Current (options 8) (Some 0)) ∷ sent 1 5 (message.Interest 1 Current (options 8) (Some 0)) ∷ [])
+      ∷ Ok (sent 1 3 (message.DeclareToken 0 0 (Some 1) 0) ∷ [])
+      ∷ Ok (sent 1 4 (message.DeclareToken 0 0 (Some 1) 0) ∷ [])
+      ∷ Ok []
+      ∷ Ok []
+      ∷ Ok []
+      ∷ Ok (sent 1 3 (message.DeclareToken 0 1 (Some 1) 0) ∷ [])
+      ∷ Ok (sent 1 3 (message.DeclareFinal 1) ∷ [])
+      ∷ Ok []
+      ∷ Ok (sent 1 4 (message.DeclareFinal 1) ∷ [])
       ∷ [];
-  totals = Some (record { lines = 4; messages = 0; refusals = 1 });
-}
-
--- hostile-02: 0 is k
-abbrev pub hostile_02 : Script
-hostile_02 = record {
-  matches = [];
-  lines =
-      Gateway Client (zid 1) [] None None 10000 []
-      ∷ FaceLine 1 Router (zid 9) North bound.South 1
-      ∷ Session 1 1
-      ∷ Speak (DeclareToken 2 1 0 0 None)
-      ∷ Speak (DeclareToken 2 1 0 0 None)
-      ∷ [];
-  entries =
-      Ok []
-      ∷ Ok []
-      ∷ Ok []
-      ∷ Ok (sent 1 1 (message.DeclareToken 1 0 None 0) ∷ [])
-      ∷ Ok []
-      ∷ [];
-  totals = Some (record { lines = 5; messages = 1; refusals = 0 });
-}
-
--- hostile-03: 0 is k
-abbrev pub hostile_03 : Script
-hostile_03 = record {
-  matches = [];
-  lines =
-      Gateway Client (zid 1) [] None None 10000 []
-      ∷ FaceLine 1 Router (zid 9) North bound.South 1
-      ∷ Session 1 1
-      ∷ Speak (DeclareToken 2 1 0 0 (Some 1))
-      ∷ [];
-  entries =
-      Ok []
-      ∷ Ok []
-      ∷ Ok []
-      ∷ Err refusal.AnswerFromSouth
-      ∷ [];
-  totals = Some (record { lines = 4; messages = 0; refusals = 1 });
-}
-
--- hostile-04
-abbrev pub hostile_04 : Script
-hostile_04 = record {
-  matches = [];
-  lines =
-      Gateway Client (zid 1) [] None None 10000 []
-      ∷ FaceLine 1 Router (zid 9) North bound.South 1
-      ∷ Session 1 1
-      ∷ Speak (DeclareFinal 2 0)
-      ∷ [];
-  entries =
-      Ok []
-      ∷ Ok []
-      ∷ Ok []
-      ∷ Err refusal.FinalFromSouth
-      ∷ [];
-  totals = Some (record { lines = 4; messages = 0; refusals = 1 });
-}
-
--- hostile-05
-abbrev pub hostile_05 : Script
-hostile_05 = record {
-  matches = [];
-  lines =
-      Gateway Client (zid 1) [] None None 10000 []
-      ∷ FaceLine 1 Router (zid 9) North bound.South 1
-      ∷ Session 1 1
-      ∷ Speak (DeclareFinal 1 0)
-      ∷ [];
-  entries =
-      Ok []
-      ∷ Ok []
-      ∷ Ok []
-      ∷ Err refusal.UnknownAsk
-      ∷ [];
-  totals = Some (record { lines = 4; messages = 0; refusals = 1 });
+  totals = Some (record { lines = 17; messages = 12; refusals = 0 });
 }

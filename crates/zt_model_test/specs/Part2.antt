@@ -4,11 +4,174 @@ use Rattle.std.specs.Prelude.{false, [], ◌∷◌, Some, None, Ok, Err}
 use Rattle.zt_region.specs.declared.region.Bound.TheVariants as bound
 use Rattle.zt_region.specs.declared.region.Region.TheVariants.{North, South}
 use Rattle.zt_region.specs.declared.region.WhatAmI.TheVariants.{Router, Peer, Client}
-use Rattle.zt_protocol.specs.Plain.{DeclareToken, UndeclareToken, Interest, InterestFinal, DeclareFinal, CloseFace, Gateway, Session, Face as FaceLine, Link as LinkLine, Unlink, Step, Speak, Moment, SetTreesAt}
+use Rattle.zt_protocol.specs.Plain.{DeclareToken, UndeclareToken, Interest, InterestFinal, DeclareFinal, CloseFace, Gateway, Session, Face as FaceLine, Link as LinkLine, Step, Speak, Moment, SetTreesAt}
 use Rattle.zt_protocol.specs.declared.errors.Refusal.TheVariants as refusal
 use Rattle.zt_protocol.specs.declared.interests.InterestMode.TheVariants.{Current, Future, CurrentFuture}
 use Rattle.zt_protocol.specs.declared.messages.Message.TheVariants as message
 use Rattle.zt_model_test.specs.Script.{Script, options, sent, zid}
+
+-- expiry-at-the-timeout
+abbrev pub expiry_at_the_timeout : Script
+expiry_at_the_timeout = record {
+  matches = [];
+  lines =
+      Gateway Client (zid 1) [] None None 10 []
+      ∷ FaceLine 1 Router (zid 9) North bound.South 1
+      ∷ Session 1 1
+      ∷ Moment 1 5
+      ∷ Speak (Interest 2 1 Current (options 8) None)
+      ∷ Speak (Interest 2 2 CurrentFuture (options 8) None)
+      ∷ Moment 1 14
+      ∷ Moment 1 15
+      ∷ Speak (DeclareFinal 1 1)
+      ∷ Speak (DeclareFinal 1 2)
+      ∷ Moment 1 14
+      ∷ [];
+  entries =
+      Ok []
+      ∷ Ok []
+      ∷ Ok []
+      ∷ Ok []
+      ∷ Ok (sent 1 1 (message.Interest 1 Current (options 8) None) ∷ [])
+      ∷ Ok (sent 1 1 (message.Interest 2 CurrentFuture (options 8) None) ∷ [])
+      ∷ Ok []
+      ∷ Ok (sent 1 2 (message.DeclareFinal 1) ∷ sent 1 2 (message.DeclareFinal 2) ∷ [])
+      ∷ Err refusal.UnknownAsk
+      ∷ Ok []
+      ∷ Err refusal.MomentBack
+      ∷ [];
+  totals = Some (record { lines = 11; messages = 4; refusals = 2 });
+}
+
+-- finalised-interest-forgotten: 0 is k/*, 1 is k/a, 2 is k/b
+abbrev pub finalised_interest_forgotten : Script
+finalised_interest_forgotten = record {
+  matches = (0, 1) ∷ (0, 2) ∷ (1, 0) ∷ (2, 0) ∷ [];
+  lines =
+      Gateway Client (zid 1) [] None None 10000 []
+      ∷ Session 1 1
+      ∷ Session 1 1
+      ∷ Speak (Interest 1 1 CurrentFuture (options 8) (Some 0))
+      ∷ Speak (Interest 1 2 Future (options 8) (Some 1))
+      ∷ Speak (DeclareToken 2 1 1 0 None)
+      ∷ Speak (DeclareToken 2 2 2 0 None)
+      ∷ Speak (InterestFinal 1 1)
+      ∷ Speak (InterestFinal 1 2)
+      ∷ Speak (UndeclareToken 2 1 None 0)
+      ∷ Speak (Interest 1 3 CurrentFuture (options 8) None)
+      ∷ [];
+  entries =
+      Ok []
+      ∷ Ok []
+      ∷ Ok []
+      ∷ Ok (sent 1 1 (message.DeclareFinal 1) ∷ [])
+      ∷ Ok []
+      ∷ Ok (sent 1 1 (message.DeclareToken 1 1 None 0) ∷ [])
+      ∷ Ok (sent 1 1 (message.DeclareToken 2 2 None 0) ∷ [])
+      ∷ Ok (sent 1 1 (message.UndeclareToken 2 None 0) ∷ [])
+      ∷ Ok (sent 1 1 (message.UndeclareToken 1 None 0) ∷ [])
+      ∷ Ok []
+      ∷ Ok (sent 1 1 (message.DeclareToken 3 2 (Some 3) 0) ∷ sent 1 1 (message.DeclareFinal 3) ∷ [])
+      ∷ [];
+  totals = Some (record { lines = 11; messages = 7; refusals = 0 });
+}
+
+-- hostile-01: 0 is k
+abbrev pub hostile_01 : Script
+hostile_01 = record {
+  matches = [];
+  lines =
+      Gateway Client (zid 1) [] None None 10000 []
+      ∷ FaceLine 1 Router (zid 9) North bound.South 1
+      ∷ Session 1 1
+      ∷ Speak (DeclareToken 2 0 0 0 None)
+      ∷ [];
+  entries =
+      Ok []
+      ∷ Ok []
+      ∷ Ok []
+      ∷ Err refusal.TokenIdZero
+      ∷ [];
+  totals = Some (record { lines = 4; messages = 0; refusals = 1 });
+}
+
+-- hostile-02: 0 is k
+abbrev pub hostile_02 : Script
+hostile_02 = record {
+  matches = [];
+  lines =
+      Gateway Client (zid 1) [] None None 10000 []
+      ∷ FaceLine 1 Router (zid 9) North bound.South 1
+      ∷ Session 1 1
+      ∷ Speak (DeclareToken 2 1 0 0 None)
+      ∷ Speak (DeclareToken 2 1 0 0 None)
+      ∷ [];
+  entries =
+      Ok []
+      ∷ Ok []
+      ∷ Ok []
+      ∷ Ok (sent 1 1 (message.DeclareToken 1 0 None 0) ∷ [])
+      ∷ Ok []
+      ∷ [];
+  totals = Some (record { lines = 5; messages = 1; refusals = 0 });
+}
+
+-- hostile-03: 0 is k
+abbrev pub hostile_03 : Script
+hostile_03 = record {
+  matches = [];
+  lines =
+      Gateway Client (zid 1) [] None None 10000 []
+      ∷ FaceLine 1 Router (zid 9) North bound.South 1
+      ∷ Session 1 1
+      ∷ Speak (DeclareToken 2 1 0 0 (Some 1))
+      ∷ [];
+  entries =
+      Ok []
+      ∷ Ok []
+      ∷ Ok []
+      ∷ Err refusal.AnswerFromSouth
+      ∷ [];
+  totals = Some (record { lines = 4; messages = 0; refusals = 1 });
+}
+
+-- hostile-04
+abbrev pub hostile_04 : Script
+hostile_04 = record {
+  matches = [];
+  lines =
+      Gateway Client (zid 1) [] None None 10000 []
+      ∷ FaceLine 1 Router (zid 9) North bound.South 1
+      ∷ Session 1 1
+      ∷ Speak (DeclareFinal 2 0)
+      ∷ [];
+  entries =
+      Ok []
+      ∷ Ok []
+      ∷ Ok []
+      ∷ Err refusal.FinalFromSouth
+      ∷ [];
+  totals = Some (record { lines = 4; messages = 0; refusals = 1 });
+}
+
+-- hostile-05
+abbrev pub hostile_05 : Script
+hostile_05 = record {
+  matches = [];
+  lines =
+      Gateway Client (zid 1) [] None None 10000 []
+      ∷ FaceLine 1 Router (zid 9) North bound.South 1
+      ∷ Session 1 1
+      ∷ Speak (DeclareFinal 1 0)
+      ∷ [];
+  entries =
+      Ok []
+      ∷ Ok []
+      ∷ Ok []
+      ∷ Err refusal.UnknownAsk
+      ∷ [];
+  totals = Some (record { lines = 4; messages = 0; refusals = 1 });
+}
 
 -- hostile-06: 0 is k
 abbrev pub hostile_06 : Script
@@ -165,6 +328,37 @@ hostile_12 = record {
       ∷ Ok (sent 1 2 (message.DeclareFinal 1) ∷ [])
       ∷ [];
   totals = Some (record { lines = 6; messages = 2; refusals = 0 });
+}
+
+-- interests-at-opening-and-closing: 0 is k
+abbrev pub interests_at_opening_and_closing : Script
+interests_at_opening_and_closing = record {
+  matches = [];
+  lines =
+      Gateway Peer (zid 1) [] None None 10000 []
+      ∷ Session 1 1
+      ∷ Session 1 1
+      ∷ Speak (Interest 1 1 CurrentFuture (options 8) (Some 0))
+      ∷ Speak (Interest 2 1 Future (options 8) (Some 0))
+      ∷ FaceLine 1 Peer (zid 2) North bound.North 1
+      ∷ FaceLine 1 Router (zid 3) North bound.South 1
+      ∷ Speak (CloseFace 1)
+      ∷ Speak (Interest 2 2 CurrentFuture (options 2) None)
+      ∷ Speak (CloseFace 2)
+      ∷ [];
+  entries =
+      Ok []
+      ∷ Ok []
+      ∷ Ok []
+      ∷ Ok (sent 1 1 (message.DeclareFinal 1) ∷ [])
+      ∷ Ok []
+      ∷ Ok (sent 1 3 (message.DeclareFinal 0) ∷ [])
+      ∷ Ok (sent 1 4 (message.Interest 1 CurrentFuture (options 8) (Some 0)) ∷ [])
+      ∷ Ok []
+      ∷ Ok (sent 1 4 (message.Interest 2 CurrentFuture (options 2) None) ∷ [])
+      ∷ Ok (sent 1 4 (message.InterestFinal 1) ∷ sent 1 4 (message.InterestFinal 2) ∷ [])
+      ∷ [];
+  totals = Some (record { lines = 10; messages = 6; refusals = 0 });
 }
 
 -- interests-sent-at-opening-client-client
@@ -444,180 +638,4 @@ peer_asks = record {
       ∷ Ok (sent 1 2 (message.InterestFinal 2) ∷ sent 1 3 (message.InterestFinal 1) ∷ sent 1 4 (message.DeclareFinal 2) ∷ [])
       ∷ [];
   totals = Some (record { lines = 13; messages = 10; refusals = 0 });
-}
-
--- peer-linked-to-itself
-abbrev pub peer_linked_to_itself : Script
-peer_linked_to_itself = record {
-  matches = [];
-  lines =
-      Gateway Peer (zid 1) [] None None 10000 []
-      ∷ LinkLine 1 1 1 1
-      ∷ Step 1 false
-      ∷ Step 1 false
-      ∷ [];
-  entries =
-      Ok []
-      ∷ Ok (sent 1 1 (message.DeclareFinal 0) ∷ sent 1 2 (message.DeclareFinal 0) ∷ [])
-      ∷ Ok []
-      ∷ Err refusal.EmptyLink
-      ∷ [];
-  totals = Some (record { lines = 4; messages = 2; refusals = 1 });
-}
-
--- peers-finalised
-abbrev pub peers_finalised : Script
-peers_finalised = record {
-  matches = [];
-  lines =
-      Gateway Peer (zid 1) [] None None 10000 []
-      ∷ FaceLine 1 Peer (zid 2) North bound.North 1
-      ∷ FaceLine 1 Peer (zid 3) North bound.North 1
-      ∷ Speak (DeclareFinal 1 0)
-      ∷ Speak (DeclareFinal 2 0)
-      ∷ Speak (Interest 1 42 Current (options 8) None)
-      ∷ [];
-  entries =
-      Ok []
-      ∷ Ok (sent 1 1 (message.DeclareFinal 0) ∷ [])
-      ∷ Ok (sent 1 2 (message.DeclareFinal 0) ∷ [])
-      ∷ Ok []
-      ∷ Ok []
-      ∷ Ok (sent 1 1 (message.DeclareFinal 42) ∷ [])
-      ∷ [];
-  totals = Some (record { lines = 6; messages = 3; refusals = 0 });
-}
-
--- peers-not-finalised
-abbrev pub peers_not_finalised : Script
-peers_not_finalised = record {
-  matches = [];
-  lines =
-      Gateway Peer (zid 1) [] None None 10000 []
-      ∷ FaceLine 1 Peer (zid 2) North bound.North 1
-      ∷ FaceLine 1 Peer (zid 3) North bound.North 1
-      ∷ Speak (Interest 1 42 Current (options 8) None)
-      ∷ [];
-  entries =
-      Ok []
-      ∷ Ok (sent 1 1 (message.DeclareFinal 0) ∷ [])
-      ∷ Ok (sent 1 2 (message.DeclareFinal 0) ∷ [])
-      ∷ Ok (sent 1 1 (message.DeclareFinal 42) ∷ [])
-      ∷ [];
-  totals = Some (record { lines = 4; messages = 3; refusals = 0 });
-}
-
--- router-disconnect: 0 is k
-abbrev pub router_disconnect : Script
-router_disconnect = record {
-  matches = [];
-  lines =
-      Gateway Router (zid 1) [] None None 10000 []
-      ∷ Gateway Router (zid 2) [] None None 10000 []
-      ∷ LinkLine 1 2 1 1
-      ∷ SetTreesAt 1 North (record { routers = ((0, zid 1) ∷ (1, zid 2) ∷ []); links = ((1, 0, zid 2) ∷ (1, 1, zid 1) ∷ []); children = ((zid 1, zid 2) ∷ []) })
-      ∷ SetTreesAt 2 North (record { routers = ((0, zid 2) ∷ (1, zid 1) ∷ []); links = ((2, 0, zid 1) ∷ (2, 1, zid 2) ∷ []); children = ((zid 2, zid 1) ∷ []) })
-      ∷ Session 1 1
-      ∷ Session 2 1
-      ∷ Speak (Interest 4 1 Future (options 8) (Some 0))
-      ∷ Speak (DeclareToken 3 1 0 0 None)
-      ∷ Step 1 false
-      ∷ Unlink 1
-      ∷ SetTreesAt 2 North (record { routers = ((0, zid 2) ∷ []); links = []; children = [] })
-      ∷ [];
-  entries =
-      Ok []
-      ∷ Ok []
-      ∷ Ok []
-      ∷ Ok []
-      ∷ Ok []
-      ∷ Ok []
-      ∷ Ok []
-      ∷ Ok []
-      ∷ Ok (sent 1 1 (message.DeclareToken 0 0 None 0) ∷ [])
-      ∷ Ok (sent 2 4 (message.DeclareToken 1 0 None 0) ∷ [])
-      ∷ Ok []
-      ∷ Ok (sent 2 4 (message.UndeclareToken 1 None 0) ∷ [])
-      ∷ [];
-  totals = Some (record { lines = 12; messages = 3; refusals = 0 });
-}
-
--- sessions-alone: 0 is j, 1 is k
-abbrev pub sessions_alone : Script
-sessions_alone = record {
-  matches = [];
-  lines =
-      Gateway Client (zid 1) [] None None 10000 []
-      ∷ Session 1 1
-      ∷ Session 1 1
-      ∷ Speak (Interest 1 1 CurrentFuture (options 8) (Some 1))
-      ∷ Speak (DeclareToken 1 1 1 0 None)
-      ∷ Speak (DeclareToken 2 1 1 0 None)
-      ∷ Speak (UndeclareToken 2 1 None 0)
-      ∷ Speak (UndeclareToken 1 1 None 0)
-      ∷ Speak (DeclareToken 1 1 1 0 None)
-      ∷ Speak (DeclareToken 2 1 0 0 None)
-      ∷ Speak (DeclareToken 1 1 0 0 None)
-      ∷ Speak (UndeclareToken 1 7 None 0)
-      ∷ Speak (DeclareToken 9 1 1 0 None)
-      ∷ Speak (Interest 1 1 CurrentFuture (options 8) None)
-      ∷ [];
-  entries =
-      Ok []
-      ∷ Ok []
-      ∷ Ok []
-      ∷ Ok (sent 1 1 (message.DeclareFinal 1) ∷ [])
-      ∷ Ok (sent 1 1 (message.DeclareToken 1 1 None 0) ∷ [])
-      ∷ Ok []
-      ∷ Ok []
-      ∷ Ok (sent 1 1 (message.UndeclareToken 1 None 0) ∷ [])
-      ∷ Ok (sent 1 1 (message.DeclareToken 2 1 None 0) ∷ [])
-      ∷ Ok []
-      ∷ Err refusal.TokenIdInUse
-      ∷ Err refusal.UnknownToken
-      ∷ Err refusal.UnknownFace
-      ∷ Err refusal.InterestIdInUse
-      ∷ [];
-  totals = Some (record { lines = 14; messages = 4; refusals = 4 });
-}
-
--- three-routers: 0 is k
-abbrev pub three_routers : Script
-three_routers = record {
-  matches = [];
-  lines =
-      Gateway Router (zid 1) [] None None 10000 []
-      ∷ Gateway Router (zid 2) [] None None 10000 []
-      ∷ Gateway Router (zid 3) [] None None 10000 []
-      ∷ LinkLine 1 2 1 1
-      ∷ LinkLine 2 3 1 1
-      ∷ SetTreesAt 1 North (record { routers = ((0, zid 1) ∷ (1, zid 2) ∷ (2, zid 3) ∷ []); links = ((1, 0, zid 2) ∷ (1, 1, zid 1) ∷ (1, 2, zid 3) ∷ []); children = ((zid 1, zid 2) ∷ []) })
-      ∷ SetTreesAt 2 North (record { routers = ((0, zid 2) ∷ (1, zid 1) ∷ (2, zid 3) ∷ []); links = ((2, 0, zid 1) ∷ (2, 1, zid 2) ∷ (2, 2, zid 3) ∷ (3, 0, zid 3) ∷ (3, 1, zid 2) ∷ (3, 2, zid 1) ∷ []); children = ((zid 2, zid 1) ∷ (zid 2, zid 3) ∷ (zid 1, zid 3) ∷ (zid 3, zid 1) ∷ []) })
-      ∷ SetTreesAt 3 North (record { routers = ((0, zid 3) ∷ (1, zid 2) ∷ (2, zid 1) ∷ []); links = ((4, 0, zid 2) ∷ (4, 1, zid 1) ∷ (4, 2, zid 3) ∷ []); children = ((zid 3, zid 2) ∷ []) })
-      ∷ Session 1 1
-      ∷ Speak (DeclareToken 5 1 0 0 None)
-      ∷ Step 1 false
-      ∷ Step 2 false
-      ∷ Speak (UndeclareToken 5 1 None 0)
-      ∷ Step 1 false
-      ∷ Step 2 false
-      ∷ [];
-  entries =
-      Ok []
-      ∷ Ok []
-      ∷ Ok []
-      ∷ Ok []
-      ∷ Ok []
-      ∷ Ok []
-      ∷ Ok []
-      ∷ Ok []
-      ∷ Ok []
-      ∷ Ok (sent 1 1 (message.DeclareToken 0 0 None 0) ∷ [])
-      ∷ Ok (sent 2 3 (message.DeclareToken 0 0 None 1) ∷ [])
-      ∷ Ok []
-      ∷ Ok (sent 1 1 (message.UndeclareToken 0 (Some 0) 0) ∷ [])
-      ∷ Ok (sent 2 3 (message.UndeclareToken 0 (Some 0) 1) ∷ [])
-      ∷ Ok []
-      ∷ [];
-  totals = Some (record { lines = 15; messages = 4; refusals = 0 });
 }

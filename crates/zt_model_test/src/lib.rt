@@ -12,7 +12,9 @@ ghost use Rattle.zt_model_test.specs.Part3 as part3;
 /// The definitions give these scripts their transcripts and totals.
 pub fn part_1_comes_out()
     ensures admission { ComesOut part1.admission }
+    ensures aggregates { ComesOut part1.aggregates }
     ensures answers { ComesOut part1.answers }
+    ensures asks_after_a_final_0 { ComesOut part1.asks_after_a_final_0 }
     ensures asks_in_a_tree { ComesOut part1.asks_in_a_tree }
     ensures bad_byte { ComesOut part1.bad_byte }
     ensures bad_byte_unended { ComesOut part1.bad_byte_unended }
@@ -30,17 +32,19 @@ pub fn part_1_comes_out()
     ensures current_token_repropagation { ComesOut part1.current_token_repropagation }
     ensures empty_script { ComesOut part1.empty_script }
     ensures entities { ComesOut part1.entities }
-    ensures expiry_at_the_timeout { ComesOut part1.expiry_at_the_timeout }
-    ensures finalised_interest_forgotten { ComesOut part1.finalised_interest_forgotten }
-    ensures hostile_01 { ComesOut part1.hostile_01 }
-    ensures hostile_02 { ComesOut part1.hostile_02 }
-    ensures hostile_03 { ComesOut part1.hostile_03 }
-    ensures hostile_04 { ComesOut part1.hostile_04 }
-    ensures hostile_05 { ComesOut part1.hostile_05 }
+    ensures entities_of_a_region { ComesOut part1.entities_of_a_region }
+    ensures equal_ids_at_two_faces { ComesOut part1.equal_ids_at_two_faces }
 {}
 
 /// The definitions give these scripts their transcripts and totals.
 pub fn part_2_comes_out()
+    ensures expiry_at_the_timeout { ComesOut part2.expiry_at_the_timeout }
+    ensures finalised_interest_forgotten { ComesOut part2.finalised_interest_forgotten }
+    ensures hostile_01 { ComesOut part2.hostile_01 }
+    ensures hostile_02 { ComesOut part2.hostile_02 }
+    ensures hostile_03 { ComesOut part2.hostile_03 }
+    ensures hostile_04 { ComesOut part2.hostile_04 }
+    ensures hostile_05 { ComesOut part2.hostile_05 }
     ensures hostile_06 { ComesOut part2.hostile_06 }
     ensures hostile_07 { ComesOut part2.hostile_07 }
     ensures hostile_08 { ComesOut part2.hostile_08 }
@@ -48,6 +52,7 @@ pub fn part_2_comes_out()
     ensures hostile_10 { ComesOut part2.hostile_10 }
     ensures hostile_11 { ComesOut part2.hostile_11 }
     ensures hostile_12 { ComesOut part2.hostile_12 }
+    ensures interests_at_opening_and_closing { ComesOut part2.interests_at_opening_and_closing }
     ensures interests_sent_at_opening_client_client { ComesOut part2.interests_sent_at_opening_client_client }
     ensures interests_sent_at_opening_client_peer { ComesOut part2.interests_sent_at_opening_client_peer }
     ensures interests_sent_at_opening_peer_client { ComesOut part2.interests_sent_at_opening_peer_client }
@@ -59,19 +64,22 @@ pub fn part_2_comes_out()
     ensures one_declarer_leaves { ComesOut part2.one_declarer_leaves }
     ensures own_token_shown { ComesOut part2.own_token_shown }
     ensures peer_asks { ComesOut part2.peer_asks }
-    ensures peer_linked_to_itself { ComesOut part2.peer_linked_to_itself }
-    ensures peers_finalised { ComesOut part2.peers_finalised }
-    ensures peers_not_finalised { ComesOut part2.peers_not_finalised }
-    ensures router_disconnect { ComesOut part2.router_disconnect }
-    ensures sessions_alone { ComesOut part2.sessions_alone }
-    ensures three_routers { ComesOut part2.three_routers }
 {}
 
 /// The definitions give these scripts their transcripts and totals.
 pub fn part_3_comes_out()
+    ensures peer_linked_to_itself { ComesOut part3.peer_linked_to_itself }
+    ensures peers_finalised { ComesOut part3.peers_finalised }
+    ensures peers_not_finalised { ComesOut part3.peers_not_finalised }
+    ensures router_disconnect { ComesOut part3.router_disconnect }
+    ensures sessions_alone { ComesOut part3.sessions_alone }
+    ensures tables_and_their_trees { ComesOut part3.tables_and_their_trees }
+    ensures three_routers { ComesOut part3.three_routers }
     ensures tree_echo { ComesOut part3.tree_echo }
     ensures two_declarers_one_holder { ComesOut part3.two_declarers_one_holder }
+    ensures two_links_of_a_face { ComesOut part3.two_links_of_a_face }
     ensures undeclaring_the_untold { ComesOut part3.undeclaring_the_untold }
+    ensures what_matches_is_answered { ComesOut part3.what_matches_is_answered }
     ensures who_may_not_speak { ComesOut part3.who_may_not_speak }
     ensures word_run { ComesOut part3.word_run }
 {}

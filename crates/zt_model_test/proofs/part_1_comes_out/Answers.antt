@@ -5,7 +5,9 @@ use Rattle.zt_model_test.proofs.part_1_comes_out.Goals as goal
 pub returns : goal.returns
 returns g = record {
   admission = law.admission;
+  aggregates = law.aggregates;
   answers = law.answers;
+  asks_after_a_final_0 = law.asks_after_a_final_0;
   asks_in_a_tree = law.asks_in_a_tree;
   bad_byte = law.bad_byte;
   bad_byte_unended = law.bad_byte_unended;
@@ -23,11 +25,6 @@ returns g = record {
   current_token_repropagation = law.current_token_repropagation;
   empty_script = law.empty_script;
   entities = law.entities;
-  expiry_at_the_timeout = law.expiry_at_the_timeout;
-  finalised_interest_forgotten = law.finalised_interest_forgotten;
-  hostile_01 = law.hostile_01;
-  hostile_02 = law.hostile_02;
-  hostile_03 = law.hostile_03;
-  hostile_04 = law.hostile_04;
-  hostile_05 = law.hostile_05;
+  entities_of_a_region = law.entities_of_a_region;
+  equal_ids_at_two_faces = law.equal_ids_at_two_faces;
 }
