@@ -1,6 +1,7 @@
 -- What each call says names what stands, once the call has changed what it changes itself.
-use Rattle.std.proofs.Common.{◌≡◌, ℕ, ◌+◌, ◌≤◌, Bool, true, not, ◌==◌, if◌then◌else◌, List, [], ◌++◌, Option, Some, None, refl, sym, subst}
+use Rattle.std.proofs.Common.{◌≡◌, ℕ, ◌+◌, ◌≤◌, Bool, true, false, not, ◌==◌, if◌then◌else◌, List, [], ◌++◌, Option, Some, None, refl, sym, ap, subst}
 use Rattle.std.specs.Cmp.{IsTotalOrder}
+use Rattle.std.specs.List.{list_any}
 use Rattle.std.specs.declared.cmp.Ordering.{Ordering}
 use Rattle.zt_region.specs.declared.region.Bound.{Bound}
 use Rattle.zt_region.specs.declared.region.Region.{Region}
@@ -9,18 +10,18 @@ use Rattle.zt_region.specs.declared.region.Zid.{Zid}
 use Rattle.zt_protocol.specs.Plain.{PlainCall, NewSession, NewTransport, DeclareToken, UndeclareToken, Interest, InterestFinal, DeclareFinal, CloseFace, Expire, SetTrees, SetEntities, Trees}
 use Rattle.zt_model.specs.Closing.{closing, leaving, without_face}
 use Rattle.zt_model.specs.Hearing.{messages_for, rows_heard}
-use Rattle.zt_model.specs.Lists.{at_id}
+use Rattle.zt_model.specs.Lists.{at_id, same}
 use Rattle.zt_model.specs.Parts.{unsaid_to}
-use Rattle.zt_model.specs.Routing.{finalising, interests_from, opened, opening, opening_final, opening_interests, opening_tokens, tokens_from}
-use Rattle.zt_model.specs.Rows.{Face, InterestRow, Rows}
+use Rattle.zt_model.specs.Routing.{face_opened, finalising, interests_from, opened, opening, opening_final, opening_interests, opening_tokens, tokens_from}
+use Rattle.zt_model.specs.Rows.{ById, Face, InterestRow, Rows}
 use Rattle.zt_model.specs.Says.{Part, altered, altered_by, answering, declaring, declaring_of, finalising_held, find_face, hiding_undeclared, is_routed, parts_of, registers, said, said_by, to_each, to_face, undeclaring, undeclaring_of}
 use Rattle.zt_model.specs.Transcript.{Each}
 use Rattle.zt_model.specs.Trees.{counted_table, forgetting, greet_to, left_out, showing, source_of, table_of}
 use Rattle.zt_laws.specs.Order.{RowsAreInOrder}
 use Rattle.zt_laws.specs.Sound.{CallHasFirstIds}
-use Rattle.zt_laws.proofs.CallsOrder.{closing_orderly, keeps_faces, orderly_call, transport_in_order}
+use Rattle.zt_laws.proofs.CallsOrder.{closing_orderly, keeps_faces, none_after_interests, opening_tokens_once, orderly_call, told_nothing_new, transport_in_order}
 use Rattle.zt_laws.proofs.Hearing.{each_ruled, each_ruled_one}
-use Rattle.zt_laws.proofs.Lists.{each_always, each_append, each_filter, each_map, of_cond}
+use Rattle.zt_laws.proofs.Lists.{each_always, each_append, each_filter, each_map, each_weaker, of_cond}
 use Rattle.zt_laws.proofs.PartsOrder.{altered_by_last, each_of_map, lists_heard, said_by_last, tolds_in_order}
 use Rattle.zt_theorem_visibility.proofs.Saying.{declare_final_says, expiry_says, greet_says, interest_says, interests_say, opening_final_says}
 use Rattle.zt_theorem_message_ids.proofs.Standing.{AllName, Name, NamesNothing, Standing, all_name_nothing, all_name_then, standing_of, standings}
@@ -145,7 +146,11 @@ module _ {K : Type 0} (cmp : K → K → Ordering) (matching : K → K → Bool)
         (all_name_nothing cmp interests (standings one) (each_ruled_one (NamesNothing cmp) n (λ f. interests_from f.next (opening_interests cmp matching one f)) one (λ f. interests_say cmp matching (NamesNothing cmp) (λ i mode options e. tt) f.next (opening_interests cmp matching one f))))
         (all_name_then cmp tokens (finals ++ []) two
         (all_at cmp matching n (λ f. tokens_from f.next (opening_tokens cmp matching two f)) two (lists_heard cmp matching interests one lists)
-        (each_always (λ f. Name cmp (tokens_from f.next (opening_tokens cmp matching two f)) (standing_of f)) (λ f. names_tokens cmp matching f.next (opening_tokens cmp matching two f) (standing_of f) refl) two.faces))
+        (each_weaker (λ f. (n == f.number) ≡ true → f.told ≡ []) (λ f. (n == f.number) ≡ true → Name cmp (tokens_from f.next (opening_tokens cmp matching two f)) (standing_of f))
+        (λ f blank hit.
+        names_tokens cmp matching total f.next (opening_tokens cmp matching two f) (standing_of f) refl (opening_tokens_once cmp matching total two f)
+        (each_always (λ e. list_any (λ row. same cmp e row.1) f.told ≡ false) (λ e. ap (λ (rows : ById K). list_any (λ row. same cmp e row.1) rows) (blank hit)) (opening_tokens cmp matching two f))) two.faces
+        (none_after_interests cmp matching total n (opening_interests cmp matching one) one lists (told_nothing_new cmp matching total (face_opened zid whatami region bound first g) g refl rows.lists))))
         (all_name_nothing cmp (finals ++ []) (standings three) (each_append (λ s. NamesNothing cmp s.1) finals [] (each_ruled_one (NamesNothing cmp) n (opening_final cmp matching) three (opening_final_says cmp matching (NamesNothing cmp) (λ i. tt))) tt)))
 
     -- What each call says names what stands.

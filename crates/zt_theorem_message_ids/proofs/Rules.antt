@@ -1,16 +1,17 @@
 -- What each part of a call says names what stands.
 use Rattle.std.proofs.Common.{◌≡◌, ℕ, ◌+◌, ◌≤◌, max, Bool, true, false, not, ◌==◌, ◌&&◌, ◌||◌, if◌then◌else◌, List, [], ◌∷◌, ◌++◌, map, filter, Option, Some, None, refl, sym, ap, ◌∙◌, subst, arith, eq-eqb, eqb-true, ne_eqb}
-use Rattle.std.proofs.lemmas.Bool.{and_parts, or_left, or_right}
+use Rattle.std.proofs.lemmas.Bool.{and_from, and_parts, or_left, or_right}
 use Rattle.std.specs.Cmp.{IsTotalOrder}
-use Rattle.std.specs.List.{flat_map}
+use Rattle.std.specs.List.{flat_map, list_any}
 use Rattle.std.specs.declared.cmp.Ordering.{Ordering}
 use Rattle.zt_region.specs.declared.region.Region.{Region}
 use Rattle.zt_region.specs.declared.region.Zid.{Zid}
+use Rattle.zt_region.specs.Admission.{admits}
 use Rattle.zt_region.specs.Region.{is_north}
 use Rattle.zt_protocol.specs.declared.messages.Message.{Message}
 use Rattle.zt_protocol.specs.declared.messages.Message.TheVariants as message
 use Rattle.zt_model.specs.Closing.{leaving, without_asks}
-use Rattle.zt_model.specs.Hearing.{messages_for, rows_heard}
+use Rattle.zt_model.specs.Hearing.{messages_for, rows_heard, told_pair}
 use Rattle.zt_model.specs.Lists.{has_id, in_key_order, same, without_id}
 use Rattle.zt_model.specs.Parts.{unsaid_to}
 use Rattle.zt_model.specs.Routing.{asks_same, end_upstream_to, ended, ending, finalising, final_of_both, finish_to, is_held_south, tokens_from, unheld, untell_to}
@@ -20,14 +21,14 @@ use Rattle.zt_model.specs.Strategy.{is_client_hat, strategy_of}
 use Rattle.zt_model.specs.Telling.{answer_to}
 use Rattle.zt_model.specs.Transcript.{Each}
 use Rattle.zt_model.specs.Trees.{forgetting, hide_to, hiding, is_newly_shown, pass_to, router_regions, show_to, showing, unpass_to, with_routed, without_own_rows, without_routed}
-use Rattle.zt_model.specs.Visible.{is_visible, shows}
-use Rattle.zt_model.specs.Wants.{wants}
+use Rattle.zt_model.specs.Visible.{is_visible, keeps, shows}
+use Rattle.zt_model.specs.Wants.{seeks, wants}
 use Rattle.zt_laws.specs.Order.{HasRowsInOrder, KeysOnce, ListsAreInOrder}
 use Rattle.zt_laws.specs.Sound.{IsToldInOrder, RiseFrom}
 use Rattle.zt_laws.proofs.Faces.{chosen_leaves}
 use Rattle.zt_laws.proofs.Hearing.{each_ruled, each_ruled_one, find_only, messages_for_each, messages_for_other, messages_for_own}
 use Rattle.zt_laws.proofs.Keys.{in_key_order_is, in_order_filter, once_in_order, same_back, same_left}
-use Rattle.zt_laws.proofs.Lists.{any_weaker, by_test, each_always, each_append, each_both, each_fails, each_filter, each_map, each_weaker, map-map, map_alike, never, of_cond, rise_above, rise_filter}
+use Rattle.zt_laws.proofs.Lists.{any-append, any_weaker, by_test, each_always, each_append, each_both, each_fails, each_filter, each_map, each_weaker, map-map, map_alike, never, of_cond, rise_above, rise_filter}
 use Rattle.zt_laws.proofs.PartsOrder.{AreInOrder, IsOrderlyPart, each_flat_map, each_of_map, heard_in_order, lists_heard, tolds}
 use Rattle.zt_laws.proofs.Registering.{messages_but_for}
 use Rattle.zt_laws.proofs.Told.{told_id_each, told_id_row}
@@ -91,7 +92,13 @@ module _ {K : Type 0} (cmp : K → K → Ordering) (matching : K → K → Bool)
   unfolding tell_to
   names_tell g source e f =
       of_cond (λ ms. Names ms f) (is_told cmp matching g source e f) (message.DeclareToken f.next e None 0 ∷ []) []
-      (λ _. (or_right (f.next == 0) (f.next == f.next) (eq-eqb f.next f.next refl), tt)) (λ _. tt)
+      (λ told. (or_right (f.next == 0) ((f.next == f.next) && not (keeps cmp f e)) (and_from (f.next == f.next) (not (keeps cmp f e)) (eq-eqb f.next f.next refl) (unkept told)), tt)) (λ _. tt)
+    where
+      unkept : is_told cmp matching g source e f ≡ true → not (keeps cmp f e) ≡ true
+      unkept told =
+          let outside = and_parts (not (is_routed g f)) (admits g.refused source f.region && shows f.region source && not (keeps cmp f e) && seeks matching f e) told in
+          let sought = and_parts (admits g.refused source f.region && shows f.region source && not (keeps cmp f e)) (seeks matching f e) outside.1 in
+          (and_parts (admits g.refused source f.region && shows f.region source) (not (keeps cmp f e)) sought.0).1
 
   names_forget : (g : Rows K) (source : Region) (e : K) (f : Face K) → Names (forget_to cmp matching g source e f) f
   unfolding forget_to
@@ -151,13 +158,24 @@ module _ {K : Type 0} (cmp : K → K → Ordering) (matching : K → K → Bool)
       of_cond (λ ms. Names ms f) (is_north f.region && not (is_held_south cmp matching g interest)) (map (λ row. message.InterestFinal row.0) (filter test f.locals)) []
       (λ _. names_ends 0 (filter test f.locals) (standing_of f) (rise_filter (λ row. row.0) 0 test f.locals rows.locals) (each_filter (λ row. has_id row.0 f.locals ≡ true) test f.locals (own_ids f.locals))) (λ _. tt)
 
-  pub names_tokens : (n : ℕ) (es : List K) (v : Standing K) → n ≡ v.next → Name cmp (tokens_from n es) v
+  -- what wasn't told is told by no other expression's row
+  still_new : (total : IsTotalOrder cmp) (n : ℕ) (e x : K) (told : ById K) → same cmp e x ≡ false → list_any (λ row. same cmp x row.1) told ≡ false → list_any (λ row. same cmp x row.1) (told_pair cmp n e told) ≡ false
+  still_new total n e x told apart none_ =
+      of_cond (λ (rows : ById K). list_any (λ row. same cmp x row.1) rows ≡ false) (n == 0 || list_any (λ row. n == row.0 && same cmp e row.1) told) told (told ++ (n, e) ∷ []) (λ _. none_)
+      (λ _.
+      any-append (λ row. same cmp x row.1) told ((n, e) ∷ [])
+      ∙ ap (λ b. b || list_any (λ (row : ℕ × K). same cmp x row.1) ((n, e) ∷ [])) none_
+      ∙ ap (λ b. b || false) (same_back cmp total x e ∙ apart))
+
+  pub names_tokens : (total : IsTotalOrder cmp) (n : ℕ) (es : List K) (v : Standing K) → n ≡ v.next → KeysOnce cmp es → Each (λ e. list_any (λ row. same cmp e row.1) v.told ≡ false) es → Name cmp (tokens_from n es) v
   unfolding tokens_from
-  names_tokens n [] v is_next = tt
-  names_tokens n (e ∷ es) v is_next =
+  names_tokens total n [] v is_next once new_ = tt
+  names_tokens total n (e ∷ es) v is_next once new_ =
       let next_ : n + 1 ≡ max v.next (n + 1) = omega arith in (
-        or_right (n == 0) (n == v.next) (eq-eqb n v.next is_next),
-        names_tokens (n + 1) es _ next_,
+        or_right (n == 0) ((n == v.next) && not (list_any (λ row. same cmp e row.1) v.told)) (and_from (n == v.next) (not (list_any (λ row. same cmp e row.1) v.told)) (eq-eqb n v.next is_next) (ap not new_.0)),
+        names_tokens total (n + 1) es _ next_ once.1
+            (each_both (λ x. same cmp e x ≡ false) (λ x. list_any (λ row. same cmp x row.1) v.told ≡ false) (λ x. list_any (λ row. same cmp x row.1) (told_pair cmp n e v.told) ≡ false)
+            (λ x apart none_. still_new total n e x v.told apart none_) es (each_fails (same cmp e) es once.0) new_.1),
       )
 
   -- ---- parts
@@ -204,19 +222,19 @@ module _ {K : Type 0} (cmp : K → K → Ordering) (matching : K → K → Bool)
       (each_both HasRowsInOrder (λ f. IsToldInOrder cmp f.told f.next) (λ f. HasRowsInOrder f × IsToldInOrder cmp f.told f.next) (λ f a b. (a, b)) g.faces lists.rows (each_of_map (λ t. IsToldInOrder cmp t.rows t.next) told_of g.faces ordered)))
 
   -- and for one
-  pub all_at : (n : ℕ) (rule : Face K → List (Message K)) (g : Rows K) → ListsAreInOrder cmp matching g → Each (λ f. Names (rule f) f) g.faces → AllName cmp (to_face n rule g) (standings g)
+  pub all_at : (n : ℕ) (rule : Face K → List (Message K)) (g : Rows K) → ListsAreInOrder cmp matching g → Each (λ f. (n == f.number) ≡ true → Names (rule f) f) g.faces → AllName cmp (to_face n rule g) (standings g)
   unfolding to_face messages_for
   all_at n rule g lists one = each_map (λ v. Name cmp (messages_for v.number (to_face n rule g)) v) standing_of g.faces (cases (find_face n g) refl)
     where
       cases : (o : Option (Face K)) → find_face n g ≡ o → Each (λ f. Names (messages_for f.number (elim o [ None ↦ [] | Some k ↦ map (λ m. (n, m)) (rule k) ])) f) g.faces
       cases None found = each_always (λ f. Unit {0}) (λ f. tt) g.faces
       cases (Some k) found =
-          each_both (λ f. (n == f.number) ≡ true → f ≡ k) (λ f. Names (rule f) f) (λ f. Names (messages_for f.number (map (λ m. (n, m)) (rule k))) f)
+          each_both (λ f. (n == f.number) ≡ true → f ≡ k) (λ f. (n == f.number) ≡ true → Names (rule f) f) (λ f. Names (messages_for f.number (map (λ m. (n, m)) (rule k))) f)
           (λ f only own.
           by_test (n == f.number)
           (λ here.
           let number_ : f.number ≡ n = sym (eqb-true n f.number here) in
-          subst (λ ms. Names ms f) (sym (ap (λ j. messages_for j (map (λ m. (n, m)) (rule k))) number_ ∙ messages_for_own n (rule k) ∙ ap rule (sym (only here)))) own)
+          subst (λ ms. Names ms f) (sym (ap (λ j. messages_for j (map (λ m. (n, m)) (rule k))) number_ ∙ messages_for_own n (rule k) ∙ ap rule (sym (only here)))) (own here))
           (λ here. subst (λ ms. Names ms f) (sym (messages_for_other f.number n (rule k) (ne_eqb f.number n (λ is. never (eq-eqb n f.number (sym is)) here)))) tt))
           g.faces (find_only n 1 g.faces k lists.faces_rise found) one
 
@@ -307,7 +325,7 @@ module _ {K : Type 0} (cmp : K → K → Ordering) (matching : K → K → Bool)
   finalising_names total n id interest = (
     at_face n (unheld id) (λ k. refl),
     (
-      (λ g lists ordered. all_at n (untell_to cmp matching) g lists (each_weaker (λ f. IsToldInOrder cmp f.told f.next) (λ f. Names (untell_to cmp matching f) f) (λ f told. names_untell total f told) g.faces (each_of_map (λ t. IsToldInOrder cmp t.rows t.next) told_of g.faces ordered))),
+      (λ g lists ordered. all_at n (untell_to cmp matching) g lists (each_weaker (λ f. IsToldInOrder cmp f.told f.next) (λ f. (n == f.number) ≡ true → Names (untell_to cmp matching f) f) (λ f told _. names_untell total f told) g.faces (each_of_map (λ t. IsToldInOrder cmp t.rows t.next) told_of g.faces ordered))),
       (
         says_nothing (to_face n (final_of_both id interest)) (λ g. each_ruled_one (NamesNothing cmp) n (final_of_both id interest) g (final_of_both_says cmp matching (NamesNothing cmp) (λ i. tt) id interest)),
         (says_each (λ g. end_upstream_to cmp matching g interest) (λ g f rows told. names_end_upstream g interest f rows), tt),

@@ -1,20 +1,23 @@
 -- What messages may name at a face: its next id, what it keeps, and what it was sent upstream; and how that changes while
 -- messages are heard.
-use Rattle.std.proofs.Common.{◌≡◌, ℕ, Bool, true, ◌==◌, ◌||◌, List, [], ◌∷◌, ◌++◌, map, Some, None, refl, sym, ap, ◌∙◌, subst, eq-eqb}
+use Rattle.std.proofs.Common.{◌≡◌, ℕ, Bool, true, false, ◌==◌, ◌&&◌, ◌||◌, not, List, [], ◌∷◌, ◌++◌, map, Some, None, refl, sym, ap, ◌∙◌, subst, eq-eqb}
 use Rattle.std.proofs.lemmas.Bool.{or_left}
+use Rattle.std.specs.List.{list_any}
 use Rattle.std.specs.declared.cmp.Ordering.{Ordering}
 use Rattle.zt_protocol.specs.Interest.{is_future}
 use Rattle.zt_protocol.specs.declared.messages.Message.{Message}
 use Rattle.zt_protocol.specs.declared.messages.Message.TheVariants as message
 use Rattle.zt_model.specs.Hearing.{heard, heard_all, messages_for, next_after, put_if, rows_heard, told_pair, untold}
-use Rattle.zt_model.specs.Lists.{has_id, without_id}
+use Rattle.zt_model.specs.Lists.{has_id, same, without_id}
 use Rattle.zt_model.specs.Promises.{NameWhatStands, names_what_stands}
 use Rattle.zt_model.specs.Rows.{ById, Face, InterestRow, Rows}
 use Rattle.zt_model.specs.Says.{Sends}
 use Rattle.zt_model.specs.Transcript.{Each}
+use Rattle.zt_model.specs.Visible.{keeps}
 use Rattle.zt_laws.proofs.Hearing.{messages_for-append}
-use Rattle.zt_laws.proofs.Lists.{each_always, each_both, map-map, map_alike}
+use Rattle.zt_laws.proofs.Lists.{each_always, each_both, map-map, map_alike, never}
 use Rattle.zt_laws.proofs.PartsOrder.{each_message_for, each_of_map}
+use Rattle.zt_theorem_message_ids.specs.Anew.{AreNews, is_news}
 
 -- of a face, what messages may name there
 pub record Standing (K : Type 0) : Type 0 where
@@ -28,6 +31,16 @@ standing_of f = record { number = f.number; next = f.next; told = f.told; locals
 
 abbrev pub standings : {K : Type 0} → Rows K → List (Standing K)
 standings g = map standing_of g.faces
+
+first_of_both : (a b c : Bool) → (a || (b && c)) ≡ true → (a || b) ≡ true
+first_of_both true b c h = refl
+first_of_both false true c h = refl
+first_of_both false false c h = never h refl
+
+last_of_both : (a b c : Bool) → (a || (b && c)) ≡ true → (a || c) ≡ true
+last_of_both true b c h = refl
+last_of_both false true c h = h
+last_of_both false false c h = never h refl
 
 module _ {K : Type 0} (cmp : K → K → Ordering) where
   -- what stands after a message
@@ -71,9 +84,9 @@ module _ {K : Type 0} (cmp : K → K → Ordering) where
 
   -- ---- naming
 
-  -- the message names what stands
+  -- the message names what stands, and a token that answers nobody isn't kept
   abbrev names : Message K → Standing K → Bool
-  names (message.DeclareToken id e None node) v = (id == 0) || (id == v.next)
+  names (message.DeclareToken id e None node) v = (id == 0) || ((id == v.next) && not (list_any (λ row. same cmp e row.1) v.told))
   names (message.UndeclareToken id None node) v = has_id id v.told
   names (message.InterestFinal id) v = has_id id v.locals
   names m v = true
@@ -83,7 +96,7 @@ module _ {K : Type 0} (cmp : K → K → Ordering) where
   Name (m ∷ ms) v = (names m v ≡ true) × Name ms (stands_after m v)
 
   named_what_stands : (matching : K → K → Bool) (m : Message K) (f : Face K) → names m (standing_of f) ≡ true → names_what_stands cmp matching m f ≡ true
-  named_what_stands matching (message.DeclareToken id e None node) f named = named
+  named_what_stands matching (message.DeclareToken id e None node) f named = first_of_both (id == 0) (id == f.next) (not (keeps cmp f e)) named
   named_what_stands matching (message.DeclareToken id e (Some i) node) f named = refl
   named_what_stands matching (message.UndeclareToken id None node) f named = named
   named_what_stands matching (message.UndeclareToken id (Some e) node) f named = refl
@@ -96,6 +109,20 @@ module _ {K : Type 0} (cmp : K → K → Ordering) where
   pub name_what_stands : (matching : K → K → Bool) (ms : List (Message K)) (f : Face K) → Name ms (standing_of f) → NameWhatStands cmp matching ms f
   name_what_stands matching [] f named = tt
   name_what_stands matching (m ∷ ms) f named = (named_what_stands matching m f named.0, name_what_stands matching ms (heard cmp 0 m f) (subst (Name ms) (sym (after_heard 0 m f)) named.1))
+
+  named_news : (matching : K → K → Bool) (m : Message K) (f : Face K) → names m (standing_of f) ≡ true → is_news cmp matching m f ≡ true
+  named_news matching (message.DeclareToken id e None node) f named = last_of_both (id == 0) (id == f.next) (not (keeps cmp f e)) named
+  named_news matching (message.DeclareToken id e (Some i) node) f named = refl
+  named_news matching (message.UndeclareToken id e node) f named = refl
+  named_news matching (message.DeclareFinal interest) f named = refl
+  named_news matching (message.Interest id mode options e) f named = refl
+  named_news matching (message.InterestFinal id) f named = refl
+  named_news matching (message.DeclareSubscriber id e interest) f named = refl
+  named_news matching (message.DeclareQueryable id e info interest) f named = refl
+
+  pub name_news : (matching : K → K → Bool) (ms : List (Message K)) (f : Face K) → Name ms (standing_of f) → AreNews cmp matching ms f
+  name_news matching [] f named = tt
+  name_news matching (m ∷ ms) f named = (named_news matching m f named.0, name_news matching ms (heard cmp 0 m f) (subst (Name ms) (sym (after_heard 0 m f)) named.1))
 
   pub name_then : (ms ns : List (Message K)) (v : Standing K) → Name ms v → Name ns (stands_after_all ms v) → Name (ms ++ ns) v
   name_then [] ns v one two = two
@@ -113,7 +140,7 @@ module _ {K : Type 0} (cmp : K → K → Ordering) where
   name_nothing (m ∷ ms) v nothing = (one m nothing.0, name_nothing ms (stands_after m v) nothing.1)
     where
       one : (m : Message K) → NamesNothing m → names m v ≡ true
-      one (message.DeclareToken id e None node) zero_ = or_left (id == 0) (id == v.next) (eq-eqb id 0 zero_)
+      one (message.DeclareToken id e None node) zero_ = or_left (id == 0) ((id == v.next) && not (list_any (λ row. same cmp e row.1) v.told)) (eq-eqb id 0 zero_)
       one (message.DeclareToken id e (Some i) node) nothing_ = refl
       one (message.UndeclareToken id None node) nothing_ = absurd nothing_
       one (message.UndeclareToken id (Some e) node) nothing_ = refl

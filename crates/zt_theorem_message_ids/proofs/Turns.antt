@@ -34,7 +34,8 @@ use Rattle.zt_laws.proofs.Sorting.{printed as printed_at}
 use Rattle.zt_laws.proofs.Unlinking.{all_apart, closing_case, closing_in_order, closings_commute, each_from_always, each_from_both, ends_apart, printed_but_for}
 use Rattle.zt_theorem_visibility.proofs.Calls.{IsOfCalls, IsShownTurn, messages_at, turns_show}
 use Rattle.zt_theorem_visibility.proofs.Faces.{FacesHave, each_face_weaker, faces_called, faces_hear_nothing, faces_shown, faces_sorted, faces_still}
-use Rattle.zt_theorem_message_ids.proofs.Standing.{Name, after_heard_all, name_then, name_what_stands, standing_of}
+use Rattle.zt_theorem_message_ids.specs.Anew.{AreNews, TellsWhatIsNew}
+use Rattle.zt_theorem_message_ids.proofs.Standing.{Name, after_heard_all, name_news, name_then, name_what_stands, standing_of}
 use Rattle.zt_theorem_message_ids.proofs.Calls.{call_names, closing_stands}
 
 module _ {K : Type 0} (cmp : K → K → Ordering) (matching : K → K → Bool) where
@@ -227,6 +228,17 @@ module _ {K : Type 0} (cmp : K → K → Ordering) (matching : K → K → Bool)
         → Each (EndsWhatStands cmp matching) (turns_from cmp matching lines (entries_from cmp matching lines s) (as_shown s))
     turns_end lines s real fine =
         turns_show cmp matching total (λ s. Unit {0}) Comes named_of_calls (EndsWhatStands cmp matching) ends_shown (λ line x first ordered _. tt) lines s real fine tt
+
+    news_shown : (s : Fabric K) (t : Turn K) → FabricIsInOrder cmp matching s → Unit {0} → IsShownTurn cmp matching total (λ s. Unit {0}) Comes named_of_calls s t → TellsWhatIsNew cmp matching t
+    news_shown s t fine _ is =
+        each_face_weaker (λ n g f. Named n g f (printed_to t n f)) (λ n g f. AreNews cmp matching (printed_to t n f) f) (λ n g f named. name_news cmp matching (printed_to t n f) f named) 1 (with_line cmp matching t).gateways
+        (faces_shown Named Named (λ j g f xs named. named) is.changed.faces t.after.faces (printed t) is.changed.gateways (with_line cmp matching t).gateways is.after_places (ap (λ (X : Fabric K). X.gateways) is.with_is) is.comes)
+
+    -- Each turn of a transcript tells what is new.
+    pub turns_tell_news : (lines : List (PlainLine K)) (s : Fabric K) → Each HasFirstIds lines → FabricIsInOrder cmp matching s
+        → Each (TellsWhatIsNew cmp matching) (turns_from cmp matching lines (entries_from cmp matching lines s) (as_shown s))
+    turns_tell_news lines s real fine =
+        turns_show cmp matching total (λ s. Unit {0}) Comes named_of_calls (TellsWhatIsNew cmp matching) news_shown (λ line x first ordered _. tt) lines s real fine tt
 
     -- Each turn of a transcript draws next ids.
     pub turns_draw : (lines : List (PlainLine K)) (s : Fabric K) → Each HasFirstIds lines → FabricIsInOrder cmp matching s

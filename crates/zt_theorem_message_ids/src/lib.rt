@@ -10,6 +10,7 @@ ghost use Rattle.zt_model.specs.Transcript.{Each};
 ghost use Rattle.zt_laws.specs.Order.{FabricIsInOrder};
 ghost use Rattle.zt_laws.specs.Shown.{turns_of};
 ghost use Rattle.zt_laws.specs.Sound.{HasFirstIds};
+ghost use Rattle.zt_theorem_message_ids.specs.Anew.{TellsWhatIsNew};
 
 use zt_keys::Key;
 
@@ -28,4 +29,12 @@ pub fn turns_draw_next_ids<K: Key>()
     ensures { (lines : List (PlainLine K)) (s : Fabric K) → Each HasFirstIds lines
         → FabricIsInOrder K.cmp K.matching s
         → Each (DrawsNextIds K.cmp K.matching) (turns_of K.cmp K.matching lines s) }
+{}
+
+/// And a token that answers nobody is told only a face that doesn't keep it yet, as the face is when
+/// the message comes to it.
+pub fn turns_tell_what_is_new<K: Key>()
+    ensures { (lines : List (PlainLine K)) (s : Fabric K) → Each HasFirstIds lines
+        → FabricIsInOrder K.cmp K.matching s
+        → Each (TellsWhatIsNew K.cmp K.matching) (turns_of K.cmp K.matching lines s) }
 {}
