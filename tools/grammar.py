@@ -68,12 +68,12 @@ GATEWAY, LINK, FACE = U32._replace(name='G'), U32._replace(name='L'), U32._repla
 FIRST = number('FIRST', 1, 4294967295)
 MODE = one_of('MODE', 'router', 'peer', 'client')
 BOUND = one_of('BOUND', 'north', 'south')
-DIRECTION = one_of('DIR', 'fwd', 'back')
+DIRECTION = one_of('DIR', 'fwd', 'back')._replace(what='`fwd`, from the first gateway to the second, or `back`')
 INTEREST_MODE = one_of('IMODE', 'current', 'future', 'current-future')
 FLAG = one_of('C', '0', '1')
 ZID = spelled('ZID', 'a zid: 1 to 32 digits of `0-9a-f`, the first not `0`', '[1-9a-f][0-9a-f]{0,31}')
 WORD = spelled('WORD', 'a name: 1 to 32 of `a-z0-9_`', '[a-z0-9_]{1,32}')
-OPTIONS = spelled('OPTS', '`-`, or one or more of the letters `ksqta` in this order', '-|(?=.)k?s?q?t?a?')
+OPTIONS = spelled('OPTS', '`-`, or one or more of the letters `ksqta` in this order (key expressions, subscribers, queryables, tokens, aggregated)', '-|(?=.)k?s?q?t?a?')
 
 
 def wrong_region(text):
@@ -104,7 +104,7 @@ def wrong_key(text):
     return None
 
 
-KEY = Value('KEY', 'a key expression', wrong_key)
+KEY = Value('KEY', 'a key expression (chunks with `/` between them; `*` and `**` only as whole chunks; none of `#?$`)', wrong_key)
 
 
 def wrong_filter(text):

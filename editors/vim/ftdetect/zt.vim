@@ -1,0 +1,1 @@
+autocmd BufNewFile,BufRead *.zt setfiletype zt
