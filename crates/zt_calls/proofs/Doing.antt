@@ -1,14 +1,15 @@
 -- How pieces of work join.
-use Rattle.std.proofs.Common.{◌≡◌, ℕ, Bool, List, [], ◌∷◌, ◌++◌, Option, Some, None, append_assoc, ap, drop, filter, get_or, length, subst, ◌+◌, ◌<◌, ◌≤◌, not, refl, sym, ◌==◌, ◌∙◌}
+use Rattle.std.proofs.Common.{◌≡◌, ℕ, Bool, List, [], ◌∷◌, ◌++◌, Option, Some, None, append_assoc, ap, drop, eq-eqb, filter, get_or, length, map, subst, ◌+◌, ◌<◌, ◌≤◌, not, refl, sym, ◌==◌, ◌∙◌}
 use Rattle.std.proofs.lemmas.List.{append-nil, drop_all}
 use Rattle.std.specs.List.{flat_map}
 use Rattle.zt_state.proofs.Walks.{drop_item}
 use Rattle.std.specs.declared.cmp.Ordering.{Ordering}
 use Rattle.zt_theorem_soundness.proofs.Running.{ran-append}
 use Rattle.zt_theorem_soundness.specs.Ran.{ran}
-use Rattle.zt_model.specs.Hearing.{rows_heard}
-use Rattle.zt_model.specs.Parts.{Alter, Part, Say, Sends, said_by, unsaid_to}
-use Rattle.zt_model.specs.Rows.{Rows}
+use Rattle.zt_model.specs.Hearing.{heard_all, messages_for, rows_heard}
+use Rattle.zt_model.specs.Parts.{Alter, Part, Say, Sends, find_face, said_by, to_face, unsaid_to}
+use Rattle.zt_model.specs.Rows.{Face, Rows}
+use Rattle.zt_protocol.specs.declared.messages.Message.{Message}
 use Rattle.zt_calls.specs.declared.speech.Speech.{Speech}
 use Rattle.zt_calls.specs.Does.{Does, spoken}
 
@@ -26,6 +27,25 @@ spoken-append (Some n) ps qs = unsaid-append n ps qs
 abbrev pub heard_of : {K : Type 0} → Option ℕ → Sends K → Sends K
 heard_of None ss = ss
 heard_of (Some n) ss = filter (λ s. not (n == s.0)) ss
+
+map_same : {A : Type 0} (xs : List A) → map (λ x. x) xs ≡ xs
+map_same [] = refl
+map_same (x ∷ xs) = ap (λ ys. x ∷ ys) (map_same xs)
+
+-- where nothing is said nothing changes
+none-heard : {K : Type 0} (cmp : K → K → Ordering) (g : Rows K) → rows_heard cmp [] g ≡ g
+unfolding rows_heard messages_for heard_all
+none-heard {K} cmp g = ap (λ (fs : List (Face K)). record g { faces = fs }) (map_same g.faces)
+
+-- nothing is heard of what is said to the face that is spared
+none-of : {M : Type 0} (n : ℕ) (ms : List M) → filter (λ (s : ℕ × M). not (n == s.0)) (map (λ m. (n, m)) ms) ≡ []
+none-of n [] = refl
+none-of n (m ∷ ms) = rw (eq-eqb n n refl) (none-of n ms)
+
+none-heard-of : {K : Type 0} (n : ℕ) (rule : Face K → List (Message K)) (g : Rows K) → heard_of (Some n) (to_face n rule g) ≡ []
+unfolding to_face
+none-heard-of {K} n rule g =
+    elim (find_face n g) as (λ f. filter (λ (s : ℕ × Message K). not (n == s.0)) (elim f [ None ↦ [] | Some f ↦ map (λ m. (n, m)) (rule f) ]) ≡ []) [ None ↦ refl | Some f ↦ none-of n (rule f) ]
 
 module _ {K : Type 0} (cmp : K → K → Ordering) (matching : K → K → Bool) where
   said-append : (ps qs : List (Part K)) (g : Rows K) → said_by cmp matching (ps ++ qs) g ≡ said_by cmp matching ps g ++ said_by cmp matching qs (ran cmp ps g)
@@ -90,6 +110,12 @@ module _ {K : Type 0} (cmp : K → K → Ordering) (matching : K → K → Bool)
       at_spared (Some n) is =
           let others = rw is at heard in
           record { spared = same_; rows = rw is (rows ∙ ap (λ sends. rows_heard cmp sends g) others); said = rw is (said ∙ ap (λ sends. s.said.items ++ sends) (others ∙ sym (append-nil (heard_of (Some n) (rule g))))) }
+
+  -- what is said to the face that is spared isn't said
+  pub does-unsaid : (n : ℕ) (rule : Face K → List (Message K)) (g : Rows K) (s : Speech K) → s.spared ≡ Some n → Does cmp matching (Say (to_face n rule) ∷ []) g g s s
+  does-unsaid n rule g s spared =
+      does-say (to_face n rule) g g s s []
+      (rw spared (sym (none-heard-of n rule g))) refl (sym (none-heard cmp g)) (sym (append-nil s.said.items))
 
   -- ---- one piece of work for each of a list
 

@@ -1,8 +1,8 @@
 // How interests and pendings end.
-ghost use Rattle.std.specs.Prelude.{◌≡◌, ◌∷◌, if◌then◌else◌, [], OnOk};
+ghost use Rattle.std.specs.Prelude.{◌≡◌, ◌∷◌, if◌then◌else◌, [], true, OnOk, Some};
 ghost use Rattle.zt_calls.specs.Does.{Does};
-ghost use Rattle.zt_model.specs.Parts.{Alter, with_face};
-ghost use Rattle.zt_model.specs.Routing.{ending, finalising, initial_finalised};
+ghost use Rattle.zt_model.specs.Parts.{Alter, Say, to_face, with_face};
+ghost use Rattle.zt_model.specs.Routing.{ending, finalising, initial_finalised, untell_to};
 
 use crate::speech::{Speech, say};
 use std::alloc::Global;
@@ -10,6 +10,35 @@ use zt_interests::{end_upstream, final_of_both, finish, untell};
 use zt_keys::{Key, Memory};
 use zt_protocol::InterestId;
 use zt_state::{GatewayState, RemoteInterest};
+
+// Whether nothing is said to the face.
+fn is_spared<K>(speech: &Speech<K>, face: u32) -> bool
+    ensures { result ≡ true → speech.now.spared ≡ Some face }
+{
+    match speech.spared {
+        Some(spared) => spared == face,
+        None => false,
+    }
+}
+
+// A face is told that what it doesn't want any more is gone. It isn't looked for where the face is
+// spared. The only error is want of memory.
+fn say_untold<K: Key>(
+    alloc: Global,
+    g: &mut GatewayState<K>,
+    speech: &mut Speech<K>,
+    face: u32,
+) -> Result<(), Memory>
+    ensures { OnOk result (Does K.cmp K.matching
+        (Say (to_face face (untell_to K.cmp K.matching)) ∷ [])
+        g.old g.new speech.old speech.new) }
+{
+    if is_spared(speech, face) {
+        return Ok(());
+    }
+    let gone = untell(alloc, g, face)?;
+    say(alloc, g, speech, gone)
+}
 
 /// A held interest is finalised. The only error is want of memory.
 pub(crate) fn finalise<K: Key>(
@@ -24,8 +53,7 @@ pub(crate) fn finalise<K: Key>(
         g.old g.new speech.old speech.new) }
 {
     g.unhold(face, id);
-    let gone = untell(alloc, g, face)?;
-    say(alloc, g, speech, gone)?;
+    say_untold(alloc, g, speech, face)?;
     let finals = final_of_both(alloc, g, face, id, interest)?;
     say(alloc, g, speech, finals)?;
     let ends = end_upstream(alloc, g, interest)?;
