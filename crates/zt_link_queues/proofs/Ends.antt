@@ -1,6 +1,7 @@
 -- Links whose faces rise: one more, one less, one closed, and the one that a face ends.
-use Rattle.std.proofs.Common.{◌≡◌, ℕ, zero, suc, ◌+◌, ◌-◌, ◌<◌, ◌≤◌, ◌==◌, ◌&&◌, Bool, true, false, List, [], ◌∷◌, ◌++◌, length, get_or, take, nat_lt, Some, None, refl, arith, ne_eqb}
+use Rattle.std.proofs.Common.{◌≡◌, ℕ, zero, suc, ◌+◌, ◌-◌, ◌<◌, ◌≤◌, ◌==◌, ◌&&◌, Bool, true, false, List, [], ◌∷◌, ◌++◌, length, get_or, take, nat_lt, Some, None, refl, sym, ap, subst, ◌∙◌, arith, eqb-true, ne_eqb}
 use Rattle.std.proofs.lemmas.Bool.Decides.{nat_tests}
+use Rattle.std.proofs.lemmas.List.{get_or_default}
 use Rattle.std.proofs.lemmas.List.Sorted.{IsPartitionedBy-ltb}
 use Rattle.std.specs.List.Sorted.{IsPartitionPoint, IsPartitionedBy}
 use Rattle.zt_keys.specs.Test.{by_test}
@@ -61,6 +62,53 @@ cut_of face ls at parted = record {
   before = λ i d lt within. is_below (get_or ls i d).two face (parted.0 i d (omega arith) lt);
   there = λ d lt. not_below (get_or ls at d).two face (parted.1 at d (omega arith) lt);
 }
+
+-- ---- the place of the link that a face ends
+
+-- a link's faces rise, from n on
+joins : (n : ℕ) (ls : List Link) (i : ℕ) (d : Link) → FacesRise n ls → i < length ls → (n ≤ (get_or ls i d).one) × ((get_or ls i d).one < (get_or ls i d).two)
+joins n [] i d rise lt = absurd (omega arith)
+joins n (l ∷ ls) zero d rise lt = (rise.0, rise.1.0)
+joins n (l ∷ ls) (suc i) d rise lt =
+    let one = rise.0 in
+    let two = rise.1.0 in
+    let rest = joins (l.two + 1) ls i d rise.1.1 (omega arith) in
+    let low = rest.0 in
+    (omega (arith, one, two, low), rest.1)
+
+-- the faces before a link are below its own
+apart : (n : ℕ) (ls : List Link) (i at : ℕ) (d : Link) → FacesRise n ls → i < at → at < length ls → (get_or ls i d).two < (get_or ls at d).one
+apart n [] i at d rise earlier lt = absurd (omega arith)
+apart n (l ∷ ls) i zero d rise earlier lt = absurd (omega arith)
+apart n (l ∷ ls) zero (suc at) d rise earlier lt = let next = (joins (l.two + 1) ls at d rise.1.1 (omega arith)).0 in omega (arith, next)
+apart n (l ∷ ls) (suc i) (suc at) d rise earlier lt = apart (l.two + 1) ls i at d rise.1.1 (omega arith) (omega arith)
+
+-- a face that a link joins is one of its two
+ends_within : (face : ℕ) (l : Link) → l.one < l.two → is_end_of face l ≡ true → (l.one ≤ face) × (face ≤ l.two)
+ends_within face l rising ends =
+    by_test (face == l.one)
+    (λ here. let is : face ≡ l.one = eqb-true face l.one here in (omega arith, omega arith))
+    (λ past.
+    let later : (face == l.two) ≡ true = rw past at ends in
+    let is : face ≡ l.two = eqb-true face l.two later in
+    (omega arith, omega arith))
+
+-- links are cut at the one that a face ends
+pub cut_at : (face : ℕ) (ls : List Link) (at : ℕ) (x : Link) → FacesRise 0 ls → at < length ls → x ≡ get_or ls at x → is_end_of face x ≡ true → IsCut face ls at
+cut_at face ls at x rise lt item ends =
+    let rising : x.one < x.two = subst (λ (l : Link). l.one < l.two) (sym item) (joins 0 ls at x rise lt).1 in
+    let within = ends_within face x rising ends in
+    let low = within.0 in
+    let high = within.1 in
+    record {
+      before = λ i d earlier behind.
+          let below : (get_or ls i d).two < (get_or ls at d).one = apart 0 ls i at d rise earlier lt in
+          let one : (get_or ls at d).one ≡ x.one = ap (λ (l : Link). l.one) (get_or_default ls at d x lt ∙ sym item) in
+          omega (arith, below, one, low);
+      there = λ d behind.
+          let two : (get_or ls at d).two ≡ x.two = ap (λ (l : Link). l.two) (get_or_default ls at d x lt ∙ sym item) in
+          omega (arith, two, high);
+    }
 
 -- ---- the link that a face ends
 

@@ -1,9 +1,10 @@
 -- Numbers of faces, where a place is put behind the others or taken away again.
-use Rattle.std.proofs.Common.{◌≡◌, ℕ, ◌+◌, ◌<◌, ◌≤◌, ◌==◌, ◌&&◌, true, false, not, cond, if◌then◌else◌, List, [], ◌∷◌, ◌++◌, length, Option, Some, None, is_some, unwrap_or, refl, sym, ap, ◌∙◌, arith, eq-eqb, eqb-true, ne_eqb}
+use Rattle.std.proofs.Common.{◌≡◌, ℕ, zero, suc, ◌+◌, ◌-◌, ◌<◌, ◌≤◌, ◌==◌, ◌&&◌, true, false, not, cond, if◌then◌else◌, List, [], ◌∷◌, ◌++◌, length, set, take, Option, Some, None, is_some, unwrap_or, refl, sym, ap, ◌∙◌, arith, eq-eqb, eqb-true, ne_eqb}
+use Rattle.std.proofs.lemmas.Bool.{eqb-false}
 use Rattle.std.proofs.lemmas.Bool.Decides.{nat_tests}
+use Rattle.std.proofs.lemmas.List.{get_or-set_other, get_or-set_same}
 use Rattle.std.specs.Cmp.{alike_right, nat_cmp_total, unsigned_tied}
 use Rattle.std.specs.FinMap.Entries.{find, find-put, find-where_key}
-use Rattle.std.specs.Map.{lookup}
 use Rattle.std.specs.Ordering.{is_eq, nat_cmp}
 use Rattle.zt_keys.specs.Test.{by_test}
 use Rattle.zt_model.specs.Places.{Place, number_from}
@@ -11,7 +12,7 @@ use Rattle.zt_ordered.specs.Rows.{same}
 use Rattle.zt_link_queues.specs.Found.{AreNumbers, HasNumber, LacksNumber, faces_at, number_at, number_in, numbered, or_number, other_than, with_number, without_number}
 
 abbrev Numbers : Type 0
-Numbers = List (ℕ × List (ℕ × ℕ))
+Numbers = List (List (ℕ × ℕ))
 
 turned : (a b : ℕ) → (a == b) ≡ (b == a)
 turned a b = grind (arith, nat_tests)
@@ -82,22 +83,29 @@ find_without face number f pairs =
     (λ here. rw here (sym (still_other (find nat_cmp f pairs) number (ap (λ k. number_in k pairs == number) (eqb-true f face here) ∙ other))))
     (λ past. rw past refl)))
 
--- ---- what the map's calls leave
+-- ---- what is written at a gateway's number
 
--- a gateway's faces are written
-written : (gateway g : ℕ) (pairs : List (ℕ × ℕ)) (old new : Numbers) → ((q : ℕ) → lookup (λ k. q == k) new ≡ (if gateway == q then Some pairs else lookup (λ k. q == k) old))
-    → faces_at g new ≡ (if g == gateway then pairs else faces_at g old)
-written gateway g pairs old new puts =
-    let now : faces_at g new ≡ unwrap_or (if g == gateway then Some pairs else lookup (λ k. g == k) old) [] =
-    ap (λ o. unwrap_or o []) (puts g ∙ ap (λ b. if b then Some pairs else lookup (λ k. g == k) old) (turned gateway g))
-    in
-    by_test (g == gateway) (λ here. rw here (rw here at now)) (λ past. rw past (rw past at now))
+-- there may be more gateways without faces
+pub faces_more : (old : Numbers) (g : ℕ) → faces_at g (old ++ [] ∷ []) ≡ faces_at g old
+faces_more [] zero = refl
+faces_more [] (suc g) = refl
+faces_more (x ∷ xs) zero = refl
+faces_more (x ∷ xs) (suc g) = faces_more xs g
+
+pub faces_set : (gateway : ℕ) (pairs : List (ℕ × ℕ)) (old : Numbers) → gateway < length old → (g : ℕ) → faces_at g (set old gateway pairs) ≡ (if g == gateway then pairs else faces_at g old)
+faces_set gateway pairs old lt g =
+    by_test (g == gateway)
+    (λ here. rw here (ap (λ k. faces_at k (set old gateway pairs)) (eqb-true g gateway here) ∙ get_or-set_same old gateway pairs [] lt))
+    (λ past. rw past (get_or-set_other old gateway g pairs [] (eqb-false g gateway past)))
+
+pub numbers_alike : (old new : Numbers) (ps : List Place) → ((g : ℕ) → faces_at g new ≡ faces_at g old) → AreNumbers old ps → AreNumbers new ps
+numbers_alike old new ps alike are = record { at = λ g f. ap (find nat_cmp f) (alike g) ∙ are.at g f }
 
 pub number_put : (gateway face number : ℕ) (pairs : List (ℕ × ℕ)) (old new : Numbers) → pairs ≡ with_number face number (faces_at gateway old)
-    → ((q : ℕ) → lookup (λ k. q == k) new ≡ (if gateway == q then Some pairs else lookup (λ k. q == k) old)) → HasNumber gateway face number old new
+    → ((g : ℕ) → faces_at g new ≡ (if g == gateway then pairs else faces_at g old)) → HasNumber gateway face number old new
 number_put gateway face number pairs old new is puts = record {
   at = λ g f.
-      let now = ap (find nat_cmp f) (written gateway g pairs old new puts) in
+      let now = ap (find nat_cmp f) (puts g) in
       by_test (g == gateway)
       (λ here.
       let same : faces_at gateway old ≡ faces_at g old = ap (λ k. faces_at k old) (sym (eqb-true g gateway here)) in
@@ -106,10 +114,10 @@ number_put gateway face number pairs old new is puts = record {
 }
 
 pub number_dropped : (gateway face number : ℕ) (pairs : List (ℕ × ℕ)) (old new : Numbers) → pairs ≡ without_number face number (faces_at gateway old)
-    → ((q : ℕ) → lookup (λ k. q == k) new ≡ (if gateway == q then Some pairs else lookup (λ k. q == k) old)) → LacksNumber gateway face number old new
+    → ((g : ℕ) → faces_at g new ≡ (if g == gateway then pairs else faces_at g old)) → LacksNumber gateway face number old new
 number_dropped gateway face number pairs old new is puts = record {
   at = λ g f.
-      let now = ap (find nat_cmp f) (written gateway g pairs old new puts) in
+      let now = ap (find nat_cmp f) (puts g) in
       by_test (g == gateway)
       (λ here.
       let same : faces_at gateway old ≡ faces_at g old = ap (λ k. faces_at k old) (sym (eqb-true g gateway here)) in
@@ -174,3 +182,13 @@ numbers_popped old new ps p number are lacks is = record {
       (λ here. rw here at (lacks.at g f) ∙ ap (other_than number) (rw here at was) ∙ taken_back n number below)
       (λ past. rw past at (lacks.at g f) ∙ rw past at was ∙ or_none (numbered n));
 }
+
+-- a place that was put behind others is taken away again
+pub taken_again : (n : ℕ) (ps : List Place) (p : Place) → n ≡ length ps + 1 → take (n - 1) (ps ++ p ∷ []) ≡ ps
+taken_again n ps p count =
+    let most : n - 1 ≡ length ps = omega arith in
+    rw most (whole ps p)
+  where
+    whole : (qs : List Place) (q : Place) → take (length qs) (qs ++ q ∷ []) ≡ qs
+    whole [] q = refl
+    whole (x ∷ qs) q = ap (λ rest. x ∷ rest) (whole qs q)

@@ -12,7 +12,6 @@
 use Rattle.std.specs.Prelude.{◌≡◌, ℕ, ◌+◌, ◌<◌, ◌≤◌, ◌==◌, ◌&&◌, if◌then◌else◌, List, [], ◌∷◌, Option, Some, None, is_some, unwrap_or, true, length, get_or}
 use Rattle.std.specs.FinMap.Entries.{find, is_sorted, put}
 use Rattle.std.specs.List.{AllByRecursion}
-use Rattle.std.specs.Map.{lookup}
 use Rattle.std.specs.Ordering.{nat_cmp}
 use Rattle.zt_model.specs.Places.{Link, Place, number_from}
 use Rattle.zt_ordered.specs.Rows.{without}
@@ -33,24 +32,25 @@ with_number face number pairs = if is_some (find nat_cmp face pairs) then pairs 
 abbrev pub without_number : ℕ → ℕ → List (ℕ × ℕ) → List (ℕ × ℕ)
 without_number face number pairs = if number_in face pairs == number then without nat_cmp face pairs else pairs
 
-abbrev pub faces_at : ℕ → List (ℕ × List (ℕ × ℕ)) → List (ℕ × ℕ)
-faces_at gateway numbers = unwrap_or (lookup (λ g. gateway == g) numbers) []
+-- those of a gateway stand at its number
+abbrev pub faces_at : ℕ → List (List (ℕ × ℕ)) → List (ℕ × ℕ)
+faces_at gateway numbers = get_or numbers gateway []
 
-abbrev pub number_at : ℕ → ℕ → List (ℕ × List (ℕ × ℕ)) → Option ℕ
+abbrev pub number_at : ℕ → ℕ → List (List (ℕ × ℕ)) → Option ℕ
 number_at gateway face numbers = find nat_cmp face (faces_at gateway numbers)
 
 -- a number, where it is one: 0 is none
 abbrev pub numbered : ℕ → Option ℕ
 numbered n = if n == 0 then None else Some n
 
-pub record AreNumbers (numbers : List (ℕ × List (ℕ × ℕ))) (places : List Place) : Type 0 where
+pub record AreNumbers (numbers : List (List (ℕ × ℕ))) (places : List Place) : Type 0 where
   pub at : (gateway face : ℕ) → number_at gateway face numbers ≡ numbered (number_from 1 gateway face places)
 
 abbrev pub or_number : Option ℕ → Option ℕ → Option ℕ
 or_number None other = other
 or_number (Some n) other = Some n
 
-pub record HasNumber (gateway face number : ℕ) (old new : List (ℕ × List (ℕ × ℕ))) : Type 0 where
+pub record HasNumber (gateway face number : ℕ) (old new : List (List (ℕ × ℕ))) : Type 0 where
   pub at : (g f : ℕ) → number_at g f new ≡ or_number (number_at g f old) (if (g == gateway) && (f == face) then Some number else None)
 
 -- a number but for one
@@ -58,7 +58,7 @@ abbrev pub other_than : ℕ → Option ℕ → Option ℕ
 other_than number None = None
 other_than number (Some n) = if n == number then None else Some n
 
-pub record LacksNumber (gateway face number : ℕ) (old new : List (ℕ × List (ℕ × ℕ))) : Type 0 where
+pub record LacksNumber (gateway face number : ℕ) (old new : List (List (ℕ × ℕ))) : Type 0 where
   pub at : (g f : ℕ) → number_at g f new ≡ (if (g == gateway) && (f == face) then other_than number (number_at g f old) else number_at g f old)
 
 -- ---- links

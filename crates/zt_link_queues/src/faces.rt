@@ -1,5 +1,5 @@
 // The faces of one gateway with their numbers in scripts.
-ghost use Rattle.std.specs.Prelude.{◌≡◌, ◌∷◌, [], IfOk, OnErr, OnOk};
+ghost use Rattle.std.specs.Prelude.{◌≡◌, [], OnErr, OnOk};
 ghost use Rattle.zt_link_queues.specs.Found.{AreRising, number_in, with_number, without_number};
 
 use std::alloc::Global;
@@ -64,12 +64,13 @@ impl Model for NumberedFaces {
 }
 
 impl NumberedFaces {
-    /// One face, with its number. The only error is want of memory.
-    pub(crate) fn one(alloc: Global, face: u32, number: u32) -> Result<Self, Memory>
-        ensures { IfOk result (λ faces. faces ≡ (face, number) ∷ []) }
+    /// No faces. It takes no memory.
+    pub(crate) fn new(alloc: Global) -> Self
+        ensures { result ≡ [] }
     {
-        let pairs = vec![in alloc; (face, number)]?;
-        Ok(NumberedFaces { pairs })
+        NumberedFaces {
+            pairs: Vec::new(alloc),
+        }
     }
 
     /// Pairs of face and number.

@@ -1,5 +1,5 @@
 // The places of faces, and the numbers of faces in scripts.
-ghost use Rattle.std.specs.Prelude.{◌≡◌, ℕ, ◌+◌, ◌-◌, ◌++◌, [], ◌∷◌, length, take};
+ghost use Rattle.std.specs.Prelude.{◌≡◌, ℕ, ◌+◌, ◌-◌, ◌<◌, ◌++◌, [], ◌∷◌, length, take};
 ghost use Rattle.std.specs.Prelude.{IfOk, OnErr, OnOk};
 ghost use Rattle.zt_model.specs.Places.{number_from};
 ghost use Rattle.zt_link_queues.specs.Found.{AreNumbers, AreRising, HasNumber, LacksNumber};
@@ -7,7 +7,6 @@ ghost use Rattle.zt_link_queues.specs.Found.{faces_at, number_in};
 
 use crate::faces::{FaceNumbers, NumberedFaces};
 use std::alloc::Global;
-use std::collections::HashMap;
 use std::marker::Model;
 use zt_keys::Memory;
 
@@ -46,8 +45,9 @@ impl PlaceState {
 #[derive(Drop)]
 pub struct Places {
     places: Vec<PlaceState>,
-    // The faces of each gateway with their numbers. Of equal places the first counts.
-    numbers: HashMap<u32, NumberedFaces>,
+    // The faces of each gateway with their numbers, by its number: gateways are numbered from 1 in
+    // order of making. Of equal places the first counts.
+    numbers: Vec<NumberedFaces>,
 }
 
 impl Model for Places {
@@ -59,7 +59,7 @@ impl Model for Places {
 
     ghost view = { λ p. p.places.items };
 
-    ghost invariant = { λ p. AreNumbers p.numbers.entries p.places.items };
+    ghost invariant = { λ p. AreNumbers p.numbers.items p.places.items };
 }
 
 // The number of the place that is put next. That it has none counts as want of memory.
@@ -73,55 +73,61 @@ fn next_number(count: usize) -> Result<u32, Memory>
 }
 
 // The faces of a gateway with their numbers.
-fn find_faces(numbers: &HashMap<u32, NumberedFaces>, gateway: u32) -> &[(u32, u32)]
-    ensures pairs { result.now ≡ faces_at gateway numbers.now.entries }
+fn find_faces(numbers: &[NumberedFaces], gateway: u32) -> &[(u32, u32)]
+    ensures pairs { result.now ≡ faces_at gateway numbers.now }
     ensures in_order { AreRising result.now }
 {
-    match numbers.get(&gateway) {
+    match numbers.get(gateway as usize) {
         None => &[],
         Some(faces) => faces.as_slice(),
     }
 }
 
+// There is room for a gateway's faces. The only error is want of memory; no face is lost by it.
+fn reach(alloc: Global, numbers: &mut Vec<NumberedFaces>, gateway: u32) -> Result<(), Memory>
+    ensures there { OnOk result (gateway < length numbers.new.items) }
+    ensures same { (g : ℕ) → faces_at g numbers.new.items ≡ faces_at g numbers.old.items }
+{
+    while numbers.len() <= gateway as usize {
+        numbers.push(NumberedFaces::new(alloc))?;
+    }
+    Ok(())
+}
+
 // A face has a number, where it had none. The only error is want of memory, and then all stays.
 fn put_number(
     alloc: Global,
-    numbers: &mut HashMap<u32, NumberedFaces>,
+    numbers: &mut Vec<NumberedFaces>,
     gateway: u32,
     face: u32,
     number: u32,
 ) -> Result<(), Memory>
-    ensures ok { OnOk result (HasNumber gateway face number numbers.old.entries
-        numbers.new.entries) }
-    ensures err { OnErr result (numbers.new.entries ≡ numbers.old.entries) }
+    ensures ok { OnOk result (HasNumber gateway face number numbers.old.items numbers.new.items) }
+    ensures err { OnErr result
+        ((g : ℕ) → faces_at g numbers.new.items ≡ faces_at g numbers.old.items) }
 {
-    match numbers.get_mut(&gateway) {
-        Some(faces) => faces.put(face, number),
-        None => {
-            numbers.insert(gateway, NumberedFaces::one(alloc, face, number)?)?;
-            Ok(())
-        }
-    }
+    reach(alloc, numbers, gateway)?;
+    numbers[gateway as usize].put(face, number)
 }
 
 // A face has a number no more, where it was this one.
-fn drop_number(numbers: &mut HashMap<u32, NumberedFaces>, gateway: u32, face: u32, number: usize)
-    ensures { LacksNumber gateway face number numbers.old.entries numbers.new.entries }
+fn drop_number(numbers: &mut Vec<NumberedFaces>, gateway: u32, face: u32, number: usize)
+    ensures { LacksNumber gateway face number numbers.old.items numbers.new.items }
 {
-    if let Some(faces) = numbers.get_mut(&gateway) {
-        faces.remove(face, number);
+    if (gateway as usize) < numbers.len() {
+        numbers[gateway as usize].remove(face, number);
     }
 }
 
 // One more place. The only error is want of memory, and then all stays.
 fn push_in(
     places: &mut Vec<PlaceState>,
-    numbers: &mut HashMap<u32, NumberedFaces>,
+    numbers: &mut Vec<NumberedFaces>,
     gateway: u32,
     face: u32,
 ) -> Result<(), Memory>
-    requires { AreNumbers numbers.old.entries places.old.items }
-    ensures numbers { AreNumbers numbers.new.entries places.new.items }
+    requires { AreNumbers numbers.old.items places.old.items }
+    ensures numbers { AreNumbers numbers.new.items places.new.items }
     ensures ok { OnOk result (places.new.items
         ≡ places.old.items ++ record { gateway = gateway; face = face } ∷ []) }
     ensures err { OnErr result (places.new.items ≡ places.old.items) }
@@ -139,9 +145,9 @@ fn push_in(
 }
 
 // The last place goes.
-fn pop_in(places: &mut Vec<PlaceState>, numbers: &mut HashMap<u32, NumberedFaces>)
-    requires { AreNumbers numbers.old.entries places.old.items }
-    ensures numbers { AreNumbers numbers.new.entries places.new.items }
+fn pop_in(places: &mut Vec<PlaceState>, numbers: &mut Vec<NumberedFaces>)
+    requires { AreNumbers numbers.old.items places.old.items }
+    ensures numbers { AreNumbers numbers.new.items places.new.items }
     ensures places { places.new.items ≡ take (length places.old.items - 1) places.old.items }
 {
     let number = places.len();
@@ -157,7 +163,7 @@ impl Places {
     {
         Places {
             places: Vec::new(alloc),
-            numbers: HashMap::new(alloc),
+            numbers: Vec::new(alloc),
         }
     }
 

@@ -6,8 +6,8 @@ use Rattle.zt_link_queues.proofs.places.pop_in.Goals as goal
 
 pub returns-in-Some-clause-numbers : goal.returns-in-Some-clause-numbers
 returns-in-Some-clause-numbers c =
-    let old = c.args.numbers.now.entries in
-    let new = c.drop_number.new.numbers.entries in
+    let old = c.args.numbers.now.items in
+    let new = c.drop_number.new.numbers.items in
     let left = c.pop.new.self.items in
     let place = c.in-Some.place in
     let whole : c.args.places.now.items ≡ left ++ place ∷ [] = c.in-Some.ensures.items in
