@@ -3,27 +3,26 @@ use Rattle.std.proofs.Common.{◌≡◌, ◌+◌, ◌<◌, ℕ, true, false, if�
 use Rattle.std.proofs.lemmas.List.{append-nil}
 use Rattle.std.proofs.lemmas.List.Folds.{list_any-append}
 use Rattle.std.specs.declared.cmp.Ordering.{Ordering}
+use Rattle.zt_keys.specs.Test.{by_test}
 use Rattle.zt_model.specs.Entities.{numbered_with}
 use Rattle.zt_model.specs.Lists.{is_among, same}
 use Rattle.zt_state.proofs.Walks.{drop_item}
 
 module _ {K : Type 0} (cmp : K → K → Ordering) where
-  -- an expression that stands in either part is known
+  -- an expression that stands in the first part is known
   pub known_before : (e : K) (known fresh : List K) → is_among cmp e known ≡ true → known ++ fresh ≡ numbered_with cmp (e ∷ []) (known ++ fresh)
   unfolding numbered_with
   known_before e known fresh there =
       rw (list_any-append (same cmp e) known fresh, there)
 
-  pub known_fresh : (e : K) (known fresh : List K) → is_among cmp e known ≡ false → is_among cmp e fresh ≡ true → known ++ fresh ≡ numbered_with cmp (e ∷ []) (known ++ fresh)
-  unfolding numbered_with
-  known_fresh e known fresh not_there there =
-      rw (list_any-append (same cmp e) known fresh, not_there, there)
-
   -- one that stands in neither part is added
-  pub added_fresh : (e : K) (known fresh : List K) → is_among cmp e known ≡ false → is_among cmp e fresh ≡ false → known ++ (fresh ++ e ∷ []) ≡ numbered_with cmp (e ∷ []) (known ++ fresh)
+  pub numbered_beside : (e : K) (known fresh after : List K) → is_among cmp e known ≡ false → after ≡ numbered_with cmp (e ∷ []) fresh → known ++ after ≡ numbered_with cmp (e ∷ []) (known ++ fresh)
   unfolding numbered_with
-  added_fresh e known fresh not_there new =
-      rw (list_any-append (same cmp e) known fresh, not_there, new) (sym (append_assoc known fresh (e ∷ [])))
+  numbered_beside e known fresh after not_there is =
+      ap (λ more. known ++ more) is
+      ∙ by_test (is_among cmp e fresh)
+      (λ there. rw (list_any-append (same cmp e) known fresh, not_there, there) refl)
+      (λ new. rw (list_any-append (same cmp e) known fresh, not_there, new) (sym (append_assoc known fresh (e ∷ []))))
 
   -- expressions get numbers one after the other
   pub numbered_more : (es : List K) (i : ℕ) (e : K) (before after all : List K)

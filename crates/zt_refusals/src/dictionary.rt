@@ -6,8 +6,9 @@ ghost use Rattle.zt_model.specs.Refusals.{fills_dictionary};
 use bitflags::Flags;
 use std::alloc::Global;
 use zt_keys::{Key, Memory};
+use zt_lookups::Dictionary;
 use zt_protocol::{InterestOptions, QueryableInfo};
-use zt_state::{GatewayState, RemoteInterest, is_among};
+use zt_state::{GatewayState, RemoteInterest};
 
 // A dictionary has at most so many expressions.
 const GREATEST_DICTIONARY: usize = 65535;
@@ -33,24 +34,24 @@ pub(crate) fn is_filled_by_interest<K: Key>(
     }
     match interest.expr() {
         None => GREATEST_DICTIONARY < known.len(),
-        Some(expr) if is_among(expr, known) => GREATEST_DICTIONARY < known.len(),
+        Some(expr) if known.contains(expr) => GREATEST_DICTIONARY < known.len(),
         Some(_) => are_above(GREATEST_DICTIONARY, known.len(), 1),
     }
 }
 
 // Adds an expression to those that are to get numbers, where it has none and isn't among them.
-#[tactic(auto, using(crate::proofs::Numbering::known_before, crate::proofs::Numbering::known_fresh, crate::proofs::Numbering::added_fresh), unfolding(zt_model::specs::Entities::numbered_with))]
+#[tactic(auto, using(crate::proofs::Numbering::known_before, crate::proofs::Numbering::numbered_beside), unfolding(zt_model::specs::Entities::numbered_with))]
 fn add_unnumbered<K: Key>(
     alloc: Global,
-    known: &[K],
-    fresh: &mut Vec<K>,
+    known: &Dictionary<K>,
+    fresh: &mut Dictionary<K>,
     expr: &K,
 ) -> Result<(), Memory>
-    ensures { OnOk result (known.now ++ fresh.new.items
-        ≡ numbered_with K.cmp (expr.now ∷ []) (known.now ++ fresh.old.items)) }
+    ensures { OnOk result (known.now ++ fresh.new
+        ≡ numbered_with K.cmp (expr.now ∷ []) (known.now ++ fresh.old)) }
 {
-    if !is_among(expr, known) && !is_among(expr, fresh) {
-        fresh.push(expr.copy(alloc)?)?;
+    if !known.contains(expr) {
+        fresh.number(alloc, expr)?;
     }
     Ok(())
 }
@@ -58,12 +59,12 @@ fn add_unnumbered<K: Key>(
 // Adds the expressions of subscribers.
 fn add_subscribers<K: Key>(
     alloc: Global,
-    known: &[K],
-    fresh: &mut Vec<K>,
+    known: &Dictionary<K>,
+    fresh: &mut Dictionary<K>,
     subscribers: &[K],
 ) -> Result<(), Memory>
-    ensures { OnOk result (known.now ++ fresh.new.items
-        ≡ numbered_with K.cmp subscribers.now (known.now ++ fresh.old.items)) }
+    ensures { OnOk result (known.now ++ fresh.new
+        ≡ numbered_with K.cmp subscribers.now (known.now ++ fresh.old)) }
 {
     for expr in subscribers {
         add_unnumbered(alloc, known, fresh, expr)?;
@@ -74,12 +75,12 @@ fn add_subscribers<K: Key>(
 // Adds the expressions of queryables.
 fn add_queryables<K: Key>(
     alloc: Global,
-    known: &[K],
-    fresh: &mut Vec<K>,
+    known: &Dictionary<K>,
+    fresh: &mut Dictionary<K>,
     queryables: &[(K, QueryableInfo)],
 ) -> Result<(), Memory>
-    ensures { OnOk result (known.now ++ fresh.new.items
-        ≡ numbered_with K.cmp (map (λ q. q.0) queryables.now) (known.now ++ fresh.old.items)) }
+    ensures { OnOk result (known.now ++ fresh.new
+        ≡ numbered_with K.cmp (map (λ q. q.0) queryables.now) (known.now ++ fresh.old)) }
 {
     for queryable in queryables {
         add_unnumbered(alloc, known, fresh, &queryable.0)?;
@@ -101,7 +102,7 @@ pub(crate) fn is_filled_by_entities<K: Key>(
         (entity_expressions K.cmp subscribers.now queryables.now) g.now) }
 {
     let known = g.dictionary();
-    let mut fresh = Vec::new(alloc);
+    let mut fresh = Dictionary::new(alloc);
     add_subscribers(alloc, known, &mut fresh, subscribers)?;
     add_queryables(alloc, known, &mut fresh, queryables)?;
     Ok(are_above(GREATEST_DICTIONARY, known.len(), fresh.len()))

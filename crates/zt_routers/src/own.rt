@@ -35,7 +35,7 @@ fn is_newly_shown<K: Key>(g: &GatewayState<K>, source: Region, expr: &K, region:
 {
     is_router_region(g.mode(), region)
         && region != source
-        && g.admission().admits(source, region)
+        && g.admits(source, region)
         && !is_own_row(g, region, expr)
 }
 

@@ -1,27 +1,13 @@
 // The tables of router regions, as a gateway keeps them.
 ghost use Rattle.std.specs.Prelude.{◌≡◌, ◌==◌, ◌&&◌, [], IfNone, IfOk, IfSome, option_map};
-ghost use Rattle.std.specs.Option.{option_copied};
 ghost use Rattle.zt_model.specs.Lists.{first_where};
 ghost use Rattle.zt_model.specs.Trees.{counted_table, source_of, table_of};
-ghost use Rattle.zt_region.specs.Region.{region_eq};
 
 use std::alloc::Global;
 use zt_keys::{Key, Memory};
 use zt_link_state::KeptTable;
 use zt_region::{NodeId, Region, Zid};
 use zt_state::{FaceState, GatewayState};
-
-// The table that a region was handed, with the region.
-fn kept_table(trees: &[(Region, KeptTable)], region: Region) -> Option<&(Region, KeptTable)>
-    ensures { option_copied result ≡ first_where (λ t. region_eq region t.0) trees.now }
-{
-    for row in trees {
-        if region == row.0 {
-            return Some(row);
-        }
-    }
-    None
-}
 
 /// The table of a region; `None` where it was handed none, and nothing is listed.
 #[tactic(auto, unfolding(zt_model::specs::Trees::table_of))]
@@ -30,10 +16,7 @@ pub(crate) fn table_in<K: Key>(g: &GatewayState<K>, region: Region) -> Option<&K
     ensures none { IfNone result (table_of g.now region
         ≡ record { routers = []; links = []; children = [] }) }
 {
-    match kept_table(g.trees(), region) {
-        None => None,
-        Some(row) => Some(&row.1),
-    }
+    g.table_of(region)
 }
 
 /// A table that counts as that of a region; an empty one where it was handed none. The only error
@@ -58,9 +41,9 @@ fn linked<K: Key>(g: &GatewayState<K>, region: Region, face: u32, node_id: NodeI
     ensures { result ≡ option_map (λ l. l.2)
         (first_where (λ l. (l.0 == face) && (l.1 == node_id)) (table_of g.now region).links) }
 {
-    match kept_table(g.trees(), region) {
+    match g.table_of(region) {
         None => None,
-        Some(row) => row.1.router_behind(face, node_id),
+        Some(table) => table.router_behind(face, node_id),
     }
 }
 

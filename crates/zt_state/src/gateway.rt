@@ -1,27 +1,31 @@
 // A gateway with its faces.
-ghost use Rattle.std.specs.Prelude.{◌≡◌, [], filter, map, IfOk, IfSome};
+ghost use Rattle.std.specs.Prelude.{◌≡◌, [], filter, map, IfNone, IfOk, IfSome};
 ghost use Rattle.std.specs.List.{flat_map};
 ghost use Rattle.std.specs.Option.{option_copied};
 ghost use Rattle.zt_faces.specs.Rising.{AreUpTo, IsRising};
 ghost use Rattle.zt_model.specs.Fabric.{new_rows};
 ghost use Rattle.zt_model.specs.Parts.{find_face};
+ghost use Rattle.zt_model.specs.Trees.{counted_table, table_of};
 ghost use Rattle.zt_model.specs.Visible.{live_rows};
 ghost use Rattle.zt_model.specs.Wants.{seeks};
 ghost use Rattle.zt_indexes.specs.Rows.{AreCountsOf};
 ghost use Rattle.zt_interest_index.specs.Holders.{HasAllIn};
 ghost use Rattle.zt_token_index.specs.Seekers.{token_rows};
 ghost use Rattle.zt_token_index.specs.Retold.{told_id_at};
+ghost use Rattle.zt_region.specs.Admission.{admits};
 ghost use Rattle.zt_region.specs.Region.{is_north};
 ghost use Rattle.zt_state.specs.Told.{AreToldIds};
 ghost use Rattle.zt_token_index.specs.Told.{AreRising};
 
 use std::alloc::Global;
+use std::collections::BTreeMap;
 use std::marker::Model;
 use zt_face::FaceState;
 use zt_faces::Faces;
 use zt_indexes::LiveCounts;
 use zt_keys::{Key, Memory};
 use zt_link_state::{KeptTable, RoutedTokens};
+use zt_lookups::{Dictionary, RefusedPairs};
 use zt_region::{Admission, Region, WhatAmI, Zid};
 use zt_token_index::Seekers;
 
@@ -33,13 +37,13 @@ pub struct GatewayState<K: Key> {
     pub(crate) mode: WhatAmI,
     pub(crate) zid: Zid,
     pub(crate) regions: Vec<Region>,
-    pub(crate) admission: Admission,
+    pub(crate) admission: RefusedPairs,
     pub(crate) timeout: u64,
     pub(crate) moment: u64,
     pub(crate) made: u32,
-    pub(crate) trees: Vec<(Region, KeptTable)>,
+    pub(crate) trees: BTreeMap<Region, KeptTable>,
     pub(crate) routed: RoutedTokens<K>,
-    pub(crate) dictionary: Vec<K>,
+    pub(crate) dictionary: Dictionary<K>,
     pub(crate) faces: Faces<K>,
     pub(crate) live: LiveCounts<K>,
     pub(crate) seekers: Seekers<K>,
@@ -55,13 +59,13 @@ impl<K: Key> Model for GatewayState<K> {
       mode = g.mode;
       zid = g.zid;
       regions = g.regions.items;
-      refused = g.admission.refused.items;
+      refused = g.admission;
       timeout = g.timeout;
       moment = g.moment;
       made = g.made;
-      trees = g.trees.items;
+      trees = g.trees.entries;
       routed = g.routed;
-      dictionary = g.dictionary.items;
+      dictionary = g.dictionary;
       faces = g.faces;
     } };
 
@@ -85,13 +89,13 @@ impl<K: Key> GatewayState<K> {
             mode,
             zid,
             regions,
-            admission,
+            admission: RefusedPairs::new(alloc, admission),
             timeout,
             moment: 0,
             made: 0,
-            trees: Vec::new(alloc),
+            trees: BTreeMap::new(alloc),
             routed: RoutedTokens::new(alloc),
-            dictionary: Vec::new(alloc),
+            dictionary: Dictionary::new(alloc),
             faces: Faces::new(alloc),
             live: LiveCounts::new(alloc),
             seekers: Seekers::new(alloc),
@@ -119,11 +123,12 @@ impl<K: Key> GatewayState<K> {
         &self.regions
     }
 
-    /// The pairs of regions that are refused.
-    pub fn admission(&self) -> &Admission
-        ensures { result.now.refused.items ≡ self.now.refused }
+    /// Whether tokens of `src` may be told to faces of `dst`: whether the pair isn't refused. A
+    /// look-up.
+    pub fn admits(&self, src: Region, dst: Region) -> bool
+        ensures { result ≡ admits self.now.refused src dst }
     {
-        &self.admission
+        self.admission.admits(src, dst)
     }
 
     /// How long an interest that was sent upstream may wait for its final.
@@ -156,10 +161,20 @@ impl<K: Key> GatewayState<K> {
     }
 
     /// The tables that were handed in, by region.
-    pub fn trees(&self) -> &[(Region, KeptTable)]
-        ensures { result.now ≡ self.now.trees }
+    pub fn trees(&self) -> &BTreeMap<Region, KeptTable>
+        ensures { result.now.entries ≡ self.now.trees }
     {
         &self.trees
+    }
+
+    /// The table that was handed in for the region; `None` where none was, and nothing is listed. A
+    /// look-up.
+    pub fn table_of(&self, region: Region) -> Option<&KeptTable>
+        ensures some { IfSome result (λ table. counted_table table.now ≡ table_of self.now region) }
+        ensures none { IfNone result (table_of self.now region
+            ≡ record { routers = []; links = []; children = [] }) }
+    {
+        self.trees.get(&region)
     }
 
     /// The tokens of the router regions.
@@ -170,7 +185,7 @@ impl<K: Key> GatewayState<K> {
     }
 
     /// The expressions that have a number, from 1 in this order.
-    pub fn dictionary(&self) -> &[K]
+    pub fn dictionary(&self) -> &Dictionary<K>
         ensures { result.now ≡ self.now.dictionary }
     {
         &self.dictionary

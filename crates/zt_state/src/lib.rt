@@ -12,7 +12,6 @@ mod live;
 mod numbers;
 mod opening;
 mod routed;
-mod rows;
 
 pub use gateway::GatewayState;
 pub use zt_face::{

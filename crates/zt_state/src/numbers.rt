@@ -1,54 +1,30 @@
 // The numbers of expressions, and the entities of faces, whose expressions have one.
-ghost use Rattle.std.specs.Prelude.{◌≡◌, ◌++◌, ◌∷◌, [], if◌then◌else◌, map, OnOk};
+ghost use Rattle.std.specs.Prelude.{◌≡◌, map, OnOk};
 ghost use Rattle.zt_model.specs.Entities.{entity_expressions, numbered_with, with_entities};
 ghost use Rattle.zt_model.specs.Entities.{with_numbers};
-ghost use Rattle.zt_model.specs.Lists.{is_among};
 ghost use Rattle.zt_model.specs.Parts.{with_face};
 
 use crate::changes::QuietAddition;
 use crate::gateway::GatewayState;
 use std::alloc::Global;
-use zt_face::{FaceState, is_among};
+use zt_face::FaceState;
 use zt_faces::FaceAddition;
 use zt_keys::{Key, Memory};
+use zt_lookups::Dictionary;
 use zt_protocol::QueryableInfo;
-
-// An expression gets a number where it has none yet. The only error is want of memory.
-fn number<K: Key>(alloc: Global, known: &mut Vec<K>, expr: &K) -> Result<(), Memory>
-    ensures { OnOk result (known.new.items
-        ≡ (if is_among K.cmp expr.now known.old.items
-        then known.old.items
-        else known.old.items ++ expr.now ∷ [])) }
-{
-    if !is_among(expr, known.as_slice()) {
-        known.push(expr.copy(alloc)?)?;
-    }
-    Ok(())
-}
-
-// Expressions get numbers, in this order. The only error is want of memory.
-#[tactic(auto, unfolding(zt_model::specs::Entities::numbered_with))]
-fn number_keys<K: Key>(alloc: Global, known: &mut Vec<K>, exprs: &[K]) -> Result<(), Memory>
-    ensures { OnOk result (known.new.items ≡ numbered_with K.cmp exprs.now known.old.items) }
-{
-    for expr in exprs {
-        number(alloc, known, expr)?;
-    }
-    Ok(())
-}
 
 // The expressions of queryables get numbers, in this order. The only error is want of memory.
 #[tactic(auto, unfolding(zt_model::specs::Entities::numbered_with))]
 fn number_queryables<K: Key>(
     alloc: Global,
-    known: &mut Vec<K>,
+    known: &mut Dictionary<K>,
     queryables: &[(K, QueryableInfo)],
 ) -> Result<(), Memory>
-    ensures { OnOk result (known.new.items
-        ≡ numbered_with K.cmp (map (λ q. q.0) queryables.now) known.old.items) }
+    ensures { OnOk result (known.new
+        ≡ numbered_with K.cmp (map (λ q. q.0) queryables.now) known.old) }
 {
     for queryable in queryables {
-        number(alloc, known, &queryable.0)?;
+        known.number(alloc, &queryable.0)?;
     }
     Ok(())
 }
@@ -57,15 +33,15 @@ fn number_queryables<K: Key>(
 #[tactic(auto, using(crate::proofs::Numbered::numbered_with_both))]
 fn number_entities<K: Key>(
     alloc: Global,
-    known: &mut Vec<K>,
+    known: &mut Dictionary<K>,
     subscribers: &[K],
     queryables: &[(K, QueryableInfo)],
 ) -> Result<(), Memory>
-    ensures { OnOk result (known.new.items
+    ensures { OnOk result (known.new
         ≡ numbered_with K.cmp (entity_expressions K.cmp subscribers.now queryables.now)
-        known.old.items) }
+        known.old) }
 {
-    number_keys(alloc, known, subscribers)?;
+    known.number_all(alloc, subscribers)?;
     number_queryables(alloc, known, queryables)
 }
 
@@ -102,7 +78,7 @@ impl<K: Key> GatewayState<K> {
     pub fn give_numbers(&mut self, alloc: Global, exprs: &[K]) -> Result<(), Memory>
         ensures { OnOk result (self.new ≡ with_numbers K.cmp exprs.now self.old) }
     {
-        number_keys(alloc, &mut self.dictionary, exprs)
+        self.dictionary.number_all(alloc, exprs)
     }
 
     /// The face's subscribers and queryables are replaced, and their expressions get numbers. The

@@ -13,9 +13,8 @@ ghost use Rattle.zt_state.specs.OwnRows.{listed_rows, without_own_in};
 
 use crate::changes::empty;
 use crate::gateway::GatewayState;
-use crate::rows::put_row;
 use std::alloc::Global;
-use std::collections::BTreeSet;
+use std::collections::{BTreeMap, BTreeSet};
 use zt_indexes::LiveCounts;
 use zt_keys::{Key, Memory};
 use zt_link_state::{KeptTable, Origin, RoutedTokens, is_left_out};
@@ -163,13 +162,14 @@ fn drop_rows_left_out<K: Key>(
 
 // Keeps a table under its region.
 fn put_table(
-    trees: &mut Vec<(Region, KeptTable)>,
+    trees: &mut BTreeMap<Region, KeptTable>,
     region: Region,
     table: KeptTable,
 ) -> Result<(), Memory>
-    ensures { OnOk result (trees.new.items ≡ put region_order region table trees.old.items) }
+    ensures { OnOk result (trees.new.entries ≡ put region_order region table trees.old.entries) }
 {
-    put_row(trees, region, table)
+    trees.insert(region, table)?;
+    Ok(())
 }
 
 impl<K: Key> GatewayState<K> {

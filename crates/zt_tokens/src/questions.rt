@@ -88,7 +88,7 @@ pub fn is_seeker_told<K: Key>(
     ensures { result ≡ is_seeker_told g.now source f.now known }
 {
     !is_routed(g, f)
-        && g.admission().admits(source, f.region())
+        && g.admits(source, f.region())
         && shows(f.region(), source)
         && known.is_none()
 }

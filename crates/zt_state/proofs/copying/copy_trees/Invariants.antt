@@ -1,6 +1,6 @@
-use Rattle.std.proofs.Common.{◌≡◌, take}
+use Rattle.std.proofs.Common.{◌≡◌, ◌++◌}
 use Rattle.zt_state.proofs.copying.copy_trees.Given as goal
 
--- those so far are copied
-abbrev pub invariant-loop-tree : goal.invariant-loop-tree
-invariant-loop-tree l = l.copies.items ≡ take l.tree-index l.trees
+-- those so far and those left are all
+abbrev pub invariant-loop-region : goal.invariant-loop-region
+invariant-loop-region l = l.copies.entries ++ l.region-iterator ≡ l.trees.entries

@@ -5,5 +5,5 @@ use Rattle.zt_state.proofs.numbers.number_queryables.Given as goal
 -- with those left all have numbers
 abbrev pub invariant-loop-queryable : goal.invariant-loop-queryable
 invariant-loop-queryable g l =
-    numbered_with g.K.Ord.cmp (map (λ q. q.0) (drop l.queryable-index l.queryables)) l.known.items
-    ≡ numbered_with g.K.Ord.cmp (map (λ q. q.0) l.queryables) l.fn.known.items
+    numbered_with g.K.Ord.cmp (map (λ q. q.0) (drop l.queryable-index l.queryables)) l.known
+    ≡ numbered_with g.K.Ord.cmp (map (λ q. q.0) l.queryables) l.fn.known

@@ -1,4 +1,4 @@
-use Rattle.std.proofs.Common.{[], ◌∷◌, ap, map, refl, subst}
+use Rattle.std.proofs.Common.{[], ◌∷◌, ap, map, refl}
 use Rattle.zt_indexes.specs.Recounts.{recounts-less}
 use Rattle.zt_state.proofs.Unrouted.{leads-end, leads-on}
 use Rattle.zt_state.proofs.routed.uncount_keys.Goals as goal
