@@ -87,10 +87,7 @@ pub fn is_seeker_told<K: Key>(
 ) -> bool
     ensures { result ≡ is_seeker_told g.now source f.now known }
 {
-    !is_routed(g, f)
-        && g.admits(source, f.region())
-        && shows(f.region(), source)
-        && known.is_none()
+    !is_routed(g, f) && g.admits(source, f.region()) && shows(f.region(), source) && known.is_none()
 }
 
 /// Whether the face is told of a token of the expression that was declared in the region `source`.
