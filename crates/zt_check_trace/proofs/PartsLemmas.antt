@@ -1,18 +1,17 @@
 -- Lemmas on an input that is cut at its first line `---`.
-use Rattle.std.proofs.Common.{◌≡◌, ◌⊎◌, inl, inr, ℕ, ◌+◌, ◌-◌, ◌<◌, ◌≤◌, Bool, true, false, ◌||◌, List, [], ◌∷◌, ◌++◌, length, take, drop, Some, None, refl, sym, ap, subst, ◌∙◌, append_assoc, arith}
+use Rattle.std.proofs.Common.{◌≡◌, inl, inr, ℕ, ◌+◌, ◌-◌, ◌≤◌, false, ◌||◌, List, [], ◌∷◌, ◌++◌, length, take, drop, Some, None, refl, sym, ap, subst, ◌∙◌, arith}
 use Rattle.std.specs.declared.option.Option.{Option}
 use Rattle.std.specs.Prelude.{codes}
 use Rattle.std.specs.List.{list_any}
-use Rattle.std.specs.Str.{bytes_eq}
 use Rattle.std.proofs.lemmas.List.{append-nil, take_rest, take-append-drop, length-append, length-drop}
 use Rattle.std.proofs.lemmas.List.Folds.{list_any-append}
 use Rattle.std.proofs.Math.Seq.{take-add, take-append-add}
 use Rattle.memchr.specs.Find.{IsFirstByte, is_byte}
-use Rattle.zt_streams.specs.Lines.{is_feed, HasNoFeed, lines_of, whole_lines, rest_of, last_line}
-use Rattle.zt_streams.specs.Feeding.{FindsFeed, StandsAt}
+use Rattle.zt_streams.specs.Lines.{HasNoFeed, lines_of, whole_lines, rest_of, last_line}
+use Rattle.zt_streams.specs.Feeding.{StandsAt}
 use Rattle.zt_streams.proofs.FeedLemmas.{FindsFeed-from_search}
 use Rattle.zt_streams.proofs.LineLemmas.{lines_of-append, lines_of-line, lines_of-none, lines_of-parts, rest_of-append, rest_of-line}
-use Rattle.zt_check_trace.specs.Parts.{FindsLine, FindsParts, IsCut, is_end_of_script}
+use Rattle.zt_check_trace.specs.Parts.{IsCut, is_end_of_script}
 
 -- ---- a text's first line
 

@@ -1,2 +1,4 @@
 pub mod Parts
 pub mod Names
+pub mod Script
+pub mod Entries

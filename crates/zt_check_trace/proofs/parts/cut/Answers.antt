@@ -1,6 +1,6 @@
 use Rattle.std.proofs.Common.{refl, sym, ◌∙◌}
 use Rattle.std.proofs.lemmas.Slice.Eq.{bytes_eq-Decides}
-use Rattle.zt_check_trace.proofs.PartsLemmas.{cut_at, cut_last, cut_none, passed_line}
+use Rattle.zt_check_trace.proofs.PartsLemmas.{cut_at, cut_none, passed_line}
 use Rattle.zt_check_trace.proofs.parts.cut.Goals as goal
 
 pub returns-then-eq : goal.returns-then-eq
