@@ -1,0 +1,4 @@
+pub mod Verdicts
+pub mod Totals
+pub mod Judging
+pub mod Checking

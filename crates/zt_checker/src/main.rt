@@ -1,0 +1,32 @@
+//! `zt_checker` reads a script, a line `---` and the transcript that another implementation printed
+//! for the script from standard input, and says in one line whether that has the printed form of a
+//! transcript: `holds LINES MESSAGES REFUSALS`, or `breaks LINE CLAUSE`.
+#![tactic(auto)]
+
+use std::env;
+use std::io::ErrorKind;
+use std::process::ExitCode;
+use zt_check::check_tool;
+use zt_streams::{StdSink, StdSource};
+
+// The status of a run that lacked memory, and of words that ask for nothing that the program does.
+const NO_MEMORY: u8 = 7;
+
+const UNKNOWN_WORDS: u8 = 64;
+
+fn main(rt: HostRuntime) -> ExitCode {
+    let alloc = rt.alloc();
+    let args = match env::args(&rt) {
+        Ok(args) => args,
+        Err(error) if error.kind() == ErrorKind::OutOfMemory => return ExitCode::from(NO_MEMORY),
+        // A word that isn't UTF-8.
+        Err(_) => return ExitCode::from(UNKNOWN_WORDS),
+    };
+    let words: Result<Vec<String>, _> = args.skip(1).collect(alloc);
+    let Ok(words) = words else {
+        return ExitCode::from(NO_MEMORY);
+    };
+    let mut source = StdSource::new(&rt);
+    let mut sink = StdSink::new(&rt);
+    ExitCode::from(check_tool(alloc, words.as_slice(), &mut source, &mut sink))
+}
