@@ -1,2 +1,3 @@
 mod ByFace
+mod Knowing
 mod Together

@@ -1,10 +1,13 @@
 // What is known together of queryables.
-ghost use Rattle.std.specs.Prelude.{◌≡◌, if◌then◌else◌, map};
-ghost use Rattle.zt_entities.specs.Merging.{merged_onto};
-ghost use Rattle.zt_model.specs.Entities.{all_merged, info_of, merged};
-ghost use Rattle.zt_model.specs.Lists.{same};
+ghost use Rattle.std.specs.Prelude.{◌≡◌, ◌∷◌, List, map, IfOk, OnOk};
+ghost use Rattle.zt_entities.specs.Known.{AreKnown};
+ghost use Rattle.zt_entities.specs.Merging.{merged_with};
+ghost use Rattle.zt_model.specs.Entities.{all_merged, merged};
+ghost use Rattle.zt_protocol.specs.declared.messages.QueryableInfo.{QueryableInfo};
 
-use zt_keys::Key;
+use std::alloc::Global;
+use std::collections::BTreeMap;
+use zt_keys::{Key, Memory};
 use zt_protocol::QueryableInfo;
 
 // The information of two queryables together.
@@ -18,12 +21,12 @@ fn merged(a: QueryableInfo, b: QueryableInfo) -> QueryableInfo
 }
 
 // The information of a queryable together with what is known of others.
-fn merged_onto(info: QueryableInfo, known: Option<QueryableInfo>) -> Option<QueryableInfo>
-    ensures { result ≡ merged_onto info known }
+fn merged_with(info: QueryableInfo, known: Option<QueryableInfo>) -> QueryableInfo
+    ensures { result ≡ merged_with info known }
 {
     match known {
-        None => Some(info),
-        Some(other) => Some(merged(info, other)),
+        None => info,
+        Some(other) => merged(info, other),
     }
 }
 
@@ -33,35 +36,36 @@ pub(crate) fn all_merged<K: Key>(found: &[(K, QueryableInfo)]) -> Option<Queryab
 {
     let mut known = None;
     for place in (0..found.len()).rev() {
-        known = merged_onto(found[place].1, known);
+        known = Some(merged_with(found[place].1, known));
     }
     known
 }
 
-// What is known of the queryable, if it is of the expression, together with others.
-fn merged_of<K: Key>(
-    expr: &K,
+// The queryable's expression is known with its information, together with what is known of others.
+fn add_known<K: Key>(
+    alloc: Global,
+    known: &mut BTreeMap<K, QueryableInfo>,
     queryable: &(K, QueryableInfo),
-    known: Option<QueryableInfo>,
-) -> Option<QueryableInfo>
-    ensures { result
-        ≡ (if same K.cmp expr.now queryable.now.0 then merged_onto queryable.now.1 known
-        else known) }
+) -> Result<(), Memory>
+    ensures { OnOk result ((found : List (K × QueryableInfo)) →
+        AreKnown K.cmp found known.old.entries →
+        AreKnown K.cmp (queryable.now ∷ found) known.new.entries) }
 {
-    if expr == &queryable.0 {
-        merged_onto(queryable.1, known)
-    } else {
-        known
-    }
+    let info = merged_with(queryable.1, known.get(&queryable.0).copied());
+    known.insert(queryable.0.copy(alloc)?, info)?;
+    Ok(())
 }
 
-// What is known together of the queryables of one expression.
-pub(crate) fn info_of<K: Key>(expr: &K, found: &[(K, QueryableInfo)]) -> Option<QueryableInfo>
-    ensures { result ≡ info_of K.cmp expr.now found.now }
+// The expressions of the queryables, each with what is known together of those that have it.
+pub(crate) fn known_by_expression<K: Key>(
+    alloc: Global,
+    found: &[(K, QueryableInfo)],
+) -> Result<BTreeMap<K, QueryableInfo>, Memory>
+    ensures { IfOk result (λ known. AreKnown K.cmp found.now known.entries) }
 {
-    let mut known = None;
+    let mut known = BTreeMap::new(alloc);
     for place in (0..found.len()).rev() {
-        known = merged_of(expr, &found[place], known);
+        add_known(alloc, &mut known, &found[place])?;
     }
-    known
+    Ok(known)
 }

@@ -1,5 +1,5 @@
 // What an interest in queryables is answered.
-ghost use Rattle.std.specs.Prelude.{◌≡◌, ◌++◌, IfOk, OnOk, map};
+ghost use Rattle.std.specs.Prelude.{◌≡◌, ◌++◌, ◌∷◌, [], OnOk, map};
 ghost use Rattle.std.specs.List.{flat_map};
 ghost use Rattle.std.specs.Option.{option_to_list};
 ghost use Rattle.zt_model.specs.Entities.{aggregate_of, all_merged, info_of, queryable_of};
@@ -8,73 +8,34 @@ ghost use Rattle.zt_model.specs.Lists.{in_key_order};
 ghost use Rattle.zt_protocol.specs.Interest.{has_aggregate};
 
 use crate::found::matching_queryables;
-use crate::infos::{all_merged, info_of};
+use crate::infos::{all_merged, known_by_expression};
 use crate::numbers::number_of;
 use bitflags::Flags;
 use std::alloc::Global;
 use zt_keys::{Key, Memory};
 use zt_protocol::{InterestId, InterestOptions, Message, QueryableInfo};
 use zt_state::{FaceState, GatewayState, RemoteInterest};
-use zt_tokens::insert_in_order;
 
-// The queryables' expressions in key order, each once.
-fn expressions_in_order<K: Key>(
-    alloc: Global,
-    found: &[(K, QueryableInfo)],
-) -> Result<Vec<K>, Memory>
-    ensures { IfOk result (λ keys. keys.items ≡ in_key_order K.cmp (map (λ q. q.0) found.now)) }
-{
-    let mut keys = Vec::new(alloc);
-    for place in (0..found.len()).rev() {
-        insert_in_order(alloc, &mut keys, &found[place].0)?;
-    }
-    Ok(keys)
-}
-
-// Adds a queryable under the number of its expression, if anything is known of it.
+// Adds a queryable under the number of its expression.
 fn add_queryable<K: Key>(
     alloc: Global,
     g: &GatewayState<K>,
     face: u32,
     id: InterestId,
     expr: &K,
-    info: Option<QueryableInfo>,
+    info: QueryableInfo,
     sends: &mut Vec<(u32, Message<K>)>,
 ) -> Result<(), Memory>
     ensures { OnOk result (sends.new.items ≡ sends.old.items
-        ++ map (λ m. (face, m))
-        (map (queryable_of K.cmp g.now id expr.now) (option_to_list info))) }
+        ++ (face, queryable_of K.cmp g.now id expr.now info) ∷ []) }
 {
-    if let Some(info) = info {
-        let message = Message::DeclareQueryable {
-            id: number_of(g, expr)?,
-            expr: expr.copy(alloc)?,
-            info,
-            interest_id: id,
-        };
-        sends.push((face, message))?;
-    }
-    Ok(())
-}
-
-// Adds a queryable for each expression, with what is known together of those that are found.
-fn add_each<K: Key>(
-    alloc: Global,
-    g: &GatewayState<K>,
-    face: u32,
-    id: InterestId,
-    found: &[(K, QueryableInfo)],
-    exprs: &[K],
-    sends: &mut Vec<(u32, Message<K>)>,
-) -> Result<(), Memory>
-    ensures { OnOk result (sends.new.items ≡ sends.old.items
-        ++ map (λ m. (face, m)) (flat_map
-        (λ e. map (queryable_of K.cmp g.now id e) (option_to_list (info_of K.cmp e found.now)))
-        exprs.now)) }
-{
-    for expr in exprs {
-        add_queryable(alloc, g, face, id, expr, info_of(expr, found), sends)?;
-    }
+    let message = Message::DeclareQueryable {
+        id: number_of(g, expr)?,
+        expr: expr.copy(alloc)?,
+        info,
+        interest_id: id,
+    };
+    sends.push((face, message))?;
     Ok(())
 }
 
@@ -92,8 +53,10 @@ fn add_all<K: Key>(
         (λ e. map (queryable_of K.cmp g.now id e) (option_to_list (info_of K.cmp e found.now)))
         (in_key_order K.cmp (map (λ q. q.0) found.now)))) }
 {
-    let exprs = expressions_in_order(alloc, found)?;
-    add_each(alloc, g, face, id, found, &exprs, sends)?;
+    let known = known_by_expression(alloc, found)?;
+    for (expr, info) in &known {
+        add_queryable(alloc, g, face, id, expr, *info, sends)?;
+    }
     Ok(())
 }
 
@@ -112,9 +75,9 @@ fn add_aggregate<K: Key>(
         (aggregate_of K.cmp about.now (all_merged (map (λ q. q.1) found.now))
         (queryable_of K.cmp g.now id))) }
 {
-    match about {
-        None => Ok(()),
-        Some(expr) => add_queryable(alloc, g, face, id, expr, all_merged(found), sends),
+    match (about, all_merged(found)) {
+        (Some(expr), Some(info)) => add_queryable(alloc, g, face, id, expr, info, sends),
+        _ => Ok(()),
     }
 }
 

@@ -10,17 +10,17 @@ use std::alloc::Global;
 use zt_keys::{Key, Memory};
 use zt_protocol::{InterestId, InterestOptions, Message};
 use zt_state::{FaceState, GatewayState, RemoteInterest};
-use zt_tokens::insert_in_order;
+use zt_tokens::KeysInOrder;
 
 // Expressions in key order, each once.
 fn in_key_order<K: Key>(alloc: Global, exprs: &[K]) -> Result<Vec<K>, Memory>
     ensures { IfOk result (λ keys. keys.items ≡ in_key_order K.cmp exprs.now) }
 {
-    let mut keys = Vec::new(alloc);
+    let mut keys = KeysInOrder::new(alloc);
     for place in (0..exprs.len()).rev() {
-        insert_in_order(alloc, &mut keys, &exprs[place])?;
+        keys.insert(alloc, &exprs[place])?;
     }
-    Ok(keys)
+    keys.into_vec(alloc)
 }
 
 // Adds a subscriber under the number of its expression.

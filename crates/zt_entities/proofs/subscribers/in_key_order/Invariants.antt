@@ -4,4 +4,4 @@ use Rattle.zt_entities.proofs.subscribers.in_key_order.Given as goal
 
 -- the expressions from the place on are in order
 abbrev pub invariant-loop-place : goal.invariant-loop-place
-invariant-loop-place g l = l.keys.items ≡ in_key_order g.K.Ord.cmp (drop l.place l.exprs)
+invariant-loop-place g l = l.keys ≡ in_key_order g.K.Ord.cmp (drop l.place l.exprs)
