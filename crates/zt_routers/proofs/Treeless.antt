@@ -1,5 +1,5 @@
 -- A gateway that was handed no table sends nothing along trees.
-use Rattle.std.proofs.Common.{◌≡◌, ◌&&◌, ◌++◌, ◌==◌, Bool, true, false, cond, List, [], ◌∷◌, None, Some, ap, arith, eqb-true, length, map, refl, sym, ◌∙◌}
+use Rattle.std.proofs.Common.{◌≡◌, ◌&&◌, ◌++◌, Bool, true, false, cond, List, [], ◌∷◌, None, Some, ap, arith, length, map, refl, sym, ◌∙◌}
 use Rattle.std.specs.List.{list_any}
 use Rattle.std.specs.declared.cmp.Ordering.{Ordering}
 use Rattle.zt_region.specs.declared.region.Region.{Region}
@@ -27,9 +27,9 @@ unless true xs is = (cc)
 unless false xs is = refl
 
 -- a list without length is empty
-pub empty_of : {A : Type 0} (xs ys : List A) → xs ≡ ys → (length xs == 0) ≡ true → ys ≡ []
+pub empty_of : {A : Type 0} (xs ys : List A) → xs ≡ ys → length xs ≡ 0 → ys ≡ []
 empty_of [] ys same_ is = sym same_
-empty_of (x ∷ xs) ys same_ is = absurd (omega (arith, eqb-true (length (x ∷ xs)) 0 is))
+empty_of (x ∷ xs) ys same_ is = absurd (omega (arith, is))
 
 module _ {K : Type 0} where
   -- nothing for each is nothing

@@ -9,7 +9,7 @@ use Rattle.zt_routers.proofs.own.hide.Goals as goal
 
 pub returns-then-is_empty : goal.returns-then-is_empty
 returns-then-is_empty g c =
-    let none : c.args.g.now.trees ≡ [] = empty_of c.trees.result.now c.args.g.now.trees c.trees.ensures (sym c.is_empty.ensures ∙ c.if-is_empty.true) in
+    let none : c.args.g.now.trees ≡ [] = empty_of _ c.args.g.now.trees c.trees.ensures (c.is_empty.ensures.0 c.if-is_empty.true) in
     c.new-sends.ensures.items ∙ sym (hides_none g.K.Ord.cmp c.args.g.now none c.args.source c.args.expr.now c.args.g.now.faces)
 
 pub loop-f-init : goal.loop-f-init
