@@ -25,9 +25,9 @@ enum zl_status {
     ZL_MALFORMED_LINE = 1,
     /** The script is longer than 1,048,576 bytes. The transcript has the lines that end within these. */
     ZL_TOO_LONG = 2,
-    /** The transcript is longer than the buffer, which has its first bytes. */
+    /** What one of the statuses above gives is longer than the buffer, which has its first bytes. */
     ZL_SHORT_BUFFER = 4,
-    /** Memory ran out. What was written is the beginning of the transcript. */
+    /** Memory ran out, whatever the room. The run wrote a beginning of the transcript; the buffer has what fits of it. */
     ZL_OUT_OF_MEMORY = 5
 };
 
@@ -38,12 +38,13 @@ enum zl_status {
  * @param length   how many bytes the script has
  * @param out      where the transcript goes
  * @param room     how many bytes fit there
- * @param written  is set to the length of the whole transcript in bytes, also where it is longer than the room
+ * @param written  is set to the length of all that the run wrote in bytes, also where it is longer than the room
  *
  * @return  one of `enum zl_status`
  *
- * At ZL_SHORT_BUFFER nothing is lost: the same call with room for `*written` bytes gives the whole transcript, and its
- * status. Only the first `room` or `*written` bytes of `out`, whichever is less, are written; the rest stays as it was.
+ * At ZL_SHORT_BUFFER the same call with room for `*written` bytes gives the rest too, and its status, unless memory runs
+ * out. At ZL_OUT_OF_MEMORY `*written` is the length of a beginning of the transcript. Only the first `room` or `*written`
+ * bytes of `out`, whichever is less, are written; the rest stays as it was.
  *
  * `script` and `out` are pointers to so many bytes that don't overlap, or anything, also NULL, where the length is 0.
  * `written` is a pointer to a size_t, outside both.

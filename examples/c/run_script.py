@@ -3,7 +3,8 @@
 
 usage: run_script.py LIBRARY SCRIPT        e.g. run_script.py ./libzt_liveliness.so examples/liveliness.in
 
-The exit status is that of the run.
+The exit status is that of the run; 3 where the script can't be read, 4 where the transcript can't be written, and 64 where there
+aren't two words.
 """
 import ctypes, sys
 
@@ -30,12 +31,21 @@ def run(library, script):
 
 def main(words):
     if len(words) != 2:
-        sys.exit(__doc__)
-    with open(words[1], 'rb') as file:
-        script = file.read()
+        print(__doc__, file=sys.stderr)
+        return 64
+    try:
+        with open(words[1], 'rb') as file:
+            script = file.read()
+    except OSError as error:
+        print('%s: %s' % (error.filename, error.strerror), file=sys.stderr)
+        return 3
     status, transcript = run(load(words[0]), script)
-    sys.stdout.buffer.write(transcript)
-    sys.exit(status)
+    try:
+        sys.stdout.buffer.write(transcript)
+        sys.stdout.buffer.flush()
+    except OSError:
+        status = 4
+    return status
 
 
-main(sys.argv[1:])
+sys.exit(main(sys.argv[1:]))

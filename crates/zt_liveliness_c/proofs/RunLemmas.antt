@@ -8,7 +8,7 @@ use Rattle.zt_protocol.specs.declared.entries.Report.{Report}
 use Rattle.zt_protocol.specs.declared.errors.RunError.{RunError}
 use Rattle.zt_protocol.specs.declared.errors.RunError.TheVariants as errors
 use Rattle.zt_fabric.specs.Transcripts.{Answers, CountsFaults, GivesComplete, IsComplete, Streams, streams}
-use Rattle.zt_liveliness_c.specs.Running.{RunsInMemory, status_in_memory, status_in_room, streams_before}
+use Rattle.zt_liveliness_c.specs.Running.{RunsInMemory, status_cut_short, status_in_memory, status_in_room, streams_before}
 
 none_has_risen : ¬ HasRisen 0 0
 none_has_risen risen = omega (arith, risen (omega arith))
@@ -16,6 +16,14 @@ none_has_risen risen = omega (arith, risen (omega arith))
 -- the status of a run that came to its end or lacked memory
 abbrev Ended : ℕ → Type 0
 Ended status = (status ≡ 0) ⊎ ((status ≡ 4) ⊎ (status ≡ 5))
+
+ended_short : (answer : Result Report RunError) → Ended (status_cut_short answer)
+ended_short (Ok report) = inr (inl refl)
+ended_short (Err (errors.BadLine n)) = inr (inl refl)
+ended_short (Err errors.TooLong) = inr (inl refl)
+ended_short (Err errors.ReadFault) = inr (inl refl)
+ended_short (Err errors.WriteFault) = inr (inr refl)
+ended_short (Err errors.Alloc) = inr (inr refl)
 
 module _ {K : Type 0} (reading : List ℕ → Result K KeyError) (script text : List ℕ) (left : Option (List ℕ)) (faults : ℕ) where
   abbrev after : Streams
@@ -44,7 +52,7 @@ module _ {K : Type 0} (reading : List ℕ → Result K KeyError) (script text : 
       → (GivesComplete reading (streams_before script) after → IsOkUnless answer errors.Alloc) → IsComplete reading script
       → Ended (status_in_room (length text) room answer)
   ended answer room counts complete is =
-      by_test (nat_le (length text) room) (λ e. rw e (ended_in_memory answer counts complete is)) (λ e. rw e (inr (inl refl)))
+      by_test (nat_le (length text) room) (λ e. rw e (ended_in_memory answer counts complete is)) (λ e. rw e (ended_short answer))
 
 module _ {K : Type 0} (cmp : K → K → Ordering) (matching : K → K → Bool) (reading : List ℕ → Result K KeyError) (printed : K → List ℕ) where
   -- what the streams are before and after the run, and what was copied, put together

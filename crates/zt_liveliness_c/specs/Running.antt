@@ -16,9 +16,18 @@ status_in_memory (Err errors.ReadFault) = 3
 status_in_memory (Err errors.WriteFault) = 5
 status_in_memory (Err errors.Alloc) = 5
 
--- the same, or 4 where the text is longer than the room for it
+-- the status of a run whose text is longer than the room for it: that memory ran out comes first, since the text may lack its end
+abbrev pub status_cut_short : Result Report RunError → ℕ
+status_cut_short (Ok report) = 4
+status_cut_short (Err (errors.BadLine number)) = 4
+status_cut_short (Err errors.TooLong) = 4
+status_cut_short (Err errors.ReadFault) = 4
+status_cut_short (Err errors.WriteFault) = 5
+status_cut_short (Err errors.Alloc) = 5
+
+-- the status of a run
 abbrev pub status_in_room : ℕ → ℕ → Result Report RunError → ℕ
-status_in_room length room answer = if nat_le length room then status_in_memory answer else 4
+status_in_room length room answer = if nat_le length room then status_in_memory answer else status_cut_short answer
 
 -- before a run: the source has the whole script left, and nothing is written
 abbrev pub streams_before : List ℕ → Streams
@@ -33,8 +42,8 @@ module _ {K : Type 0} (cmp : K → K → Ordering) (matching : K → K → Bool)
     pub counts : CountsFaults (streams_before script) (streams left 0 (Some text) faults) answer
 
   -- A run of the script wrote a text. As much of it as there is room for was copied to the front of the buffer, and the
-  -- rest of the buffer is as it was. The number written is the length of the whole text. The status is that of the run, or 4 where
-  -- the text is longer than the buffer. A complete script is carried out to its end, unless memory runs out.
+  -- rest of the buffer is as it was. The number written is the length of the whole text. The status is that of the run, or 4
+  -- where nothing but the room was lacking. A complete script is carried out to its end, unless memory runs out.
   pub record RunsInMemory (script old new : List ℕ) (written status : ℕ) : Type 0 where
     pub text : List ℕ
     pub answer : Result Report RunError
