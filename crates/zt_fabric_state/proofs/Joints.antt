@@ -3,7 +3,7 @@ use Rattle.std.proofs.Common.{◌≡◌, ℕ, zero, suc, ◌+◌, ◌-◌, ◌<�
 use Rattle.std.proofs.lemmas.List.{length-append, length-take}
 use Rattle.zt_laws.proofs.Lists.{by_test}
 use Rattle.zt_model.specs.Fabric.{Fabric, Link, Place, at_nth}
-use Rattle.zt_model.specs.Rows.{Rows}
+use Rattle.zt_rollback.specs.After.{Before}
 use Rattle.zt_link_queues.specs.Found.{AreBelow}
 use Rattle.zt_fabric_state.specs.Changes.{undone}
 
@@ -49,6 +49,6 @@ links_shut k n (l ∷ ls) below = by_test (k == 1) (λ here. rw here below) (λ 
 
 -- ---- a gateway keeps again what it kept before
 
-pub undone_free : {K : Type 0} (former : Option (Rows K)) (n : ℕ) (s : Fabric K) → AreBelow (length s.faces) s.links → AreBelow (length (undone former n s).faces) (undone former n s).links
+pub undone_free : {K : Type 0} (former : Option (Before K)) (n : ℕ) (s : Fabric K) → AreBelow (length s.faces) s.links → AreBelow (length (undone former n s).faces) (undone former n s).links
 undone_free None n s free = free
-undone_free (Some rows) n s free = free
+undone_free (Some former) n s free = free

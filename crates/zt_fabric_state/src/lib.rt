@@ -19,4 +19,4 @@ pub use links::{is_linked_face, is_open_link, oldest, sending_end, speaking_end}
 pub use places::{member_at, member_place};
 pub use sorting::sort_by_face;
 pub use state::{FabricState, NodeState};
-pub use turning::{Turned, hear_call, undo, undo_opening};
+pub use turning::{Turned, hear_call, settle, settle_apart, undo, undo_opening};

@@ -8,7 +8,7 @@ ghost use Rattle.zt_model.specs.Fabric.{with_waiting};
 ghost use Rattle.zt_model.specs.Linking.{is_end_of, with_taken};
 ghost use Rattle.zt_model.specs.Lists.{first_where, nth, without_id};
 ghost use Rattle.zt_link_queues.specs.Found.{AreBelow};
-ghost use Rattle.zt_fabric_state.specs.Changes.{taken_by, without_last_link};
+ghost use Rattle.zt_fabric_state.specs.Changes.{IsAfter, taken_by, without_last_link};
 ghost use Rattle.zt_fabric_state.specs.Changes.{without_last_place};
 ghost use Rattle.zt_link_queues.specs.Waiting.{first_waiting};
 ghost use Rattle.zt_region.specs.South.{plain_south as plain_south_of};
@@ -24,7 +24,7 @@ use zt_keys::{Key, Memory};
 use zt_link_queues::{LinkState, Links, PlaceState, Places, Queues};
 use zt_protocol::{Call, Message, Sent};
 use zt_region::SouthConf;
-use zt_rollback::{Ahead, BoxedState, RestorableState, Turn};
+use zt_rollback::{Ahead, BoxedState, Former, RestorableState, Turn};
 use zt_state::GatewayState;
 
 /// A gateway with what its links are made by: its configuration of the south, and its name.
@@ -210,8 +210,8 @@ impl<K: Key> FabricState<K> {
         self.unfinished = self.unfinished.saturating_sub(1);
     }
 
-    /// Carries a call out at a gateway for a line that may fail yet, and answers the former rows
-    /// and what the call says. After want of memory nothing is changed.
+    /// Carries a call out at a gateway for a line that may fail yet, and answers what the gateway
+    /// was before, and what the call says. After want of memory nothing is changed.
     pub(crate) fn turn_at(
         &mut self,
         alloc: Global,
@@ -223,7 +223,8 @@ impl<K: Key> FabricState<K> {
             (rows_after_call K.cmp K.matching (plain_call call.now)) self.old) }
         ensures former { IfOk result
             (λ turn. (node : Node K) → nth (at + 1) self.old.gateways ≡ Some node
-            → turn.former ≡ node.rows) }
+            → turn.former.rows ≡ node.rows) }
+        ensures call { IfOk result (λ turn. turn.former.call ≡ plain_call call.now) }
         ensures said { IfOk result
             (λ turn. (node : Node K) → nth (at + 1) self.old.gateways ≡ Some node
             → turn.said.items ≡ said K.cmp K.matching (plain_call call.now) node.rows) }
@@ -231,16 +232,25 @@ impl<K: Key> FabricState<K> {
     {
         self.unfinished = self.unfinished.saturating_add(1);
         let turn = turn_in(alloc, &mut self.gateways, at, call)?;
-        self.unfinished = self.unfinished.saturating_sub(1);
         Ok(turn)
     }
 
-    /// A gateway's rows are replaced.
-    pub(crate) fn put_rows(&mut self, at: usize, rows: BoxedState<K>)
+    /// A gateway is again what it was before a call.
+    pub(crate) fn undo_at(&mut self, at: usize, former: Former<K>)
         requires { at < length self.old.gateways }
-        ensures { self.new ≡ with_rows (at + 1) (λ _. rows) self.old }
+        ensures { self.new ≡ with_rows (at + 1) (λ _. former.rows) self.old }
     {
-        put_rows_at(&mut self.gateways, at, rows);
+        undo_in(&mut self.gateways, at, former);
+    }
+
+    /// A call that was carried out at a gateway by `turn_at` stays.
+    pub(crate) fn settle_at(&mut self, at: usize, former: Former<K>)
+        requires within { at < length self.old.gateways }
+        requires after { IsAfter K.cmp K.matching (Some former) (at + 1) self.old }
+        ensures { self.new ≡ self.old }
+    {
+        settle_in(&mut self.gateways, at, former);
+        self.unfinished = self.unfinished.saturating_sub(1);
     }
 
     /// A gateway is put behind the others. After want of memory nothing is changed.
@@ -464,7 +474,8 @@ fn turn_in<K: Key>(
         }) gateways.old.items) }
     ensures former { IfOk result
         (λ turn. (node : Node K) → nth (at + 1) gateways.old.items ≡ Some node
-        → turn.former ≡ node.rows) }
+        → turn.former.rows ≡ node.rows) }
+    ensures call { IfOk result (λ turn. turn.former.call ≡ plain_call call.now) }
     ensures said { IfOk result
         (λ turn. (node : Node K) → nth (at + 1) gateways.old.items ≡ Some node
         → turn.said.items ≡ said K.cmp K.matching (plain_call call.now) node.rows) }
@@ -474,11 +485,21 @@ fn turn_in<K: Key>(
     node.kept.turn(alloc, call)
 }
 
-fn put_rows_at<K: Key>(gateways: &mut Vec<NodeState<K>>, at: usize, rows: BoxedState<K>)
+fn undo_in<K: Key>(gateways: &mut Vec<NodeState<K>>, at: usize, former: Former<K>)
     requires { at < vec_len gateways.old }
     ensures { gateways.new.items
-        ≡ at_nth (at + 1) (λ node. record node { rows = rows }) gateways.old.items }
+        ≡ at_nth (at + 1) (λ node. record node { rows = former.rows }) gateways.old.items }
 {
     let node = &mut gateways[at];
-    node.kept.put(rows);
+    node.kept.undo(former);
+}
+
+fn settle_in<K: Key>(gateways: &mut Vec<NodeState<K>>, at: usize, former: Former<K>)
+    requires within { at < vec_len gateways.old }
+    requires after { (node : Node K) → nth (at + 1) gateways.old.items ≡ Some node
+        → node.rows ≡ rows_after_call K.cmp K.matching former.call former.rows }
+    ensures { gateways.new.items ≡ gateways.old.items }
+{
+    let node = &mut gateways[at];
+    node.kept.settle(former);
 }

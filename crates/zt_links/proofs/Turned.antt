@@ -22,6 +22,7 @@ use Rattle.zt_link_queues.specs.Waiting.{with_printed}
 use Rattle.zt_fabric_state.specs.Changes.{row_after}
 use Rattle.zt_links.specs.Lines.{opened_by_call, opened_end, said_by_opening}
 use Rattle.zt_fabric_state.proofs.Carried.{call_there}
+use Rattle.zt_fabric_state.proofs.PutBack.{other_nth, same_nth}
 use Rattle.zt_links.proofs.Carried.{end_nowhere, opened_heard}
 
 -- ---- the gateways, where one of them is changed
@@ -32,25 +33,6 @@ none_nth k n change (x ∷ xs) =
     by_test (n == 1)
     (λ here. rw here (by_test (k == 1) (λ first. rw first refl) (λ later. rw later refl)))
     (λ past. rw past (by_test (k == 1) (λ first. rw first refl) (λ later. rw later (none_nth (k - 1) (n - 1) change xs))))
-
--- the other members stay, and the one of the number is changed
-other_nth : {K : Type 0} (k n : ℕ) (change : Node K → Node K) (xs : List (Node K)) → (k == n) ≡ false → nth k (at_nth n change xs) ≡ nth k xs
-other_nth k n change [] apart = refl
-other_nth k n change (x ∷ xs) apart =
-    by_test (n == 1)
-    (λ here.
-    let one : n ≡ 1 = eqb-true n 1 here in
-    let later : (k == 1) ≡ false = ap (λ m. k == m) (sym one) ∙ apart in
-    rw (here, later) refl)
-    (λ past. rw past (by_test (k == 1) (λ first. rw first refl) (λ later.
-    let differ : k ≢ n = eqb-false k n apart in
-    let not_one : n ≢ 1 = eqb-false n 1 past in
-    let not_first : k ≢ 1 = eqb-false k 1 later in
-    rw later (other_nth (k - 1) (n - 1) change xs (ne_eqb (k - 1) (n - 1) (omega arith))))))
-
-same_nth : {K : Type 0} (n : ℕ) (change : Node K → Node K) (xs : List (Node K)) → nth n (at_nth n change xs) ≡ option_map change (nth n xs)
-same_nth n change [] = refl
-same_nth n change (x ∷ xs) = by_test (n == 1) (λ here. rw (here, here) refl) (λ past. rw (past, past) (same_nth (n - 1) change xs))
 
 -- a gateway that is known is there
 known_node : {K : Type 0} (o : Option (Node K)) → is_none o ≡ false → (node : Node K) × (o ≡ Some node)
@@ -111,6 +93,13 @@ module _ {K : Type 0} (cmp : K → K → Ordering) (matching : K → K → Bool)
         let t = with_place n s in
         sym (opened_heard cmp matching total n node c s (map (printed t.faces n) (said cmp matching c node.rows)) at_ opens fine (prints_map t.faces n (said cmp matching c node.rows)))
         ∙ ap (λ at. after_opening cmp matching at s) (sym (call_there s n node c at_))
+
+    -- and other gateways stay as they are
+    pub opened_apart : (n k : ℕ) (node : Node K) (c : PlainCall K) (s : Fabric K) → nth n s.gateways ≡ Some node → opens_face c ≡ true → FabricIsInOrder cmp matching s
+        → (k == n) ≡ false → nth k (opened_by_call cmp matching n c s).gateways ≡ nth k s.gateways
+    opened_apart n k node c s at_ opens fine apart =
+        ap (λ (t : Fabric K). nth k t.gateways) (sym (end_turned n node c s at_ opens fine))
+        ∙ other_nth k n (λ (x : Node K). record x { rows = rows_after_call cmp matching c x.rows }) s.gateways apart
 
     -- and each gateway that is known stays so
     pub known_after : (two one : ℕ) (node : Node K) (c : PlainCall K) (s t : Fabric K) → nth one s.gateways ≡ Some node → opens_face c ≡ true → FabricIsInOrder cmp matching s

@@ -8,7 +8,7 @@ ghost use Rattle.zt_region.specs.Region.{is_north};
 ghost use Rattle.zt_protocol.specs.Plain.{NewTransport, plain_call};
 ghost use Rattle.zt_region.specs.South.{plain_peer, plain_south, subregion_count};
 ghost use Rattle.zt_link_queues.specs.Found.{AreBelow};
-ghost use Rattle.zt_fabric_state.specs.Changes.{row_after, undone, without_last_place};
+ghost use Rattle.zt_fabric_state.specs.Changes.{IsAfter, row_after, undone, without_last_place};
 ghost use Rattle.zt_links.specs.Lines.{agreed, joined, opened_by_call, opened_end};
 ghost use Rattle.zt_links.specs.Lines.{said_by_opening};
 ghost use Rattle.zt_model.specs.Linking.{climbs_to, with_link, end_region, gateway_above};
@@ -20,7 +20,7 @@ use std::alloc::Global;
 use zt_calls::carry_out;
 use zt_fabric_state::{
     FabricState, NodeState, Turned, hear_call, member_at, member_place, next_face, peer_of,
-    sort_by_face, undo_opening,
+    settle, settle_apart, sort_by_face, undo_opening,
 };
 use zt_keys::{Key, Memory};
 use zt_protocol::{Call, Sent};
@@ -192,6 +192,8 @@ fn open_end<K: Key>(
     ensures links { OnOk result (s.new.links ≡ s.old.links) }
     ensures faces { OnOk result (length s.new.faces ≡ length s.old.faces + 1) }
     ensures free { OnOk result (AreBelow (length s.new.faces) s.new.links) }
+    ensures after { IfOk result
+        (λ turned. IsAfter K.cmp K.matching turned.former turned.gateway s.new) }
     ensures back { IfOk result (λ turned.
         without_last_place (undone turned.former turned.gateway s.new) ≡ s.old) }
     ensures err { OnErr result (s.new ≡ s.old) }
@@ -274,7 +276,10 @@ fn open_other<K: Key>(
 {
     let turned = open_end(alloc, s, gateway, call)?;
     match join(alloc, s, face, other, first, turned.printed) {
-        Ok(sent) => Ok(sent),
+        Ok(sent) => {
+            settle(s, turned.gateway, turned.former);
+            Ok(sent)
+        }
         Err(error) => {
             undo_opening(s, turned.gateway, turned.former);
             Err(error)
@@ -315,7 +320,10 @@ pub(crate) fn make_link<K: Key>(
     let other = next_number(face as usize)?;
     let turned = open_end(alloc, s, one, forth)?;
     match open_other(alloc, s, face, other, two, back, turned.printed) {
-        Ok(sent) => Ok(sent),
+        Ok(sent) => {
+            settle_apart(s, turned.gateway, two, turned.former);
+            Ok(sent)
+        }
         Err(error) => {
             undo_opening(s, turned.gateway, turned.former);
             Err(error)

@@ -1,16 +1,19 @@
 // Links that are closed, and the faces at their ends.
 ghost use Rattle.std.specs.Prelude.{◌≡◌, ◌++◌, ◌==◌, [], ◌∷◌, ◌+◌, ◌<◌, Ok, IfOk, OnOk, OnErr};
-ghost use Rattle.std.specs.Prelude.{length, not};
+ghost use Rattle.std.specs.Prelude.{ℕ, false, length, not};
 ghost use Rattle.std.specs.List.{list_any};
 ghost use Rattle.zt_model.specs.Fabric.{after_closing, both_ends, closing_call, fabric_after};
 ghost use Rattle.zt_model.specs.Fabric.{said_at, said_by_line, sorted_by_face};
+ghost use Rattle.zt_model.specs.Lists.{nth};
 ghost use Rattle.zt_protocol.specs.Plain.{Unlink};
-ghost use Rattle.zt_fabric_state.specs.Changes.{undone};
+ghost use Rattle.zt_fabric_state.specs.Changes.{IsAfter, undone};
 ghost use Rattle.zt_links.specs.Lines.{for_others, parted};
 ghost use Rattle.zt_laws.specs.Order.{FabricIsInOrder};
 
 use std::alloc::Global;
-use zt_fabric_state::{FabricState, Turned, hear_call, member_place, sort_by_face, undo};
+use zt_fabric_state::{
+    FabricState, Turned, hear_call, member_place, settle, settle_apart, sort_by_face, undo,
+};
 use zt_keys::{Key, Memory};
 use zt_link_queues::LinkState;
 use zt_protocol::{Call, Sent};
@@ -21,6 +24,10 @@ fn close_face<K: Key>(alloc: Global, s: &mut FabricState<K>, face: u32) -> Resul
     ensures says { IfOk result (λ turned. turned.printed.items
         ≡ said_at K.cmp K.matching s.old (closing_call s.old face)) }
     ensures does { OnOk result (s.new ≡ after_closing K.cmp K.matching face s.old) }
+    ensures after { IfOk result
+        (λ turned. IsAfter K.cmp K.matching turned.former turned.gateway s.new) }
+    ensures others { IfOk result (λ turned. (n : ℕ) → (n == turned.gateway) ≡ false
+        → nth n s.new.gateways ≡ nth n s.old.gateways) }
     ensures back { IfOk result (λ turned. undone turned.former turned.gateway s.new ≡ s.old) }
     ensures err { OnErr result (s.new ≡ s.old) }
 {
@@ -105,30 +112,42 @@ fn part<K: Key>(
 }
 
 /// The second face of a link is closed, and then the link; answers what its closing says to others,
-/// behind what the first one's says. After want of memory nothing is changed.
+/// behind what the first one's says. After want of memory the first one is as before too.
 fn close_other<K: Key>(
     alloc: Global,
     s: &mut FabricState<K>,
     at: usize,
     one: u32,
     two: u32,
-    first: Vec<Sent<K>>,
+    first: Turned<K>,
 ) -> Result<Vec<Sent<K>>, Memory>
     requires within { at < length s.old.links }
     requires order { FabricIsInOrder K.cmp K.matching s.old }
-    ensures says { IfOk result (λ sent. sent.items ≡ sorted_by_face (for_others one two first.items
+    requires after { IsAfter K.cmp K.matching first.former first.gateway s.old }
+    ensures says { IfOk result (λ sent. sent.items ≡ sorted_by_face
+        (for_others one two first.printed.items
         ++ for_others one two (said_at K.cmp K.matching s.old (closing_call s.old two)))) }
     ensures does { IfOk result (λ sent. s.new
         ≡ parted at one two sent.items (after_closing K.cmp K.matching two s.old)) }
-    ensures err { OnErr result (s.new ≡ s.old) }
+    ensures err { OnErr result (s.new ≡ undone first.former first.gateway s.old) }
 {
-    let turned = close_face(alloc, s, two)?;
-    match part(alloc, s, at, one, two, first, turned.printed) {
-        Ok(sent) => Ok(sent),
+    match close_face(alloc, s, two) {
         Err(error) => {
-            undo(s, turned.gateway, turned.former);
+            undo(s, first.gateway, first.former);
             Err(error)
         }
+        Ok(second) => match part(alloc, s, at, one, two, first.printed, second.printed) {
+            Err(error) => {
+                undo(s, second.gateway, second.former);
+                undo(s, first.gateway, first.former);
+                Err(error)
+            }
+            Ok(sent) => {
+                settle(s, second.gateway, second.former);
+                settle_apart(s, first.gateway, second.gateway, first.former);
+                Ok(sent)
+            }
+        },
     }
 }
 
@@ -153,13 +172,8 @@ fn close_both<K: Key>(
     ensures err { OnErr result (s.new ≡ s.old) }
 {
     let turned = close_face(alloc, s, one)?;
-    match close_other(alloc, s, at, one, two, turned.printed) {
-        Ok(sent) => Ok(sent),
-        Err(error) => {
-            undo(s, turned.gateway, turned.former);
-            Err(error)
-        }
-    }
+    let sent = close_other(alloc, s, at, one, two, turned)?;
+    Ok(sent)
 }
 
 /// The two faces that a link joins.

@@ -9,5 +9,5 @@ mod restorable;
 
 pub use boxed::BoxedState;
 pub use copying::copy_call;
-pub use restorable::{Ahead, RestorableState, Turn};
+pub use restorable::{Ahead, Former, RestorableState, Turn};
 pub use zt_face::{copy_keys, copy_queryables};

@@ -10,6 +10,7 @@ use crate::boxed::{BoxedState, boxed_copy, exchange};
 use crate::kept::{KeptCall, call_of, keep_call};
 use std::alloc::Global;
 use std::marker::Model;
+use std::mem;
 use zt_calls::carry_out;
 use zt_keys::{Key, Memory};
 use zt_protocol::{Call, Message, TreeTable};
@@ -191,6 +192,16 @@ fn held_at_most<K: Key>(state: &GatewayState<K>) -> usize {
     LEAST_HELD.saturating_add(rows_in(state).saturating_mul(HELD_FOR_A_ROW))
 }
 
+// A call that is kept, behind others. The only error is want of memory, and then the others stay.
+fn push_kept<K: Key>(calls: &mut Vec<KeptCall<K>>, kept: KeptCall<K>) -> Result<(), Memory>
+    ensures ok { OnOk result (map kept_call calls.new.items
+        ≡ map kept_call calls.old.items ++ kept_call kept ∷ []) }
+    ensures err { OnErr result (calls.new.items ≡ calls.old.items) }
+{
+    calls.push(kept)?;
+    Ok(())
+}
+
 // A call behind others. The only error is want of memory, and then the others stay.
 fn push_call<K: Key>(
     alloc: Global,
@@ -201,8 +212,8 @@ fn push_call<K: Key>(
         ≡ map kept_call calls.old.items ++ plain_call call.now ∷ []) }
     ensures err { OnErr result (calls.new.items ≡ calls.old.items) }
 {
-    calls.push(keep_call(alloc, call)?)?;
-    Ok(())
+    let kept = keep_call(alloc, call)?;
+    push_kept(calls, kept)
 }
 
 // Equal calls. The only error is want of memory.
@@ -216,10 +227,35 @@ fn copy_calls<K: Key>(alloc: Global, calls: &[KeptCall<K>]) -> Result<Vec<KeptCa
     Ok(copies)
 }
 
-/// What a gateway kept before a call, and what the call says.
+/// What a gateway was before a call: what it kept earlier, the calls since, and the call itself.
+#[derive(Drop)]
+pub struct Former<K: Key> {
+    earlier: BoxedState<K>,
+    calls: Vec<KeptCall<K>>,
+    held: usize,
+    most: usize,
+    call: KeptCall<K>,
+    // How much the call holds.
+    more: usize,
+}
+
+impl<K: Key> Model for Former<K> {
+    ghost use Rattle.std.specs.Prelude.{map};
+    ghost use Rattle.zt_rollback.specs.After.{Before, rows_after_calls};
+    ghost use Rattle.zt_rollback.specs.Kept.{kept_call};
+
+    ghost Value = { Before K };
+
+    ghost view = { λ f. record {
+      rows = rows_after_calls K.cmp K.matching (map kept_call f.calls.items) f.earlier;
+      call = kept_call f.call;
+    } };
+}
+
+/// What a gateway was before a call, and what the call says.
 #[derive(Drop)]
 pub struct Turn<K: Key> {
-    pub former: BoxedState<K>,
+    pub former: Former<K>,
     pub said: Vec<(u32, Message<K>)>,
 }
 
@@ -338,25 +374,72 @@ impl<K: Key> RestorableState<K> {
         }
     }
 
-    /// Carries a call out for a line that may fail yet: beside what the gateway kept before, which
-    /// is answered. After want of memory the gateway is as before.
+    /// Carries a call out for a line that may fail yet, and answers what the gateway was before: by
+    /// that the call is undone, or settled. After want of memory the gateway is as before.
     pub fn turn(&mut self, alloc: Global, call: &Call<K>) -> Result<Turn<K>, Memory>
         ensures state { OnOk result (self.new
             ≡ rows_after_call K.cmp K.matching (plain_call call.now) self.old) }
-        ensures former { IfOk result (λ turn. turn.former ≡ self.old) }
+        ensures former { IfOk result (λ turn. turn.former.rows ≡ self.old) }
+        ensures call { IfOk result (λ turn. turn.former.call ≡ plain_call call.now) }
         ensures said { IfOk result (λ turn. turn.said.items
             ≡ said K.cmp K.matching (plain_call call.now) self.old) }
         ensures err { OnErr result (self.new ≡ self.old) }
     {
-        self.restore(alloc)?;
-        self.save(alloc);
-        let Some(former) = self.current.take() else {
-            return Err(Memory);
+        let kept = keep_call(alloc, call)?;
+        let Ahead { mut state, said } = self.prepare(alloc, call)?;
+        exchange(&mut self.earlier, &mut state);
+        let former = Former {
+            earlier: state,
+            calls: mem::replace(&mut self.calls, Vec::new(alloc)),
+            held: mem::replace(&mut self.held, 0),
+            most: mem::replace(&mut self.most, LEAST_HELD),
+            call: kept,
+            more: held_by(call),
         };
-        let mut state = boxed_copy(alloc, &*former.inner)?;
-        let said = carry_on(alloc, &mut state, call)?;
-        self.commit(alloc, state, call);
         Ok(Turn { former, said })
+    }
+
+    /// The gateway is again what it was before a call, and what it keeps is got back before the
+    /// next one.
+    pub fn undo(&mut self, former: Former<K>)
+        ensures { self.new ≡ former.rows }
+    {
+        let mut earlier = former.earlier;
+        exchange(&mut self.earlier, &mut earlier);
+        self.calls = former.calls;
+        self.held = former.held;
+        self.most = former.most;
+        self.current = None;
+    }
+
+    /// A call that was carried out by `turn` stays, behind those before it. Where another came
+    /// since, or memory lacks for what brings it back, the next call copies the gateway.
+    pub fn settle(&mut self, former: Former<K>)
+        requires { self.old
+            ≡ rows_after_call K.cmp K.matching former.call former.rows }
+        ensures { self.new ≡ self.old }
+    {
+        if !self.calls.is_empty() {
+            return;
+        }
+        let Former {
+            mut earlier,
+            mut calls,
+            held,
+            most,
+            call,
+            more,
+        } = former;
+        match push_kept(&mut calls, call) {
+            Ok(()) => {
+                exchange(&mut self.earlier, &mut earlier);
+                self.calls = calls;
+                self.held = held.saturating_add(more);
+                self.most = most;
+                self.current = Some(earlier);
+            }
+            Err(_) => {}
+        }
     }
 
     /// An equal state. The only error is want of memory.

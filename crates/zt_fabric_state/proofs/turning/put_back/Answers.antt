@@ -10,4 +10,4 @@ returns-in-None g c =
     ap (λ gateways. record s { gateways = gateways }) (sym (at_nth_none c.args.gateway _ s.gateways none))
 
 pub returns-in-Some : goal.returns-in-Some
-returns-in-Some g c = rw c.in-Some.ensures.counted c.put_rows.ensures
+returns-in-Some g c = rw c.in-Some.ensures.counted c.undo_at.ensures

@@ -1,12 +1,14 @@
 use Rattle.std.proofs.Common.{◌≡◌, ◌+◌, ◌++◌, [], ◌∷◌, length, ap, arith, sym, subst, ◌∙◌}
 use Rattle.zt_protocol.specs.Plain.{plain_call}
 use Rattle.zt_model.specs.Fabric.{Fabric, call_at, sorted_by_face}
+use Rattle.zt_model.specs.Lists.{nth}
 use Rattle.zt_laws.specs.Order.{FabricIsInOrder}
 use Rattle.zt_link_queues.specs.Found.{AreBelow}
 use Rattle.zt_fabric_state.specs.Changes.{undone, without_last_place}
 use Rattle.zt_links.specs.Lines.{joined, opened_by_call, opened_end, said_by_opening}
 use Rattle.zt_links.proofs.Linked.{opening_links}
-use Rattle.zt_links.proofs.Turned.{known_after, link_joined, opening_faces, opening_waits_does, opening_waits_says, order_waits, some_known}
+use Rattle.zt_fabric_state.proofs.PutBack.{after_alike}
+use Rattle.zt_links.proofs.Turned.{known_after, link_joined, opened_apart, opening_faces, opening_waits_does, opening_waits_says, order_waits, some_known}
 use Rattle.zt_links.proofs.linking.make_link.Goals as goal
 
 pub open_other-requires-clause-there : goal.open_other-requires-clause-there
@@ -67,7 +69,8 @@ returns-in-Ok-clause-does g c =
     let member = some_known one s c.requires.there_one in
     let links : u.links ≡ s.links = opening_links cmp matching total (call_at t two back) t ∙ opening_links cmp matching total (call_at s one forth) s in
     let face_is : face ≡ length s.faces + 1 = c.in_ok-face.ensures ∙ ap (λ n. n + 1) (c.len.ensures ∙ ap length c.places.ensures) in
-    c.in-Ok.ensures.does
+    c.settle_apart.ensures
+    ∙ c.in-Ok.ensures.does
     ∙ ap (λ (x : Fabric _). joined face other ms (opened_end cmp matching two back x)) c.in_ok-turned.ensures.does
     ∙ ap (λ (x : Fabric _). joined face other ms (record x { waiting = ends ++ (length t.faces + 1, []) ∷ [] })) (opening_waits_does cmp matching two back ends t)
     ∙ link_joined s u face other (length t.faces) ms links face_is c.in_ok-other.ensures (opening_faces cmp matching one forth member.0 s member.1)
@@ -75,3 +78,16 @@ returns-in-Ok-clause-does g c =
 pub returns-in-Err-clause-err : goal.returns-in-Err-clause-err
 returns-in-Err-clause-err g c =
     c.undo_opening.ensures ∙ ap (λ t. without_last_place (undone c.in_ok-turned.turned.former c.in_ok-turned.turned.gateway t)) c.in-Err.ensures.err ∙ c.in_ok-turned.ensures.back
+
+pub settle_apart-requires : goal.settle_apart-requires
+settle_apart-requires g c = λ apart.
+    let cmp = g.K.Ord.cmp in
+    let matching = g.K.Key.matching in
+    let n = c.in_ok-turned.turned.gateway in
+    let two = c.args.two in
+    let t = c.open_end.new.s in
+    let member = some_known two t (open_other-requires-clause-there g c) in
+    after_alike cmp matching c.in_ok-turned.turned.former n t c.open_other.new.s
+    (ap (λ (x : Fabric _). nth n x.gateways) c.in-Ok.ensures.does
+    ∙ opened_apart cmp matching g.met.K.Ord.total two n member.0 (plain_call c.args.back.now) t member.1 c.requires.opens_back (open_other-requires-clause-order g c) apart)
+    c.in_ok-turned.ensures.after

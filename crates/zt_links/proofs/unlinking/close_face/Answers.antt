@@ -1,4 +1,4 @@
-use Rattle.std.proofs.Common.{◌≡◌, None, Some, ap, sym, ◌∙◌}
+use Rattle.std.proofs.Common.{◌≡◌, None, Some, ap, refl, sym, ◌∙◌}
 use Rattle.zt_protocol.specs.Plain.{CloseFace}
 use Rattle.zt_model.specs.Fabric.{with_rows}
 use Rattle.zt_model.specs.Lists.{nth}
@@ -26,3 +26,6 @@ returns-clause-does g c =
     ∙ ap (λ n. with_rows p.gateway (rows_after_call cmp matching (CloseFace n)) s) c.face.ensures
     ∙ face_closed cmp matching g.met.K.Ord.total c.args.face p s there c.requires)
     c.hear_call.ensures.does
+
+pub returns-in_default-clause-others : goal.returns-in_default-clause-others
+returns-in_default-clause-others g c = λ n apart. refl

@@ -1,6 +1,8 @@
 use Rattle.std.proofs.Common.{◌≡◌, ◌++◌, ap, ◌∙◌}
 use Rattle.zt_model.specs.Fabric.{Fabric, sorted_by_face}
+use Rattle.zt_model.specs.Lists.{nth}
 use Rattle.zt_fabric_state.specs.Changes.{undone}
+use Rattle.zt_fabric_state.proofs.PutBack.{after_alike}
 use Rattle.zt_links.specs.Lines.{for_others, parted}
 use Rattle.zt_links.proofs.Closings.{closing_links}
 use Rattle.zt_links.proofs.unlinking.close_other.Goals as goal
@@ -8,15 +10,36 @@ use Rattle.zt_links.proofs.unlinking.close_other.Goals as goal
 pub part-requires : goal.part-requires
 part-requires g c =
     let links : c.close_face.new.s.links ≡ c.args.s.now.links =
-    ap (λ (t : Fabric _). t.links) c.in_ok-turned.ensures.does ∙ closing_links g.K.Ord.cmp g.K.Key.matching g.met.K.Ord.total c.args.two c.args.s.now in
+    ap (λ (t : Fabric _). t.links) c.in-Ok.ensures.does ∙ closing_links g.K.Ord.cmp g.K.Key.matching g.met.K.Ord.total c.args.two c.args.s.now in
     rw links c.requires.within
 
-pub returns-in-Ok-clause-says : goal.returns-in-Ok-clause-says
-returns-in-Ok-clause-says g c =
-    c.in-Ok.ensures.says ∙ ap (λ xs. sorted_by_face (for_others c.args.one c.args.two c.args.first.items ++ for_others c.args.one c.args.two xs)) c.in_ok-turned.ensures.says
+pub settle-requires : goal.settle-requires
+settle-requires g c =
+    let second = c.in-Ok.second in
+    after_alike g.K.Ord.cmp g.K.Key.matching second.former second.gateway c.close_face.new.s c.part.new.s
+    (ap (λ (x : Fabric _). nth second.gateway x.gateways) c.in-Ok-2.ensures.does) c.in-Ok.ensures.after
 
-pub returns-in-Ok-clause-does : goal.returns-in-Ok-clause-does
-returns-in-Ok-clause-does g c = c.in-Ok.ensures.does ∙ ap (parted c.args.at c.args.one c.args.two c.in-Ok.sent.items) c.in_ok-turned.ensures.does
+pub settle_apart-requires : goal.settle_apart-requires
+settle_apart-requires g c = λ apart.
+    let first = c.args.first in
+    after_alike g.K.Ord.cmp g.K.Key.matching first.former first.gateway c.args.s.now c.settle.new.s
+    (ap (λ (x : Fabric _). nth first.gateway x.gateways) (c.settle.ensures ∙ c.in-Ok-2.ensures.does) ∙ c.in-Ok.ensures.others first.gateway apart)
+    c.requires.after
+
+pub returns-in-Ok-2-clause-says : goal.returns-in-Ok-2-clause-says
+returns-in-Ok-2-clause-says g c =
+    c.in-Ok-2.ensures.says ∙ ap (λ xs. sorted_by_face (for_others c.args.one c.args.two c.args.first.printed.items ++ for_others c.args.one c.args.two xs)) c.in-Ok.ensures.says
+
+pub returns-in-Ok-2-clause-does : goal.returns-in-Ok-2-clause-does
+returns-in-Ok-2-clause-does g c =
+    c.settle_apart.ensures ∙ c.settle.ensures ∙ c.in-Ok-2.ensures.does ∙ ap (parted c.args.at c.args.one c.args.two c.in-Ok-2.sent.items) c.in-Ok.ensures.does
 
 pub returns-in-Err-clause-err : goal.returns-in-Err-clause-err
-returns-in-Err-clause-err g c = c.undo.ensures ∙ ap (undone c.in_ok-turned.turned.former c.in_ok-turned.turned.gateway) c.in-Err.ensures.err ∙ c.in_ok-turned.ensures.back
+returns-in-Err-clause-err g c = c.undo.ensures ∙ ap (undone c.args.first.former c.args.first.gateway) c.in-Err.ensures.err
+
+pub returns-in-Err-2-clause-err : goal.returns-in-Err-2-clause-err
+returns-in-Err-2-clause-err g c =
+    let second = c.in-Ok.second in
+    c.undo-3.ensures
+    ∙ ap (undone c.args.first.former c.args.first.gateway)
+    (c.undo-2.ensures ∙ ap (undone second.former second.gateway) c.in-Err-2.ensures.err ∙ c.in-Ok.ensures.back)
