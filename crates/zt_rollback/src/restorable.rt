@@ -387,6 +387,7 @@ impl<K: Key> RestorableState<K> {
     {
         let kept = keep_call(alloc, call)?;
         let Ahead { mut state, said } = self.prepare(alloc, call)?;
+        self.current = None;
         exchange(&mut self.earlier, &mut state);
         let former = Former {
             earlier: state,
