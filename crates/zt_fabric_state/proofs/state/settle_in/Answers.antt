@@ -1,4 +1,4 @@
-use Rattle.std.proofs.Common.{◌≡◌, ◌<◌, Some, length, set, arith, ap, sym, ◌∙◌}
+use Rattle.std.proofs.Common.{◌<◌, Some, length, set, arith, ap, sym, ◌∙◌}
 use Rattle.std.proofs.lemmas.List.{set-get_or}
 use Rattle.zt_model.specs.Fabric.{Node}
 use Rattle.zt_fabric_state.proofs.Members.{nth_at}

@@ -1,4 +1,4 @@
-use Rattle.std.proofs.Common.{◌<◌, length, set, arith, ap, refl, ◌∙◌}
+use Rattle.std.proofs.Common.{◌<◌, length, arith, ap, refl, ◌∙◌}
 use Rattle.std.proofs.lemmas.Result.{IfOk-weaker, on_ok_weaker}
 use Rattle.zt_protocol.specs.Plain.{plain_call}
 use Rattle.zt_model.specs.Fabric.{Node}

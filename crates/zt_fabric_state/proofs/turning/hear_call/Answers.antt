@@ -84,5 +84,7 @@ pub returns-in-Ok-clause-others : goal.returns-in-Ok-clause-others
 returns-in-Ok-clause-others g c = λ k apart.
     let s = c.args.s.now in
     let n = c.args.gateway in
-    let change = λ (x : Node _). record x { rows = rows_after_call g.K.Ord.cmp g.K.Key.matching (plain_call c.args.call.now) x.rows } in
-    ap (λ (t : Fabric _). nth k t.gateways) (rw c.in-Some.ensures.counted c.in_ok-turn-in-Some.ensures.state) ∙ other_nth k n change s.gateways apart
+    let change = rows_after_call g.K.Ord.cmp g.K.Key.matching (plain_call c.args.call.now) in
+    let counted = c.in-Some.ensures.counted in
+    let state : c.turn_at.new.self ≡ with_rows n change s = rw counted c.in_ok-turn-in-Some.ensures.state in
+    ap (λ (t : Fabric _). nth k t.gateways) state ∙ other_nth k n (λ (x : Node _). record x { rows = change x.rows }) s.gateways apart
