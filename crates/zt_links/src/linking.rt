@@ -19,8 +19,8 @@ ghost use Rattle.zt_model.specs.Refusals.{spends_ids};
 use std::alloc::Global;
 use zt_calls::carry_out;
 use zt_fabric_state::{
-    FabricState, NodeState, Turned, hear_call, member_at, member_place, next_face, peer_of,
-    settle, settle_apart, sort_by_face, undo_opening,
+    FabricState, NodeState, Turned, hear_call, member_at, member_place, next_face, peer_of, settle,
+    settle_apart, sort_by_face, undo_opening,
 };
 use zt_keys::{Key, Memory};
 use zt_protocol::{Call, Sent};

@@ -83,11 +83,19 @@ pub settle_apart-requires : goal.settle_apart-requires
 settle_apart-requires g c = λ apart.
     let cmp = g.K.Ord.cmp in
     let matching = g.K.Key.matching in
-    let n = c.in_ok-turned.turned.gateway in
-    let two = c.args.two in
+    let total = g.met.K.Ord.total in
+    let s = c.args.s.now in
     let t = c.open_end.new.s in
-    let member = some_known two t (open_other-requires-clause-there g c) in
-    after_alike cmp matching c.in_ok-turned.turned.former n t c.open_other.new.s
-    (ap (λ (x : Fabric _). nth n x.gateways) c.in-Ok.ensures.does
-    ∙ opened_apart cmp matching g.met.K.Ord.total two n member.0 (plain_call c.args.back.now) t member.1 c.requires.opens_back (open_other-requires-clause-order g c) apart)
+    let one = c.args.one in
+    let two = c.args.two in
+    let forth = plain_call c.args.forth.now in
+    let turned = c.in_ok-turned.turned in
+    let first = some_known one s c.requires.there_one in
+    let known = known_after cmp matching total two one first.0 forth s t first.1 c.requires.opens_forth c.requires.order c.in_ok-turned.ensures.does c.requires.there_two in
+    let second = some_known two t known in
+    let order : FabricIsInOrder cmp matching t =
+    subst (FabricIsInOrder cmp matching) (sym c.in_ok-turned.ensures.does) (order_waits cmp matching _ (opened_by_call cmp matching one forth s) c.requires.order_between) in
+    after_alike cmp matching turned.former turned.gateway t c.open_other.new.s
+    (ap (λ (x : Fabric _). nth turned.gateway x.gateways) c.in-Ok.ensures.does
+    ∙ opened_apart cmp matching total two turned.gateway second.0 (plain_call c.args.back.now) t second.1 c.requires.opens_back order apart)
     c.in_ok-turned.ensures.after

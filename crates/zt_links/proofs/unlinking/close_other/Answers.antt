@@ -1,9 +1,8 @@
-use Rattle.std.proofs.Common.{◌≡◌, ◌++◌, ap, ◌∙◌}
-use Rattle.zt_model.specs.Fabric.{Fabric, sorted_by_face}
+use Rattle.std.proofs.Common.{◌≡◌, ap, ◌∙◌}
+use Rattle.zt_model.specs.Fabric.{Fabric}
 use Rattle.zt_model.specs.Lists.{nth}
 use Rattle.zt_fabric_state.specs.Changes.{undone}
 use Rattle.zt_fabric_state.proofs.PutBack.{after_alike}
-use Rattle.zt_links.specs.Lines.{for_others, parted}
 use Rattle.zt_links.proofs.Closings.{closing_links}
 use Rattle.zt_links.proofs.unlinking.close_other.Goals as goal
 
@@ -17,29 +16,14 @@ pub settle-requires : goal.settle-requires
 settle-requires g c =
     let second = c.in-Ok.second in
     after_alike g.K.Ord.cmp g.K.Key.matching second.former second.gateway c.close_face.new.s c.part.new.s
-    (ap (λ (x : Fabric _). nth second.gateway x.gateways) c.in-Ok-2.ensures.does) c.in-Ok.ensures.after
+    (ap (λ (x : Fabric _). nth second.gateway x.gateways) c.in-Ok-part.ensures.does) c.in-Ok.ensures.after
 
 pub settle_apart-requires : goal.settle_apart-requires
 settle_apart-requires g c = λ apart.
     let first = c.args.first in
     after_alike g.K.Ord.cmp g.K.Key.matching first.former first.gateway c.args.s.now c.settle.new.s
-    (ap (λ (x : Fabric _). nth first.gateway x.gateways) (c.settle.ensures ∙ c.in-Ok-2.ensures.does) ∙ c.in-Ok.ensures.others first.gateway apart)
+    (ap (λ (x : Fabric _). nth first.gateway x.gateways) (c.settle.ensures ∙ c.in-Ok-part.ensures.does) ∙ c.in-Ok.ensures.others first.gateway apart)
     c.requires.after
-
-pub returns-in-Ok-2-clause-says : goal.returns-in-Ok-2-clause-says
-returns-in-Ok-2-clause-says g c =
-    c.in-Ok-2.ensures.says ∙ ap (λ xs. sorted_by_face (for_others c.args.one c.args.two c.args.first.printed.items ++ for_others c.args.one c.args.two xs)) c.in-Ok.ensures.says
-
-pub returns-in-Ok-2-clause-does : goal.returns-in-Ok-2-clause-does
-returns-in-Ok-2-clause-does g c =
-    c.settle_apart.ensures ∙ c.settle.ensures ∙ c.in-Ok-2.ensures.does ∙ ap (parted c.args.at c.args.one c.args.two c.in-Ok-2.sent.items) c.in-Ok.ensures.does
 
 pub returns-in-Err-clause-err : goal.returns-in-Err-clause-err
 returns-in-Err-clause-err g c = c.undo.ensures ∙ ap (undone c.args.first.former c.args.first.gateway) c.in-Err.ensures.err
-
-pub returns-in-Err-2-clause-err : goal.returns-in-Err-2-clause-err
-returns-in-Err-2-clause-err g c =
-    let second = c.in-Ok.second in
-    c.undo-3.ensures
-    ∙ ap (undone c.args.first.former c.args.first.gateway)
-    (c.undo-2.ensures ∙ ap (undone second.former second.gateway) c.in-Err-2.ensures.err ∙ c.in-Ok.ensures.back)
