@@ -1,5 +1,7 @@
 pub mod Rows
 pub mod Strategy
+pub mod hats
+pub mod Hat
 pub mod Lists
 pub mod Visible
 pub mod Wants

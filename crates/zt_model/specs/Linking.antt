@@ -2,13 +2,13 @@
 use Rattle.std.specs.Prelude.{ℕ, zero, suc, Bool, true, false, ◌+◌, ◌==◌, ◌&&◌, ◌||◌, if◌then◌else◌, List, [], ◌∷◌, ◌++◌, length, Option, Some, None, option_map, Ok, Err, map}
 use Rattle.zt_region.specs.declared.region.Bound.{Bound}
 use Rattle.zt_region.specs.declared.region.Region.{Region}
-use Rattle.zt_region.specs.declared.region.WhatAmI.TheVariants.{Client}
-use Rattle.zt_region.specs.Region.{is_north, whatami_eq}
+use Rattle.zt_region.specs.Region.{is_north}
 use Rattle.zt_region.specs.South.{PlainPeer, transient_bound}
 use Rattle.zt_region.specs.Tables.{RegionAnswer, region_of}
 use Rattle.zt_protocol.specs.Plain.{PlainCall, NewTransport, DeclareToken, UndeclareToken, Interest, InterestFinal, DeclareFinal}
 use Rattle.zt_protocol.specs.declared.messages.Message.{Message}
 use Rattle.zt_protocol.specs.declared.messages.Message.TheVariants as message
+use Rattle.zt_model.specs.Hat.{north_hat}
 use Rattle.zt_model.specs.Lists.{at_id, first_of, first_where, is_some_and, nth, rest_of, without_id}
 use Rattle.zt_model.specs.Places.{Fabric, Link, Node, Place, at_nth, number_of_place}
 
@@ -73,13 +73,13 @@ gateway_beyond s face =
       | Some link ↦ option_map (λ (p : Place). p.gateway) (nth (if face == link.one then link.two else link.one) s.faces)
     ]
 
--- the gateway above a client gateway, by its north link
+-- the gateway above one that has one face to the north, by its link
 abbrev pub gateway_above : {K : Type 0} → Fabric K → ℕ → Option ℕ
 gateway_above s n =
     elim (nth n s.gateways) [
       | None ↦ None
       | Some node ↦
-          if whatami_eq node.rows.mode Client
+          if (north_hat node.rows.mode).has_one_face
           then elim (first_where (λ f. is_north f.region) node.rows.faces) [ None ↦ None | Some f ↦ gateway_beyond s (number_of_place s n f.number) ]
           else None
     ]
@@ -89,9 +89,9 @@ unfoldable pub climbs_to : {K : Type 0} → ℕ → Fabric K → ℕ → ℕ →
 climbs_to zero s from to = from == to
 climbs_to (suc fuel) s from to = if from == to then true else is_some_and (gateway_above s from) (λ up. climbs_to fuel s up to)
 
--- a client gateway's new north gateway is itself, or lies below it
+-- a new gateway above, of one that has one face to the north, is the gateway itself, or lies below it
 abbrev pub closes_loop : {K : Type 0} → Fabric K → LinkEnd K → Region → Bound → Bool
-closes_loop s end region bound = whatami_eq end.node.rows.mode Client && (is_north region && climbs_to (length s.gateways) s end.beyond end.gateway)
+closes_loop s end region bound = (north_hat end.node.rows.mode).has_one_face && (is_north region && climbs_to (length s.gateways) s end.beyond end.gateway)
 
 -- ---- what waits
 

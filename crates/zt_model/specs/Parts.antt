@@ -10,10 +10,10 @@ use Rattle.zt_region.specs.declared.region.WhatAmI.{WhatAmI}
 use Rattle.zt_region.specs.declared.region.WhatAmI.TheVariants.{Client}
 use Rattle.zt_region.specs.declared.region.Zid.{Zid}
 use Rattle.zt_protocol.specs.declared.messages.Message.{Message}
-use Rattle.zt_model.specs.Lists.{same, first_where}
+use Rattle.zt_model.specs.Hat.{hat_of_face}
 use Rattle.zt_model.specs.Hearing.{rows_heard}
+use Rattle.zt_model.specs.Lists.{same, first_where}
 use Rattle.zt_model.specs.Rows.{ById, Face, Rows}
-use Rattle.zt_model.specs.Strategy.{strategy_of, is_router_hat}
 
 -- messages with the numbers of the faces that they are for
 abbrev pub Sends : Type 0 → Type 0
@@ -36,9 +36,9 @@ find_face n g = first_where (λ f. n == f.number) g.faces
 unfoldable pub with_face : {K : Type 0} → ℕ → (Face K → Face K) → Rows K → Rows K
 with_face n change g = record g { faces = map (λ f. if n == f.number then change f else f) g.faces }
 
--- faces of router regions hear of tokens by trees, not by these rules
+-- faces of some regions hear of tokens by trees, not by these rules
 abbrev pub is_routed : {K : Type 0} → Rows K → Face K → Bool
-is_routed g f = is_router_hat (strategy_of g.mode f.region)
+is_routed g f = (hat_of_face g f).goes_by_trees
 
 -- the id under which a face was told an expression
 unfoldable pub told_id : {K : Type 0} → (K → K → Ordering) → K → ById K → Option ℕ

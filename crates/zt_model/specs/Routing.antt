@@ -6,20 +6,19 @@ use Rattle.std.specs.Ordering.{is_eq, nat_cmp, ordering_then}
 use Rattle.std.specs.declared.cmp.Ordering.{Ordering}
 use Rattle.std.specs.declared.cmp.Ordering.TheVariants.{Less, Equal, Greater}
 use Rattle.zt_region.specs.declared.region.Bound.{Bound}
-use Rattle.zt_region.specs.declared.region.Bound.TheVariants.{North as NorthBound, South as SouthBound}
 use Rattle.zt_region.specs.declared.region.Region.{Region}
 use Rattle.zt_region.specs.declared.region.WhatAmI.{WhatAmI}
-use Rattle.zt_region.specs.declared.region.WhatAmI.TheVariants.{Router, Peer, Client}
 use Rattle.zt_region.specs.declared.region.Zid.{Zid}
-use Rattle.zt_region.specs.Region.{bound_eq, is_north, whatami_eq}
+use Rattle.zt_region.specs.Region.{is_north}
 use Rattle.zt_protocol.specs.Interest.{is_current, is_future}
 use Rattle.zt_protocol.specs.declared.interests.InterestMode.{InterestMode}
 use Rattle.zt_protocol.specs.declared.interests.InterestMode.TheVariants.{CurrentFuture}
 use Rattle.zt_protocol.specs.declared.messages.Message.{Message}
 use Rattle.zt_protocol.specs.declared.messages.Message.TheVariants as message
 use Rattle.zt_model.specs.Hearing.{put_if}
+use Rattle.zt_model.specs.Hat.{hat_of, hat_of_face, north_hat}
 use Rattle.zt_model.specs.Lists.{at_id, first_where, has_id, in_key_order, is_some_and, without_id}
-use Rattle.zt_model.specs.Parts.{Part, Alter, Say, Sends, find_face, new_face, to_each, to_face, told_id, with_face}
+use Rattle.zt_model.specs.Parts.{Part, Alter, Say, Sends, find_face, is_routed, new_face, to_each, to_face, told_id, with_face}
 use Rattle.zt_model.specs.Rows.{Ask, Face, InterestRow, Rows}
 use Rattle.zt_model.specs.Telling.{was_sent_as}
 use Rattle.zt_model.specs.Visible.{visible_expressions}
@@ -27,28 +26,28 @@ use Rattle.zt_model.specs.Wants.{wants}
 
 -- ---- where an interest goes
 
--- a face to a gateway above, which is not itself north-bound at the other end
-abbrev pub leads_up : {K : Type 0} → Face K → Bool
-leads_up f = is_north f.region && bound_eq f.bound SouthBound
+-- a face to a gateway above
+abbrev pub leads_up : {K : Type 0} → WhatAmI → Face K → Bool
+leads_up mode f = is_north f.region && (north_hat mode).leads_up f.bound
 
--- the gateway above that has the lowest face: the one that a current interest of a peer goes to
+-- the gateway above that has the lowest face
 abbrev pub is_lowest_up : {K : Type 0} → Rows K → Face K → Bool
-is_lowest_up g f = is_some_and (first_where leads_up g.faces) (λ x. x.number == f.number)
+is_lowest_up g f = is_some_and (first_where (leads_up g.mode) g.faces) (λ x. x.number == f.number)
 
 -- a mutual peer whose initial interest isn't finalised
 abbrev pub awaits_initial : {K : Type 0} → Face K → Bool
 awaits_initial f = is_some_and f.initial not
 
--- By the gateway's mode: a client's one face to the north; a peer's gateways above, of which one alone is asked
--- for what is there now, beside the mutual peers that are still starting; a router asks nobody.
-abbrev pub is_target_of : {K : Type 0} → WhatAmI → Rows K → InterestMode → Face K → Bool
-is_target_of Client g mode f = true
-is_target_of Peer g mode f = if is_future mode then leads_up f else awaits_initial f || is_lowest_up g f
-is_target_of Router g mode f = false
+-- Interests go to all gateways above; by some hats of north, what is there now alone is asked of one of them, beside the
+-- mutual peers that are still starting.
+abbrev pub is_asked : {K : Type 0} → Rows K → InterestMode → Face K → Bool
+is_asked g mode f =
+    if is_future mode || not (north_hat g.mode).asks_one then leads_up g.mode f
+    else is_north f.region && (awaits_initial f || is_lowest_up g f)
 
 -- the interest of a south-bound face goes to this face
 unfoldable pub is_target : {K : Type 0} → Rows K → Region → InterestMode → Face K → Bool
-is_target g asker mode f = not (is_north asker) && (is_north f.region && is_target_of g.mode g mode f)
+is_target g asker mode f = not (is_north asker) && is_asked g mode f
 
 unfoldable pub route_to : {K : Type 0} → Rows K → Region → InterestRow K → Face K → List (Message K)
 route_to g asker interest f = if is_target g asker interest.mode f then message.Interest f.next interest.mode interest.options interest.expr ∷ [] else []
@@ -109,10 +108,11 @@ module _ {K : Type 0} (cmp : K → K → Ordering) (matching : K → K → Bool)
   unfoldable pub is_held_south : Rows K → InterestRow K → Bool
   is_held_south g interest = list_any (λ f. not (is_north f.region) && list_any (λ row. asks_same interest row.1) f.held) g.faces
 
-  -- The face is told that what it doesn't want any more is gone, each by its id, in key order.
-  unfoldable pub untell_to : Face K → List (Message K)
-  untell_to f =
-      if is_north f.region then []
+  -- The face is told that what it doesn't want any more is gone, each by its id, in key order; one that is told unasked
+  -- goes on being told.
+  unfoldable pub untell_to : Rows K → Face K → List (Message K)
+  untell_to g f =
+      if (hat_of_face g f).is_told_unasked f.region then []
       else flat_map (λ e. elim (told_id cmp e f.told) [ None ↦ [] | Some id ↦ message.UndeclareToken id None 0 ∷ [] ])
       (filter (λ e. not (wants matching f e)) (in_key_order cmp (map (λ row. row.1) f.told)))
 
@@ -130,7 +130,7 @@ module _ {K : Type 0} (cmp : K → K → Ordering) (matching : K → K → Bool)
   abbrev pub finalising : ℕ → ℕ → InterestRow K → List (Part K)
   finalising n id interest =
       Alter (with_face n (unheld id))
-      ∷ Say (to_face n untell_to)
+      ∷ Say (λ g. to_face n (untell_to g) g)
       ∷ Say (to_face n (final_of_both id interest))
       ∷ Say (end_upstream interest)
       ∷ []
@@ -169,9 +169,9 @@ finishing n id f = Alter (with_face n (initial_finalised id)) ∷ (if has_id id 
 
 -- ---- opening a face
 
--- a mutual north peer has an initial interest
+-- an initial interest isn't finalised at first
 abbrev pub initial_of : WhatAmI → Region → Bound → Option Bool
-initial_of mode region bound = if whatami_eq mode Peer && (is_north region && bound_eq bound NorthBound) then Some false else None
+initial_of mode region bound = if (hat_of mode region).has_initial region bound then Some false else None
 
 abbrev pub face_opened : {K : Type 0} → Zid → WhatAmI → Region → Bound → ℕ → Rows K → Face K
 face_opened zid whatami region bound first g =
@@ -191,9 +191,9 @@ tokens_from next [] = []
 tokens_from next (e ∷ es) = message.DeclareToken next e None 0 ∷ tokens_from (next + 1) es
 
 module _ {K : Type 0} (cmp : K → K → Ordering) (matching : K → K → Bool) where
-  -- a face to the north of a client or a peer is told of what is there
+  -- a new face is told of what is there where it is told unasked, and not by trees
   abbrev pub is_greeted : Rows K → Face K → Bool
-  is_greeted g f = is_north f.region && not (whatami_eq g.mode Router)
+  is_greeted g f = not (is_routed g f) && (hat_of_face g f).is_told_unasked f.region
 
   -- what south-bound faces hold, each pair of expression and options once, asked for now and later
   unfoldable pub held_south : Rows K → List (InterestRow K)
@@ -203,7 +203,7 @@ module _ {K : Type 0} (cmp : K → K → Ordering) (matching : K → K → Bool)
 
   -- the interests that a new face is sent
   abbrev pub opening_interests : Rows K → Face K → List (InterestRow K)
-  opening_interests g f = if is_greeted g f && bound_eq f.bound SouthBound then held_south g else []
+  opening_interests g f = if leads_up g.mode f then held_south g else []
 
   -- the tokens that a new face is told
   abbrev pub opening_tokens : Rows K → Face K → List K

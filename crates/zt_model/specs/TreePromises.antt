@@ -20,7 +20,8 @@ use Rattle.zt_model.specs.Rows.{Face, InterestRow, Rows}
 use Rattle.zt_model.specs.Shown.{interest_kept}
 use Rattle.zt_model.specs.Transcript.{Each}
 use Rattle.zt_model.specs.Visible.{keeps}
-use Rattle.zt_model.specs.Wants.{covers, is_about}
+use Rattle.zt_model.specs.Seen.{is_owed}
+use Rattle.zt_model.specs.Wants.{is_about}
 
 -- ---- trees
 
@@ -91,10 +92,10 @@ module _ {K : Type 0} (cmp : K → K → Ordering) (matching : K → K → Bool)
   abbrev pub holds_both : Face K → Bool
   holds_both f = list_any (λ row. is_current row.1.mode && (is_future row.1.mode && has_tokens row.1.options)) f.held
 
-  -- of what it covers, a face keeps exactly what is plainly live in its tree
+  -- of what is owed to it, a face keeps exactly what is plainly live in its tree
   pub record KnowsItsTree (s : Fabric K) (gateway : ℕ) (f : Face K) : Type 0 where
-    pub kept_is_live : (e : K) → covers matching f e ≡ true → keeps cmp f e ≡ true → IsPlainlyLive s gateway e
-    pub live_is_kept : (e : K) → covers matching f e ≡ true → IsPlainlyLive s gateway e → keeps cmp f e ≡ true
+    pub kept_is_live : (e : K) → is_owed matching f e ≡ true → keeps cmp f e ≡ true → IsPlainlyLive s gateway e
+    pub live_is_kept : (e : K) → is_owed matching f e ≡ true → IsPlainlyLive s gateway e → keeps cmp f e ≡ true
 
   -- Knowledge: where all links are empty, each open plain face that asked for tokens now and later knows its tree.
   abbrev pub KnowsTrees : Turn K → Type 0

@@ -3,9 +3,10 @@ use Rattle.std.specs.Prelude.{Bool, true, ◌&&◌, ◌||◌, if◌then◌else�
 use Rattle.std.specs.List.{list_any}
 use Rattle.zt_region.specs.declared.region.WhatAmI.{WhatAmI}
 use Rattle.zt_region.specs.declared.region.WhatAmI.TheVariants.{Peer}
-use Rattle.zt_region.specs.Region.{is_north, whatami_eq}
+use Rattle.zt_region.specs.Region.{whatami_eq}
 use Rattle.zt_protocol.specs.Interest.{is_current, has_tokens, without_aggregate}
 use Rattle.zt_protocol.specs.declared.interests.InterestOptions.{InterestOptions}
+use Rattle.zt_model.specs.Hat.{hat_of}
 use Rattle.zt_model.specs.Rows.{Face, InterestRow}
 
 -- AGGREGATE is kept by no face of mode Peer, and by no interest in tokens
@@ -26,10 +27,10 @@ module _ {K : Type 0} (matching : K → K → Bool) where
   unfoldable pub wants : Face K → K → Bool
   wants f e = list_any (λ row. asks_token row.1 e) f.held
 
-  -- the face is to know all of the expression's tokens, those too that were there before it asked
-  unfoldable pub covers : Face K → K → Bool
-  covers f e = is_north f.region || list_any (λ row. is_current row.1.mode && asks_token row.1 e) f.held
+  -- a face of a gateway of this mode is to know all of the expression's tokens, those too that were there before it asked
+  unfoldable pub covers : WhatAmI → Face K → K → Bool
+  covers mode f e = (hat_of mode f.region).is_told_unasked f.region || list_any (λ row. is_current row.1.mode && asks_token row.1 e) f.held
 
-  -- the face may be told of the expression
-  unfoldable pub seeks : Face K → K → Bool
-  seeks f e = is_north f.region || wants f e
+  -- a face of a gateway of this mode may be told of the expression
+  unfoldable pub seeks : WhatAmI → Face K → K → Bool
+  seeks mode f e = (hat_of mode f.region).is_told_unasked f.region || wants f e
