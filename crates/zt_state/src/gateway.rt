@@ -221,7 +221,7 @@ impl<K: Key> GatewayState<K> {
     pub fn find_seekers(&self, alloc: Global, expr: &K) -> Result<Option<Vec<u32>>, Memory>
         ensures rising { IsRising (λ f. f.number) self.now.faces }
         ensures found { IfOk result (λ found. IfSome found (λ numbers. numbers.items
-            ≡ map (λ f. f.number) (filter (λ f. seeks K.matching f expr.now) self.now.faces))) }
+            ≡ map (λ f. f.number) (filter (λ f. seeks K.matching self.now.mode f expr.now) self.now.faces))) }
     {
         self.seekers.find(alloc, expr)
     }

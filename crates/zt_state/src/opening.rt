@@ -10,6 +10,7 @@ use crate::gateway::GatewayState;
 use std::alloc::Global;
 use zt_face::FaceState;
 use zt_faces::Faces;
+use zt_hats::hat_of;
 use zt_keys::{Key, Memory};
 use zt_region::{Bound, Region, WhatAmI, Zid};
 use zt_token_index::Seekers;
@@ -34,14 +35,13 @@ fn open_in<K: Key>(
     faces.push(face, made)
 }
 
-// A mutual north peer has an initial interest.
+// Whether the initial interest of a new face is finalised, if it has one: at first it isn't.
 fn initial_of(mode: WhatAmI, region: Region, bound: Bound) -> Option<bool>
     ensures { result ≡ initial_of mode region bound }
 {
-    if mode == WhatAmI::Peer && region == Region::North && bound == Bound::North {
-        return Some(false);
-    }
-    None
+    hat_of(mode, region)
+        .has_initial(region, bound)
+        .then_some(false)
 }
 
 impl<K: Key> GatewayState<K> {

@@ -13,8 +13,8 @@ use Rattle.zt_protocol.specs.Interest.{has_tokens}
 use Rattle.zt_interest_index.specs.Holdings.{asks_from, is_about}
 use Rattle.zt_model.specs.Rows.{ById, Face, InterestRow}
 use Rattle.zt_model.specs.Wants as model
-use Rattle.zt_model.specs.Wants.{seeks, wants}
-use Rattle.zt_token_index.specs.Seekers.{token_rows, token_rows_of}
+use Rattle.zt_model.specs.Wants.{wants}
+use Rattle.zt_token_index.specs.Seekers.{may_seek, token_rows, token_rows_of}
 use Rattle.zt_token_index.proofs.Held.{any_tokens}
 
 by_ordering : {G : Type 0} (r : Ordering) → (r ≡ Less → G) → (r ≡ Equal → G) → (r ≡ Greater → G) → G
@@ -147,8 +147,8 @@ module _ {K : Type 0} (matching : K → K → Bool) (e : K) where
           ∙ turned (n == m) (has_tokens row.1.options) (model.is_about matching row.1.expr e) (list_any (λ r. model.asks_token matching r.1 e) rows)
 
   pub seeks_any : (n : ℕ) (fs : List (Face K))
-      → (list_any (λ f. (n == f.number) && is_north f.region) fs || list_any (asks_from matching e n) (flat_map token_rows fs)) ≡ list_any (λ f. (n == f.number) && seeks matching f e) fs
-  unfolding seeks wants
+      → (list_any (λ f. (n == f.number) && is_north f.region) fs || list_any (asks_from matching e n) (flat_map token_rows fs)) ≡ list_any (λ f. (n == f.number) && may_seek matching f e) fs
+  unfolding wants
   seeks_any n [] = refl
   seeks_any n (f ∷ fs) =
       let here = held_asks n f.number f.held in

@@ -16,7 +16,6 @@ use Rattle.zt_interest_index.specs.Held.{indexed-none}
 use Rattle.zt_interest_index.specs.Holders.{IsIndexOf}
 use Rattle.zt_interest_index.specs.Holdings.{asks_from}
 use Rattle.zt_model.specs.Rows.{ById, Face, InterestRow}
-use Rattle.zt_model.specs.Wants.{seeks}
 use Rattle.std.specs.FinMap.Entries.{put}
 use Rattle.std.proofs.lemmas.List.Folds.{list_any-append}
 use Rattle.zt_protocol.specs.Interest.{is_future}
@@ -30,7 +29,7 @@ use Rattle.zt_interest_index.specs.declared.bucket.Bucket.{Bucket}
 use Rattle.zt_model.specs.Hearing.{put_if, untold}
 use Rattle.zt_model.specs.Parts.{told_id}
 use Rattle.zt_model.specs.Routing.{asked_as, unheld}
-use Rattle.zt_token_index.specs.Seekers.{AreSeekers, IsKnown, IsOnlyOne, Leaves, Reseeks, Seeking, TokenRow, no_seekers, north_numbers, token_rows, token_rows_of}
+use Rattle.zt_token_index.specs.Seekers.{AreSeekers, IsKnown, IsOnlyOne, Leaves, Reseeks, Seeking, TokenRow, may_seek, no_seekers, north_numbers, token_rows, token_rows_of}
 use Rattle.zt_token_index.specs.Told.{id_of, told_at}
 use Rattle.zt_token_index.specs.Retold.{IsRetold, gone_id}
 use Rattle.zt_token_index.proofs.AmongFaces.{all-changed, all-kept, all-less, all-more, at-changed, at-kept, at-less, at-more, at-own, of-one}
@@ -203,13 +202,13 @@ module _ {K : Type 0} where
     -- those found are the faces that seek the expression
     pub seekers-found : (matching : K → K → Bool) (e : K) (seeking : Seeking K) (found : List ℕ) (fs : List (Face K)) → IsStrictlySortedBy nat_cmp (map (λ f. f.number) fs) → AreSeekers cmp anchored seeking fs
         → IsStrictlySortedBy nat_cmp found → ((n : ℕ) → is_in n found ≡ (list_any (λ m. n == m) seeking.north || list_any (asks_from matching e n) (flat_map token_rows fs)))
-        → found ≡ map (λ f. f.number) (filter (λ f. seeks matching f e) fs)
+        → found ≡ map (λ f. f.number) (filter (λ f. may_seek matching f e) fs)
     seekers-found matching e seeking found fs rising are sorted among =
-        sorted_same found (map (λ f. f.number) (filter (λ f. seeks matching f e) fs)) sorted (chosen_sorted (λ (f : Face K). f.number) (λ f. seeks matching f e) fs rising)
+        sorted_same found (map (λ f. f.number) (filter (λ f. may_seek matching f e) fs)) sorted (chosen_sorted (λ (f : Face K). f.number) (λ f. may_seek matching f e) fs rising)
         (λ n.
         among n
         ∙ ap (λ b. b || list_any (asks_from matching e n) (flat_map token_rows fs)) (in_tests n seeking.north)
         ∙ ap (λ ns. is_in n ns || list_any (asks_from matching e n) (flat_map token_rows fs)) are.north
         ∙ ap (λ b. b || list_any (asks_from matching e n) (flat_map token_rows fs)) (chosen_in (λ (f : Face K). f.number) n (λ f. is_north f.region) fs)
         ∙ seeks_any matching e n fs
-        ∙ sym (chosen_in (λ (f : Face K). f.number) n (λ f. seeks matching f e) fs))
+        ∙ sym (chosen_in (λ (f : Face K). f.number) n (λ f. may_seek matching f e) fs))

@@ -1,6 +1,7 @@
 -- The faces that may be told of tokens, as they are looked up.
 --     token_rows f                         the interests in tokens that a face holds, each under its number and id
 --     north_numbers faces                  the numbers of the faces to the north, in order
+--     may_seek matching f e                the face is to the north, or holds an interest in the tokens of an expression
 --     Seeking                              what is looked up: these numbers, an index of these interests, and one of what
 --                                          faces were told
 --     AreSeekers cmp anchored seeking faces       they are those of the faces
@@ -9,7 +10,7 @@
 --     Leaves cmp anchored f old new               the face goes
 --     IsKnown cmp anchored f message known seeking     the id is that under which the face was told the expression that
 --                                                 a message says is gone
-use Rattle.std.specs.Prelude.{◌≡◌, ℕ, ◌==◌, true, not, if◌then◌else◌, List, [], ◌∷◌, filter, map, Option}
+use Rattle.std.specs.Prelude.{◌≡◌, ℕ, Bool, ◌==◌, ◌||◌, true, not, if◌then◌else◌, List, [], ◌∷◌, filter, map, Option}
 use Rattle.std.specs.List.{AllByRecursion, flat_map, list_any}
 use Rattle.std.specs.declared.cmp.Ordering.{Ordering}
 use Rattle.zt_keys.specs.declared.anchor.Anchor.{Anchor}
@@ -19,6 +20,7 @@ use Rattle.zt_protocol.specs.declared.messages.Message.{Message}
 use Rattle.zt_interest_index.specs.Holders.{IsIndexOf}
 use Rattle.zt_interest_index.specs.declared.bucket.Bucket.{Bucket}
 use Rattle.zt_model.specs.Rows.{ById, Face, InterestRow}
+use Rattle.zt_model.specs.Wants.{wants}
 use Rattle.zt_token_index.specs.Told.{id_of, told_at}
 use Rattle.zt_face.specs.Told.{AreApart, heard_known}
 use Rattle.zt_model.specs.Hearing.{heard}
@@ -37,6 +39,10 @@ module _ {K : Type 0} where
 
   abbrev pub north_numbers : List (Face K) → List ℕ
   north_numbers fs = map (λ f. f.number) (filter (λ f. is_north f.region) fs)
+
+  -- which of these faces is told of a token, their hats say
+  abbrev pub may_seek : (K → K → Bool) → Face K → K → Bool
+  may_seek matching f e = is_north f.region || wants matching f e
 
 pub record Seeking (K : Type 0) : Type 0 where
   pub north : List ℕ

@@ -8,9 +8,8 @@ ghost use Rattle.zt_interest_index.specs.Holders.{HasAllIn};
 ghost use Rattle.zt_model.specs.Hearing.{heard};
 ghost use Rattle.zt_model.specs.Routing.{asked_as, unheld};
 ghost use Rattle.zt_model.specs.Rows.{Face};
-ghost use Rattle.zt_model.specs.Wants.{seeks};
 ghost use Rattle.zt_token_index.specs.Seekers.{AreSeekers, IsKnown, Leaves, Reseeks, no_seekers};
-ghost use Rattle.zt_token_index.specs.Seekers.{north_numbers, token_rows};
+ghost use Rattle.zt_token_index.specs.Seekers.{may_seek, north_numbers, token_rows};
 ghost use Rattle.zt_token_index.specs.Told.{AreRising, id_of, told_at};
 
 use crate::ToldIndex;
@@ -158,7 +157,7 @@ impl<K: Key> Seekers<K> {
             IsStrictlySortedBy nat_cmp (map (λ f. f.number) fs) →
             AreSeekers K.cmp K.anchored self.now fs →
             numbers.items
-            ≡ map (λ f. f.number) (filter (λ f. seeks K.matching f expr.now) fs))) }
+            ≡ map (λ f. f.number) (filter (λ f. may_seek K.matching f expr.now) fs))) }
     {
         self.index.holders_and(alloc, expr, &self.north)
     }

@@ -6,6 +6,7 @@ use Rattle.zt_keys.specs.Test.{by_test}
 use Rattle.zt_region.specs.Region.{is_north}
 use Rattle.zt_region.specs.declared.region.Region.{Region}
 use Rattle.zt_model.specs.Lists.{first_where, is_some_and, same}
+use Rattle.zt_model.specs.Hat.{hat_of_face}
 use Rattle.zt_model.specs.Parts.{is_routed, told_id}
 use Rattle.zt_model.specs.Rows.{ById, Face, Rows}
 use Rattle.zt_model.specs.Telling.{forget_to}
@@ -76,28 +77,28 @@ module _ {K : Type 0} (cmp : K → K → Ordering) (e : K) where
   untold (row ∷ rows) none = let here : same cmp e row.1 ≡ false = or_false_first _ _ none in rw here (untold rows (or_false_second _ _ none))
 
   module _ (matching : K → K → Bool) (g : Rows K) (source : Region) where
-    unwanted : (f : Face K) → seeks matching f e ≡ false → wants matching f e ≡ false
+    unwanted : (f : Face K) → seeks matching g.mode f e ≡ false → wants matching f e ≡ false
     unfolding seeks
-    unwanted f h = or_false_second (is_north f.region) (wants matching f e) h
+    unwanted f h = or_false_second ((hat_of_face g f).is_told_unasked f.region) (wants matching f e) h
 
-    unsought-unheard : (f : Face K) → seeks matching f e ≡ false → keeps cmp f e ≡ false → forget_to cmp matching g source e f ≡ []
+    unsought-unheard : (f : Face K) → seeks matching g.mode f e ≡ false → keeps cmp f e ≡ false → forget_to cmp matching g source e f ≡ []
     unfolding forget_to
     unsought-unheard f sought kept =
         let none = untold f.told kept in
         let never = unwanted f sought in
         by_test (is_routed g f || is_visible cmp g f.region e) (λ t. rw t refl) (λ t. rw (t, none, never) refl)
 
-    pub others-unheard : (pairs : List (ℕ × ℕ)) → AreToldIds cmp e pairs g.faces → (numbers : List ℕ) → IsRising (λ f. f.number) g.faces → numbers ≡ map (λ f. f.number) (filter (λ f. seeks matching f e) g.faces)
+    pub others-unheard : (pairs : List (ℕ × ℕ)) → AreToldIds cmp e pairs g.faces → (numbers : List ℕ) → IsRising (λ f. f.number) g.faces → numbers ≡ map (λ f. f.number) (filter (λ f. seeks matching g.mode f e) g.faces)
         → length pairs ≡ length (filter (is_told_at pairs g.faces) numbers)
-        → AllByRecursion (λ f. seeks matching f e ≡ false → forget_to cmp matching g source e f ≡ []) g.faces
+        → AllByRecursion (λ f. seeks matching g.mode f e ≡ false → forget_to cmp matching g source e f ≡ []) g.faces
     others-unheard pairs told numbers rising are is =
         let many =
         sym told.count
         ∙ is
         ∙ ap (λ ns. length (filter (is_told_at pairs g.faces) ns)) are
-        ∙ counted-at pairs g.faces g.faces (λ f. seeks matching f e) told.ids (all-found g.faces rising) in
-        each g.faces (all-both (λ f. seeks matching f e) (λ f. keeps cmp f e) g.faces many)
+        ∙ counted-at pairs g.faces g.faces (λ f. seeks matching g.mode f e) told.ids (all-found g.faces rising) in
+        each g.faces (all-both (λ f. seeks matching g.mode f e) (λ f. keeps cmp f e) g.faces many)
       where
-        each : (fs : List (Face K)) → AllByRecursion (λ f. seeks matching f e ≡ false → keeps cmp f e ≡ false) fs → AllByRecursion (λ f. seeks matching f e ≡ false → forget_to cmp matching g source e f ≡ []) fs
+        each : (fs : List (Face K)) → AllByRecursion (λ f. seeks matching g.mode f e ≡ false → keeps cmp f e ≡ false) fs → AllByRecursion (λ f. seeks matching g.mode f e ≡ false → forget_to cmp matching g source e f ≡ []) fs
         each [] h = tt
         each (f ∷ fs) h = (λ sought. unsought-unheard f sought (h.0 sought), each fs h.1)

@@ -26,24 +26,24 @@ last-holds true true true false e h = refl
 last-holds true true true true e h = sym h
 
 module _ {K : Type 0} (matching : K → K → Bool) (g : Rows K) (source : Region) (e : K) (f : Face K) where
-  pub unsought : seeks matching f e ≡ false → (told : Option ℕ) → is_told_by matching g source e f told ≡ false
-  unsought h told = last-fails (not (is_routed g f)) (admits g.refused source f.region) (shows f.region source) (is_none told) (seeks matching f e) h
+  pub unsought : seeks matching g.mode f e ≡ false → (told : Option ℕ) → is_told_by matching g source e f told ≡ false
+  unsought h told = last-fails (not (is_routed g f)) (admits g.refused source f.region) (shows g.mode f.region source) (is_none told) (seeks matching g.mode f e) h
 
   module _ (cmp : K → K → Ordering) where
     -- by the id under which it was told the expression
     pub told-by : (told : Option ℕ) → told ≡ told_id cmp e f.told → is_told_by matching g source e f told ≡ is_told cmp matching g source e f
     told-by told is =
-        ap (λ b. not (is_routed g f) && (admits g.refused source f.region && shows f.region source && b && seeks matching f e)) (ap is_none is ∙ told_is_none cmp e f.told)
+        ap (λ b. not (is_routed g f) && (admits g.refused source f.region && shows g.mode f.region source && b && seeks matching g.mode f e)) (ap is_none is ∙ told_is_none cmp e f.told)
 
     pub tells-by : (told : Option ℕ) → told ≡ told_id cmp e f.told → (if is_told_by matching g source e f told then declared_to e f else []) ≡ tell_to cmp matching g source e f
     unfolding tell_to
     tells-by told is = ap (λ b. if b then declared_to e f else []) (told-by told is)
 
-    pub sought-told : (told : Option ℕ) → told ≡ told_id cmp e f.told → seeks matching f e ≡ true → (if is_seeker_told g source f told then declared_to e f else []) ≡ tell_to cmp matching g source e f
+    pub sought-told : (told : Option ℕ) → told ≡ told_id cmp e f.told → seeks matching g.mode f e ≡ true → (if is_seeker_told g source f told then declared_to e f else []) ≡ tell_to cmp matching g source e f
     sought-told told is h =
         ap (λ b. if b then declared_to e f else [])
-        (last-holds (not (is_routed g f)) (admits g.refused source f.region) (shows f.region source) (is_none told) (seeks matching f e) h)
+        (last-holds (not (is_routed g f)) (admits g.refused source f.region) (shows g.mode f.region source) (is_none told) (seeks matching g.mode f e) h)
         ∙ tells-by told is
 
-    pub unsought-untold : seeks matching f e ≡ false → tell_to cmp matching g source e f ≡ []
+    pub unsought-untold : seeks matching g.mode f e ≡ false → tell_to cmp matching g source e f ≡ []
     unsought-untold h = let told = told_id cmp e f.told in sym (tells-by told refl) ∙ ap (λ b. if b then declared_to e f else []) (unsought h told)

@@ -80,13 +80,13 @@ module _ {K : Type 0} (cmp : K → K → Ordering) where
         sym (keys-alone keys) ∙ ap keys_of entries ∙ keys-alone (in_key_order cmp list)
 
     -- what a region is shown by counts of the live tokens
-    pub visible-counted : (g : Rows K) (own : Region) (e : K) (counts : List (K × List (Region × ℕ))) → AreCountsOf cmp counts (live_rows g) → is_shown_in (shows own) (counts_at cmp e counts) ≡ is_visible cmp g own e
+    pub visible-counted : (g : Rows K) (own : Region) (e : K) (counts : List (K × List (Region × ℕ))) → AreCountsOf cmp counts (live_rows g) → is_shown_in (shows g.mode own) (counts_at cmp e counts) ≡ is_visible cmp g own e
     unfolding is_visible
-    visible-counted g own e counts are = counts-shown cmp (shows own) e counts (live_rows g) are
+    visible-counted g own e counts are = counts-shown cmp (shows g.mode own) e counts (live_rows g) are
 
     pub visible-listed : ((x y : K) → cmp x y ≡ Equal → x ≡ y) → (g : Rows K) (own : Region) (counts : List (K × List (Region × ℕ))) → AreCountsOf cmp counts (live_rows g) → IsStrictlySortedBy cmp (keys_of counts)
-        → shown_keys (shows own) counts ≡ visible_expressions cmp g own
+        → shown_keys (shows g.mode own) counts ≡ visible_expressions cmp g own
     unfolding visible_expressions
     visible-listed one g own counts are sorted =
-        keys-listed one (shown_keys (shows own) counts) (map (λ row. row.1) (filter (λ row. shows own row.0) (live_rows g))) (shown-sorted cmp o (shows own) counts sorted)
-        (λ q. among-shown cmp o (shows own) q counts sorted ∙ counts-shown cmp (shows own) q counts (live_rows g) are ∙ sym (among-kept (shows own) q (live_rows g)))
+        keys-listed one (shown_keys (shows g.mode own) counts) (map (λ row. row.1) (filter (λ row. shows g.mode own row.0) (live_rows g))) (shown-sorted cmp o (shows g.mode own) counts sorted)
+        (λ q. among-shown cmp o (shows g.mode own) q counts sorted ∙ counts-shown cmp (shows g.mode own) q counts (live_rows g) are ∙ sym (among-kept (shows g.mode own) q (live_rows g)))

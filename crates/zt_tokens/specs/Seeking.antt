@@ -18,7 +18,7 @@ module _ {K : Type 0} where
 
   -- whether a face that seeks the expression is told of a token of it
   abbrev pub is_seeker_told : Rows K → Region → Face K → Option ℕ → Bool
-  is_seeker_told g source f known = not (is_routed g f) && (admits g.refused source f.region && shows f.region source && is_none known)
+  is_seeker_told g source f known = not (is_routed g f) && (admits g.refused source f.region && shows g.mode f.region source && is_none known)
 
   -- what a face hears that seeks the expression
   abbrev pub tell_seeker : Rows K → Region → K → List (ℕ × ℕ) → Face K → List (Message K)
@@ -27,7 +27,7 @@ module _ {K : Type 0} where
   module _ (matching : K → K → Bool) where
     -- whether a face is told of a token of the expression
     abbrev pub is_told_by : Rows K → Region → K → Face K → Option ℕ → Bool
-    is_told_by g source e f known = not (is_routed g f) && (admits g.refused source f.region && shows f.region source && is_none known && seeks matching f e)
+    is_told_by g source e f known = not (is_routed g f) && (admits g.refused source f.region && shows g.mode f.region source && is_none known && seeks matching g.mode f e)
 
     -- what a face hears
     abbrev pub tell_among : Rows K → Region → K → List (ℕ × ℕ) → Face K → List (Message K)

@@ -3,7 +3,7 @@ ghost use Rattle.std.specs.Prelude.{◌≡◌, ◌++◌, ◌∷◌, ◌&&◌, []
 ghost use Rattle.std.specs.Prelude.{filter, if◌then◌else◌, is_some, length, map, true};
 ghost use Rattle.std.specs.List.{flat_map};
 ghost use Rattle.zt_protocol.specs.declared.messages.Message.TheVariants.{UndeclareToken};
-ghost use Rattle.zt_model.specs.Strategy.{strategy_of, is_client_hat};
+ghost use Rattle.zt_model.specs.Hat.{hat_of_face};
 ghost use Rattle.zt_model.specs.Wants.{wants};
 ghost use Rattle.zt_model.specs.Telling.{forget, forget_untold};
 ghost use Rattle.zt_model.specs.Visible.{shows};
@@ -11,7 +11,7 @@ ghost use Rattle.zt_token_index.specs.Told.{AreRising, id_of};
 ghost use Rattle.zt_tokens.specs.Gone.{IsGone, forget_by, forget_told, is_seen};
 ghost use Rattle.zt_tokens.specs.Walks.{given_at, is_told_at, sent_to};
 
-use crate::questions::{find_face, is_client_region, is_routed, is_visible, shows, wants};
+use crate::questions::{find_face, hat_of_face, is_routed, is_visible, shows, wants};
 use crate::walking::{FaceRule, say_each};
 use std::alloc::Global;
 use zt_keys::{Key, Memory};
@@ -30,9 +30,9 @@ fn is_gone<K: Key>(g: &GatewayState<K>, expr: &K) -> bool
 // Whether a face that wasn't told the expression and doesn't see it hears that it is gone.
 fn hears_untold<K: Key>(g: &GatewayState<K>, source: Region, expr: &K, f: &FaceState<K>) -> bool
     ensures { result ≡ (wants K.matching f.now expr.now
-        && not (is_client_hat (strategy_of g.now.mode f.now.region)) && shows f.now.region source) }
+        && (hat_of_face g.now f.now).undeclares_untold && shows g.now.mode f.now.region source) }
 {
-    shows(f.region(), source) && !is_client_region(g.mode(), f.region()) && wants(f, expr)
+    shows(g.mode(), f.region(), source) && hat_of_face(g, f).undeclares_untold() && wants(f, expr)
 }
 
 // What a face hears of an expression that is gone from a region. Of one that is gone everywhere no

@@ -4,7 +4,6 @@
 
 mod answering;
 mod forgetting;
-mod ordering;
 mod questions;
 mod telling;
 mod visibility;
@@ -14,10 +13,7 @@ pub use answering::{
     answer, answer_interest, answered_expressions, is_answered_by, prepare_answers,
 };
 pub use forgetting::forget;
-pub use ordering::{KeysInOrder, insert_in_order};
-pub use questions::{
-    find_face, is_client_region, is_routed, is_router_region, is_told, is_visible, shows, wants,
-};
+pub use questions::{find_face, hat_of_face, is_routed, is_told, is_visible, shows, wants};
 pub use telling::tell;
 pub use visibility::visible_expressions;
 pub use walking::{FaceRule, say_at, say_each};

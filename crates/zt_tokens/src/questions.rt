@@ -2,11 +2,13 @@
 ghost use Rattle.std.specs.Prelude.{◌≡◌};
 ghost use Rattle.std.specs.Option.{option_copied};
 ghost use Rattle.zt_model.specs.Parts.{find_face, is_routed};
-ghost use Rattle.zt_model.specs.Strategy.{strategy_of, is_client_hat, is_router_hat};
+ghost use Rattle.zt_hats.specs.Rules.{strategy};
+ghost use Rattle.zt_model.specs.Strategy.{strategy_of};
 ghost use Rattle.zt_model.specs.Visible.{is_visible, shows};
 ghost use Rattle.zt_model.specs.Wants.{seeks, wants};
 ghost use Rattle.zt_tokens.specs.Seeking.{is_seeker_told, is_told_by};
 
+use zt_hats::{Hat, hat_of};
 use zt_indexes::RegionTest;
 use zt_keys::Key;
 use zt_protocol::TokenId;
@@ -30,51 +32,34 @@ pub fn wants<K: Key>(f: &FaceState<K>, expr: &K) -> bool
         .any(|(_, interest)| interest.asks_token(expr))
 }
 
-/// Whether the face may be told of the expression.
+/// The hat of the face's region.
+pub fn hat_of_face<K: Key>(g: &GatewayState<K>, f: &FaceState<K>) -> Hat
+    ensures { strategy result ≡ strategy_of g.now.mode f.now.region }
+{
+    hat_of(g.mode(), f.region())
+}
+
+/// Whether a face of a gateway of this mode may be told of the expression.
 #[tactic(auto, unfolding(zt_model::specs::Wants::seeks))]
-pub fn seeks<K: Key>(f: &FaceState<K>, expr: &K) -> bool
-    ensures { result ≡ seeks K.matching f.now expr.now }
+pub fn seeks<K: Key>(mode: WhatAmI, f: &FaceState<K>, expr: &K) -> bool
+    ensures { result ≡ seeks K.matching mode f.now expr.now }
 {
-    f.region() == Region::North || wants(f, expr)
+    hat_of(mode, f.region()).is_told_unasked(f.region()) || wants(f, expr)
 }
 
-/// Whether faces of the region `own` are shown tokens of the region `source`.
-pub fn shows(own: Region, source: Region) -> bool
-    ensures { result ≡ shows own source }
+/// Whether faces of the region `own` of a gateway of this mode are shown tokens of the region
+/// `source`.
+pub fn shows(mode: WhatAmI, own: Region, source: Region) -> bool
+    ensures { result ≡ shows mode own source }
 {
-    match own {
-        Region::Local
-        | Region::South {
-            mode: WhatAmI::Client,
-            ..
-        } => true,
-        Region::North | Region::South { .. } => own != source,
-    }
+    hat_of(mode, own).shares_tokens() || source != own
 }
 
-/// Whether the region is one of routers.
-pub fn is_router_region(mode: WhatAmI, region: Region) -> bool
-    ensures { result ≡ is_router_hat (strategy_of mode region) }
-{
-    match region {
-        Region::North => mode == WhatAmI::Router,
-        Region::Local => false,
-        Region::South { mode, .. } => mode == WhatAmI::Router,
-    }
-}
-
-/// Whether the region runs the client strategy: north of a client gateway.
-pub fn is_client_region(mode: WhatAmI, region: Region) -> bool
-    ensures { result ≡ is_client_hat (strategy_of mode region) }
-{
-    region == Region::North && mode == WhatAmI::Client
-}
-
-/// Whether the face belongs to a router region.
+/// Whether the face hears of tokens by trees.
 pub fn is_routed<K: Key>(g: &GatewayState<K>, f: &FaceState<K>) -> bool
     ensures { result ≡ is_routed g.now f.now }
 {
-    is_router_region(g.mode(), f.region())
+    hat_of_face(g, f).goes_by_trees()
 }
 
 /// Whether a face that seeks an expression is told of a token of it that was declared in the region
@@ -87,7 +72,10 @@ pub fn is_seeker_told<K: Key>(
 ) -> bool
     ensures { result ≡ is_seeker_told g.now source f.now known }
 {
-    !is_routed(g, f) && g.admits(source, f.region()) && shows(f.region(), source) && known.is_none()
+    !is_routed(g, f)
+        && g.admits(source, f.region())
+        && shows(g.mode(), f.region(), source)
+        && known.is_none()
 }
 
 /// Whether the face is told of a token of the expression that was declared in the region `source`.
@@ -101,20 +89,23 @@ pub fn is_told<K: Key>(
 ) -> bool
     ensures { result ≡ is_told_by K.matching g.now source expr.now f.now known }
 {
-    is_seeker_told(g, source, f, known) && seeks(f, expr)
+    is_seeker_told(g, source, f, known) && seeks(g.mode(), f, expr)
 }
 
-/// Of regions those whose tokens faces of this region are shown.
+/// Of regions those whose tokens faces of a region are shown, in a gateway of this mode.
 #[derive(Drop)]
-pub struct ShownTo(pub Region);
+pub struct ShownTo {
+    pub mode: WhatAmI,
+    pub own: Region,
+}
 
 impl RegionTest for ShownTo {
     ghost use Rattle.zt_model.specs.Visible.{shows};
 
-    ghost passes = { λ t. shows t.0 };
+    ghost passes = { λ t. shows t.mode t.own };
 
     fn passes(&self, region: Region) -> bool {
-        shows(self.0, region)
+        shows(self.mode, self.own, region)
     }
 }
 
@@ -122,5 +113,6 @@ impl RegionTest for ShownTo {
 pub fn is_visible<K: Key>(g: &GatewayState<K>, own: Region, expr: &K) -> bool
     ensures { result ≡ is_visible K.cmp g.now own expr.now }
 {
-    g.live().is_shown(expr, &ShownTo(own))
+    let mode = g.mode();
+    g.live().is_shown(expr, &ShownTo { mode, own })
 }

@@ -17,7 +17,8 @@ pub fn visible_expressions<K: Key>(
 ) -> Result<Vec<K>, Memory>
     ensures { IfOk result (λ exprs. exprs.items ≡ visible_expressions K.cmp g.now own) }
 {
-    g.live().shown_keys(alloc, &ShownTo(own))
+    let mode = g.mode();
+    g.live().shown_keys(alloc, &ShownTo { mode, own })
 }
 
 /// The expressions that match the key and are visible to faces of a region, in key order, each
@@ -31,5 +32,6 @@ pub fn visible_matches<K: Key>(
     ensures { IfOk result (λ exprs. exprs.items
         ≡ filter (K.matching key.now) (visible_expressions K.cmp g.now own)) }
 {
-    g.live().matching_keys(alloc, &ShownTo(own), key)
+    let mode = g.mode();
+    g.live().matching_keys(alloc, &ShownTo { mode, own }, key)
 }

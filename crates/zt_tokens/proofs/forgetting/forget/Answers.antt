@@ -28,8 +28,8 @@ returns-then-count-forgets g c =
     let rising = c.in_ok-numbers.ensures.rising in
     c.in_ok-sends.ensures.said
     ∙ ap (flat_map (given_at (sent_to by) rows.faces)) numbers
-    ∙ chosen_alike rule by rows.faces (λ f. seeks matching f e) rising
-    (each-then (λ f. id_of f.number pairs ≡ told_id cmp e f.told) (λ f. seeks matching f e ≡ true → by f ≡ rule f) (λ f is sought. forgets-by cmp matching c.is_gone.result rows source e c.is_gone.ensures f (id_of f.number pairs) is) rows.faces told.ids)
+    ∙ chosen_alike rule by rows.faces (λ f. seeks matching rows.mode f e) rising
+    (each-then (λ f. id_of f.number pairs ≡ told_id cmp e f.told) (λ f. seeks matching rows.mode f e ≡ true → by f ≡ rule f) (λ f is sought. forgets-by cmp matching c.is_gone.result rows source e c.is_gone.ensures f (id_of f.number pairs) is) rows.faces told.ids)
     (others-unheard cmp e matching rows source pairs told c.deref.result.now rising numbers (sym c.if-count-forgets.true ∙ c.in_ok-sends.ensures.counted))
 
 pub returns : goal.returns

@@ -25,9 +25,9 @@ returns-in-Some g c =
     (λ sends given.
     given
     ∙ ap (flat_map (given_at (sent_to by) rows.faces)) numbers
-    ∙ chosen_alike rule by rows.faces (λ f. seeks matching f e) c.in_ok-numbers.ensures.rising
-    (each-then (λ f. id_of f.number pairs ≡ told_id cmp e f.told) (λ f. seeks matching f e ≡ true → by f ≡ rule f) (λ f. sought-told matching rows source e f cmp (id_of f.number pairs)) rows.faces c.told_at-told.ensures.told.ids)
-    (everywhere (λ f. seeks matching f e ≡ false → rule f ≡ []) (λ f. unsought-untold matching rows source e f cmp) rows.faces))
+    ∙ chosen_alike rule by rows.faces (λ f. seeks matching rows.mode f e) c.in_ok-numbers.ensures.rising
+    (each-then (λ f. id_of f.number pairs ≡ told_id cmp e f.told) (λ f. seeks matching rows.mode f e ≡ true → by f ≡ rule f) (λ f. sought-told matching rows source e f cmp (id_of f.number pairs)) rows.faces c.told_at-told.ensures.told.ids)
+    (everywhere (λ f. seeks matching rows.mode f e ≡ false → rule f ≡ []) (λ f. unsought-untold matching rows source e f cmp) rows.faces))
     c.say_at.ensures
 
 pub returns-in-None : goal.returns-in-None
