@@ -1,5 +1,5 @@
 -- Why an accepted call is accepted: no cause of its list holds.
-use Rattle.std.proofs.Common.{◌≡◌, ℕ, Bool, true, false, ◌&&◌, ◌==◌, [], ◌∷◌, Some, None, refl, sym, ap, ◌∙◌}
+use Rattle.std.proofs.Common.{◌≡◌, ℕ, Bool, true, false, ◌∷◌, Some, None, refl, sym, ap, ◌∙◌}
 use Rattle.zt_protocol.specs.declared.errors.Refusal.{Refusal}
 use Rattle.zt_model.specs.Lists.{is_some_and}
 use Rattle.zt_model.specs.Refusals.{Causes, first_cause, on_face}

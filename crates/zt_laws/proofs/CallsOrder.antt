@@ -134,7 +134,7 @@ module _ {K : Type 0} (cmp : K → K → Ordering) (matching : K → K → Bool)
       cases (Some e) = silent_hiding f.region e
 
   pub silent_finalising : (n id : ℕ) (interest : InterestRow K) → Each (IsSilentPart cmp matching) (finalising cmp matching n id interest)
-  silent_finalising n id interest = (quiet_face cmp matching n (unheld id) (λ k. refl) (λ k rows. record { live = rows.live; held = rise_without_id id k.held rows.held; locals = rows.locals; pendings = rows.pendings; asks = rows.asks }), (λ g. each_ruled_one DrawsNothing n (untell_to cmp matching) g (silent_untell cmp matching), (λ g. each_ruled_one DrawsNothing n (final_of_both id interest) g (silent_final_of_both id interest), (λ g. each_ruled DrawsNothing (end_upstream_to cmp matching g interest) g.faces (silent_end_upstream cmp matching g interest), tt))))
+  silent_finalising n id interest = (quiet_face cmp matching n (unheld id) (λ k. refl) (λ k rows. record { live = rows.live; held = rise_without_id id k.held rows.held; locals = rows.locals; pendings = rows.pendings; asks = rows.asks }), (λ g. each_ruled_one DrawsNothing n (untell_to cmp matching g) g (silent_untell cmp matching g), (λ g. each_ruled_one DrawsNothing n (final_of_both id interest) g (silent_final_of_both id interest), (λ g. each_ruled DrawsNothing (end_upstream_to cmp matching g interest) g.faces (silent_end_upstream cmp matching g interest), tt))))
 
   pub silent_ending : (n id : ℕ) → Each (IsSilentPart cmp matching) (ending n id)
   silent_ending n id = (quiet_face cmp matching n (ended id) (λ k. refl) (λ k rows. record { live = rows.live; held = rows.held; locals = rows.locals; pendings = rise_without_id id k.pendings rows.pendings; asks = rows.asks }), (λ g. each_ruled DrawsNothing (finish_to g n id) g.faces (silent_finish g n id), tt))

@@ -8,13 +8,13 @@ use Rattle.zt_region.specs.Region.{region_eq, zid_eq}
 use Rattle.zt_protocol.specs.Plain.{CloseFace}
 use Rattle.zt_protocol.specs.declared.messages.Message.{Message}
 use Rattle.zt_model.specs.Closing.{closing, leaving, without_asks, without_face}
+use Rattle.zt_model.specs.Hat.{hat_of}
 use Rattle.zt_model.specs.Hearing.{heard_all}
 use Rattle.zt_model.specs.Lists.{first_where, same, without_id}
 use Rattle.zt_model.specs.Parts.{unsaid_to}
 use Rattle.zt_model.specs.Routing.{ended, ending, finalising, unheld}
 use Rattle.zt_model.specs.Rows.{Ask, ById, Face, InterestRow, Pending, RoutedRow, Rows}
 use Rattle.zt_model.specs.Says.{Alter, Part, Say, altered, altered_by, find_face, is_routed, parts_of, undeclared, undeclaring, unregistered, with_face, forget}
-use Rattle.zt_model.specs.Strategy.{is_router_hat, strategy_of}
 use Rattle.zt_model.specs.Transcript.{Each}
 use Rattle.zt_model.specs.Trees.{hiding, is_hidden, without_own_rows}
 use Rattle.zt_model.specs.Visible.{rows_of_face}
@@ -137,7 +137,7 @@ module _ {K : Type 0} (cmp : K → K → Ordering) (matching : K → K → Bool)
           ∙ ap (λ (rows : List (RoutedRow K)). record g { routed = rows; faces = beside.faces })
           (filter_alike (λ row. not (zid_eq row.source g.zid && (same cmp e row.expr && is_hidden cmp (record g { faces = beside.faces }) source e row.region))) (λ row. not (zid_eq row.source g.zid && (same cmp e row.expr && is_hidden cmp g source e row.region))) g.routed
           (each_always (λ row. not (zid_eq row.source g.zid && (same cmp e row.expr && is_hidden cmp (record g { faces = beside.faces }) source e row.region)) ≡ not (zid_eq row.source g.zid && (same cmp e row.expr && is_hidden cmp g source e row.region)))
-          (λ row. ap (λ b. not (zid_eq row.source g.zid && (same cmp e row.expr && (is_router_hat (strategy_of g.mode row.region) && (not (region_eq row.region source) && not b)))))
+          (λ row. ap (λ b. not (zid_eq row.source g.zid && (same cmp e row.expr && ((hat_of g.mode row.region).goes_by_trees && (not (region_eq row.region source) && not b)))))
           (visible_alike cmp g beside.faces row.region e (rows_by_lives beside.faces ∙ ap (flat_map (λ (t : ℕ × Region × ById K). map (λ row. (t.1, row.1)) t.2)) beside.lives_are ∙ sym (rows_by_lives g.faces)))) g.routed));
       lives_are = beside.lives_are;
       others_are = beside.others_are;

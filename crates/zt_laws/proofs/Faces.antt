@@ -1,12 +1,12 @@
 -- Changes of one face and of all faces alike, and what they leave.
-use Rattle.std.proofs.Common.{◌≡◌, ℕ, ◌≤◌, Bool, true, false, cond, not, if◌then◌else◌, ◌&&◌, ◌==◌, List, map, refl, ap, ◌∙◌}
+use Rattle.std.proofs.Common.{◌≡◌, ℕ, Bool, true, false, cond, not, if◌then◌else◌, ◌&&◌, ◌==◌, List, map, refl, ap, ◌∙◌}
 use Rattle.std.specs.declared.cmp.Ordering.{Ordering}
 use Rattle.zt_region.specs.declared.region.Region.{Region}
 use Rattle.zt_region.specs.Admission.{admits}
+use Rattle.zt_model.specs.Hat.{hat_of}
 use Rattle.zt_model.specs.Hearing.{rows_heard}
 use Rattle.zt_model.specs.Rows.{Face, Rows}
 use Rattle.zt_model.specs.Says.{Part, altered_by, is_routed, is_told, said_by, with_face}
-use Rattle.zt_model.specs.Strategy.{is_router_hat, strategy_of}
 use Rattle.zt_model.specs.Visible.{keeps, shows}
 use Rattle.zt_model.specs.Wants.{seeks}
 use Rattle.zt_laws.proofs.Lists.{map-map}
@@ -35,6 +35,6 @@ module _ {K : Type 0} (cmp : K → K → Ordering) (matching : K → K → Bool)
 
   pub is_told_alike : (g : Rows K) (source : Region) (e : K) (f h : Face K) → f.region ≡ h.region → f.told ≡ h.told → f.held ≡ h.held → is_told cmp matching g source e f ≡ is_told cmp matching g source e h
   is_told_alike g source e f h region_ told_ held_ =
-      ap (λ (r : Region). not (is_router_hat (strategy_of g.mode r)) && (admits g.refused source r && shows r source && not (keeps cmp f e) && seeks matching f e)) region_
-      ∙ ap (λ b. not (is_routed g h) && (admits g.refused source h.region && shows h.region source && not (keeps cmp f e) && b)) (seeks_alike matching f h e region_ held_)
-      ∙ ap (λ (rows : List (ℕ × K)). not (is_routed g h) && (admits g.refused source h.region && shows h.region source && not (keeps cmp (record h { told = rows }) e) && seeks matching h e)) told_
+      ap (λ (r : Region). not ((hat_of g.mode r).goes_by_trees) && (admits g.refused source r && shows g.mode r source && not (keeps cmp f e) && seeks matching g.mode f e)) region_
+      ∙ ap (λ b. not (is_routed g h) && (admits g.refused source h.region && shows g.mode h.region source && not (keeps cmp f e) && b)) (seeks_alike matching g.mode f h e region_ held_)
+      ∙ ap (λ (rows : List (ℕ × K)). not (is_routed g h) && (admits g.refused source h.region && shows g.mode h.region source && not (keeps cmp (record h { told = rows }) e) && seeks matching g.mode h e)) told_

@@ -1,18 +1,18 @@
 -- What forgetting an expression leaves at a face.
-use Rattle.std.proofs.Common.{◌≡◌, ◌⊎◌, ℕ, Bool, true, false, cond, not, if◌then◌else◌, ◌&&◌, ◌||◌, [], ◌∷◌, Option, Some, None, refl, sym, ap, ◌∙◌, ⊎_elim}
+use Rattle.std.proofs.Common.{◌≡◌, ℕ, Bool, true, false, cond, not, if◌then◌else◌, ◌&&◌, ◌||◌, [], ◌∷◌, Option, Some, None, refl, sym, ap, ◌∙◌}
 use Rattle.std.proofs.lemmas.Bool.{not_from_false}
 use Rattle.std.specs.Cmp.{IsTotalOrder}
 use Rattle.std.specs.declared.cmp.Ordering.{Ordering}
 use Rattle.std.specs.declared.cmp.Ordering.TheVariants.{Equal}
 use Rattle.zt_region.specs.declared.region.Region.{Region}
 use Rattle.zt_protocol.specs.declared.messages.Message.TheVariants.{UndeclareToken}
+use Rattle.zt_model.specs.Hat.{hat_of_face}
 use Rattle.zt_model.specs.Hearing.{heard_all}
 use Rattle.zt_model.specs.Lists.{same}
 use Rattle.zt_model.specs.Rows.{ById, Face, Rows}
 use Rattle.zt_model.specs.Says.{forget_to, is_routed, told_id}
 use Rattle.zt_model.specs.Visible.{is_visible, shows}
 use Rattle.zt_model.specs.Wants.{wants}
-use Rattle.zt_model.specs.Strategy.{is_client_hat, strategy_of}
 use Rattle.zt_laws.specs.Sound.{IsToldInOrder}
 use Rattle.zt_laws.proofs.Keys.{any_and, and_back, same_is}
 use Rattle.zt_laws.proofs.Lists.{by_test, each_weaker, each_fails, any_alike, any-filter, filter_all}
@@ -44,7 +44,7 @@ module _ {K : Type 0} (cmp : K → K → Ordering) where
     heard_forget matching now g source e f ordered =
         by_test (is_routed g f || is_visible cmp g f.region e)
         (λ here. rw here refl)
-        (λ here. rw here (heard_forgotten now (wants matching f e && not (is_client_hat (strategy_of g.mode f.region)) && shows f.region source) e f ordered (told_id cmp e f.told) refl))
+        (λ here. rw here (heard_forgotten now (wants matching f e && (hat_of_face g f).undeclares_untold && shows g.mode f.region source) e f ordered (told_id cmp e f.told) refl))
 
     module _ (equal_is_same : (a b : K) → cmp a b ≡ Equal → a ≡ b) where
       pub names-without_key : (x e : K) (told : ById K) → names cmp x (without_key cmp e told) ≡ (names cmp x told && not (same cmp e x))

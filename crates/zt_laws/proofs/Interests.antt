@@ -9,10 +9,11 @@ use Rattle.std.specs.Ordering.{nat_cmp}
 use Rattle.std.specs.FinMap.Entries.{put, by_order}
 use Rattle.std.specs.declared.cmp.Ordering.{Ordering}
 use Rattle.std.specs.declared.cmp.Ordering.TheVariants.{Less, Equal, Greater}
-use Rattle.zt_region.specs.Region.{is_north}
+use Rattle.zt_region.specs.declared.region.WhatAmI.{WhatAmI}
 use Rattle.zt_protocol.specs.Interest.{is_current, is_future, has_tokens}
 use Rattle.zt_protocol.specs.declared.interests.InterestMode.{InterestMode}
 use Rattle.zt_protocol.specs.declared.messages.Message.TheVariants.{DeclareFinal, DeclareToken}
+use Rattle.zt_model.specs.Hat.{hat_of}
 use Rattle.zt_model.specs.Hearing.{heard, heard_all, put_if}
 use Rattle.zt_model.specs.Lists.{at_id, has_id, is_among, same}
 use Rattle.zt_model.specs.Rows.{Ask, ById, Face, InterestRow, Rows}
@@ -56,19 +57,19 @@ any_put_if true test id v rows new_ = any_put_new test id v rows new_
 any_put_if false test id v rows new_ = or_back false (list_any test rows)
 
 module _ {K : Type 0} (matching : K → K → Bool) where
-  pub seeks_asked : (id : ℕ) (interest : InterestRow K) (f : Face K) (e : K) → (is_future interest.mode && has_id id f.held) ≡ false
-      → seeks matching (asked id interest f) e ≡ (seeks matching f e || (is_future interest.mode && asks_token matching interest e))
+  pub seeks_asked : (mode : WhatAmI) (id : ℕ) (interest : InterestRow K) (f : Face K) (e : K) → (is_future interest.mode && has_id id f.held) ≡ false
+      → seeks matching mode (asked id interest f) e ≡ (seeks matching mode f e || (is_future interest.mode && asks_token matching interest e))
   unfolding seeks wants
-  seeks_asked id interest f e new_ =
-      ap (λ b. is_north f.region || b) (any_put_if (is_future interest.mode) (λ row. asks_token matching row.1 e) id interest f.held new_)
-      ∙ or_later (is_north f.region) (list_any (λ row. asks_token matching row.1 e) f.held) (is_future interest.mode && asks_token matching interest e)
+  seeks_asked mode id interest f e new_ =
+      ap (λ b. (hat_of mode f.region).is_told_unasked f.region || b) (any_put_if (is_future interest.mode) (λ row. asks_token matching row.1 e) id interest f.held new_)
+      ∙ or_later ((hat_of mode f.region).is_told_unasked f.region) (list_any (λ row. asks_token matching row.1 e) f.held) (is_future interest.mode && asks_token matching interest e)
 
-  pub covers_asked : (id : ℕ) (interest : InterestRow K) (f : Face K) (e : K) → (is_future interest.mode && has_id id f.held) ≡ false
-      → covers matching (asked id interest f) e ≡ (covers matching f e || (is_future interest.mode && (is_current interest.mode && asks_token matching interest e)))
+  pub covers_asked : (mode : WhatAmI) (id : ℕ) (interest : InterestRow K) (f : Face K) (e : K) → (is_future interest.mode && has_id id f.held) ≡ false
+      → covers matching mode (asked id interest f) e ≡ (covers matching mode f e || (is_future interest.mode && (is_current interest.mode && asks_token matching interest e)))
   unfolding covers
-  covers_asked id interest f e new_ =
-      ap (λ b. is_north f.region || b) (any_put_if (is_future interest.mode) (λ row. is_current row.1.mode && asks_token matching row.1 e) id interest f.held new_)
-      ∙ or_later (is_north f.region) (list_any (λ row. is_current row.1.mode && asks_token matching row.1 e) f.held) (is_future interest.mode && (is_current interest.mode && asks_token matching interest e))
+  covers_asked mode id interest f e new_ =
+      ap (λ b. (hat_of mode f.region).is_told_unasked f.region || b) (any_put_if (is_future interest.mode) (λ row. is_current row.1.mode && asks_token matching row.1 e) id interest f.held new_)
+      ∙ or_later ((hat_of mode f.region).is_told_unasked f.region) (list_any (λ row. is_current row.1.mode && asks_token matching row.1 e) f.held) (is_future interest.mode && (is_current interest.mode && asks_token matching interest e))
 
 module _ {K : Type 0} (cmp : K → K → Ordering) where
   -- ---- answers with ids
@@ -227,18 +228,18 @@ module _ {K : Type 0} (cmp : K → K → Ordering) (matching : K → K → Bool)
         → ((x : K) → keeps cmp f2 x ≡ (keeps cmp f0 x || (is_future interest.mode && ((is_current interest.mode && has_tokens interest.options) && (is_about matching interest.expr x && is_visible cmp g0 f0.region x)))))
         → ((x : K) → is_visible cmp g2 f2.region x ≡ is_visible cmp g0 f0.region x)
         → ((x : K) → is_admitted cmp g2 f2.region x ≡ is_admitted cmp g0 f0.region x)
-        → ((x : K) → seeks matching f2 x ≡ (seeks matching f0 x || (is_future interest.mode && asks_token matching interest x)))
-        → ((x : K) → covers matching f2 x ≡ (covers matching f0 x || (is_future interest.mode && (is_current interest.mode && asks_token matching interest x))))
+        → ((x : K) → seeks matching g2.mode f2 x ≡ (seeks matching g0.mode f0 x || (is_future interest.mode && asks_token matching interest x)))
+        → ((x : K) → covers matching g2.mode f2 x ≡ (covers matching g0.mode f0 x || (is_future interest.mode && (is_current interest.mode && asks_token matching interest x))))
         → KeepsRight cmp matching g0 f0 → KeepsRight cmp matching g2 f2
     keeps_after_asking g0 g2 f0 f2 interest kept_ visible_ admitted_ seeks_ covers_ right = record {
       kept_is_visible = λ x h.
           ⊎_elim (λ old. visible_ x ∙ right.kept_is_visible x old) (λ new_. visible_ x ∙ (told_parts x new_).3)
           (or_cases (keeps cmp f0 x) (told x) (sym (kept_ x) ∙ h));
       kept_is_sought = λ x h.
-          ⊎_elim (λ old. seeks_ x ∙ or_left (seeks matching f0 x) (is_future interest.mode && asks_token matching interest x) (right.kept_is_sought x old))
+          ⊎_elim (λ old. seeks_ x ∙ or_left (seeks matching g0.mode f0 x) (is_future interest.mode && asks_token matching interest x) (right.kept_is_sought x old))
           (λ new_.
           let parts = told_parts x new_ in
-          seeks_ x ∙ or_right (seeks matching f0 x) (is_future interest.mode && asks_token matching interest x)
+          seeks_ x ∙ or_right (seeks matching g0.mode f0 x) (is_future interest.mode && asks_token matching interest x)
           (and_from (is_future interest.mode) (asks_token matching interest x) parts.0 (and_from (has_tokens interest.options) (is_about matching interest.expr x) parts.1 parts.2)))
           (or_cases (keeps cmp f0 x) (told x) (sym (kept_ x) ∙ h));
       admitted_is_kept = λ x h c.
@@ -253,7 +254,7 @@ module _ {K : Type 0} (cmp : K → K → Ordering) (matching : K → K → Bool)
           (and_from (is_current interest.mode && has_tokens interest.options) (is_about matching interest.expr x && is_visible cmp g0 f0.region x)
           (and_from (is_current interest.mode) (has_tokens interest.options) inner.0 asks.0)
           (and_from (is_about matching interest.expr x) (is_visible cmp g0 f0.region x) asks.1 (admitted_visible cmp g0 f0.region x admitted_before)))))
-          (or_cases (covers matching f0 x) (is_future interest.mode && (is_current interest.mode && asks_token matching interest x)) (sym (covers_ x) ∙ c));
+          (or_cases (covers matching g0.mode f0 x) (is_future interest.mode && (is_current interest.mode && asks_token matching interest x)) (sym (covers_ x) ∙ c));
     }
       where
         told : K → Bool

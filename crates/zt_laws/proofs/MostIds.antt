@@ -14,14 +14,15 @@ use Rattle.zt_protocol.specs.Plain.{PlainCall, NewSession, NewTransport, Declare
 use Rattle.zt_model.specs.Entities.{numbered_by, with_numbers}
 use Rattle.zt_model.specs.Hearing.{put_if}
 use Rattle.zt_model.specs.Refusals.{asks_upstream, could, could_spend_ids, left_ids, would_send}
-use Rattle.zt_model.specs.Routing.{asked_as, opened}
+use Rattle.zt_model.specs.Routing.{asked_as}
 use Rattle.zt_model.specs.Rows.{ById, Face, InterestRow, Rows}
 use Rattle.zt_model.specs.Says.{find_face, is_routed, registered, registers, with_face}
-use Rattle.zt_model.specs.Shown.{interest_kept, rows_shown, with_declared, with_interest, with_source}
+use Rattle.zt_model.specs.Shown.{interest_kept, rows_shown, with_declared, with_interest, with_new_transport, with_source}
 use Rattle.zt_model.specs.Transcript.{most_ids}
 use Rattle.zt_model.specs.Trees.{source_of, with_routed}
 use Rattle.zt_model.specs.Visible.{keeps, rows_of_face, visible_expressions}
 use Rattle.zt_laws.proofs.Lists.{by_test, never, of_cond}
+use Rattle.zt_laws.proofs.ShownRows.{opened_is_made}
 use Rattle.zt_laws.proofs.Visible.{visible_expressions_alike}
 
 length_filter : {A : Type 0} (p : A → Bool) (xs : List A) → length (filter p xs) ≤ length xs
@@ -188,7 +189,9 @@ module _ {K : Type 0} (cmp : K → K → Ordering) (matching : K → K → Bool)
           lacks_after g (upstream_ids (with_face n (asked_as qs id interest) h)) (most_ids cmp matching B) change
           (λ k. subst (λ m. upstream_ids (with_face n (asked_as qs id interest) h) k ≤ m) (sym (most_alike B k (change k) (leaves.region k) (leaves.told k))) (asked_more n id ps qs interest h k))
           leaves.next g.faces lacks
-  call_may_lack ps (NewTransport zid whatami region bound first) g spends = still_lacks g (opened zid whatami region bound first g) spends
+  call_may_lack ps (NewTransport zid whatami region bound first) g spends =
+      let made : Rows K = with_new_transport zid whatami region bound first g in
+      still_lacks g made (subst (λ (B : Rows K). LacksMore g (upstream_ids made) B.faces) (opened_is_made zid whatami region bound first g) spends)
   call_may_lack ps (NewSession first) g spends = never spends refl
   call_may_lack ps (CloseFace n) g spends = never spends refl
   call_may_lack ps (UndeclareToken n id given node) g spends = never spends refl

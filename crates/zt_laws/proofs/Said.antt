@@ -1,5 +1,5 @@
 -- One face changed keeps the numbers of the faces rising.
-use Rattle.std.proofs.Common.{◌≡◌, ℕ, ◌==◌, if◌then◌else◌, [], ◌++◌, ◌∙◌}
+use Rattle.std.proofs.Common.{◌≡◌, ℕ, ◌==◌, if◌then◌else◌}
 use Rattle.zt_model.specs.Rows.{Face, Rows}
 use Rattle.zt_model.specs.Says.{with_face}
 use Rattle.zt_laws.specs.Sound.{RiseFrom}

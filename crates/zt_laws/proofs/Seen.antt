@@ -1,9 +1,10 @@
 -- The words by which promises read who wants a token and who sees it come to those that the machine goes by.
-use Rattle.std.proofs.Common.{◌≡◌, ℕ, Bool, true, false, ◌&&◌, ◌||◌, not, List, [], ◌∷◌, ◌++◌, map, filter, flat_map, Option, Some, None, refl, sym, ap, ◌∙◌, subst}
+use Rattle.std.proofs.Common.{◌≡◌, ℕ, Bool, true, false, ◌&&◌, ◌||◌, not, List, filter, flat_map, Option, Some, None, refl, sym, ap, ◌∙◌, subst}
 use Rattle.std.specs.List.{list_any}
 use Rattle.std.specs.declared.cmp.Ordering.{Ordering}
 use Rattle.zt_region.specs.declared.region.Region.{Region}
 use Rattle.zt_region.specs.declared.region.Region.TheVariants.{North, Local, South}
+use Rattle.zt_region.specs.declared.region.WhatAmI.{WhatAmI}
 use Rattle.zt_region.specs.declared.region.WhatAmI.TheVariants.{Router, Peer, Client}
 use Rattle.zt_region.specs.Admission.{admits}
 use Rattle.zt_region.specs.Region.{is_north, region_eq, region_eq-refl, region_eq-same, zid_eq}
@@ -13,10 +14,11 @@ use Rattle.zt_model.specs.Lists.{at_id, is_some_and, same}
 use Rattle.zt_model.specs.Parts.{is_routed}
 use Rattle.zt_model.specs.Promises.{Turn, is_asked_for, with_line}
 use Rattle.zt_model.specs.Rows.{Ask, Face, InterestRow, Rows}
-use Rattle.zt_model.specs.Seen.{concerns, interests_held, is_interested, is_owed, is_seen, is_seen_and_admitted, may_hear, sees, stands_in}
-use Rattle.zt_model.specs.Transcript.{AllKeepWhatTheyShould, Each, FaceAt, FacesKeepWhatTheyShould, KeepsWhatItShould, face_numbered}
+use Rattle.zt_model.specs.Seen.{concerns, is_interested, is_owed, is_seen, is_seen_and_admitted, may_hear, sees, stands_in}
+use Rattle.zt_model.specs.Transcript.{AllKeepWhatTheyShould, FaceAt, FacesKeepWhatTheyShould, KeepsWhatItShould, face_numbered}
 use Rattle.zt_model.specs.Visible.{is_admitted, is_visible, live_rows, routed_rows, rows_of_face, shows}
 use Rattle.zt_model.specs.Wants.{asks_token, covers, is_about, seeks, wants}
+use Rattle.zt_model.proofs.Hats.{covers_is, seeks_is}
 use Rattle.zt_laws.specs.Keeping.{AllKeepRight, FacesKeepRight, KeepsRight}
 use Rattle.zt_laws.proofs.Lists.{any-append, any-filter, any-map, any_alike, any_none, each_always, each_weaker, same_tests}
 use Rattle.zt_laws.proofs.Visible.{any-flat_map}
@@ -29,12 +31,14 @@ region_turned a b =
     (λ h. subst (λ c. region_eq c a ≡ true) (region_eq-same a b h) (region_eq-refl a))
     (λ h. subst (λ c. region_eq c b ≡ true) (region_eq-same b a h) (region_eq-refl b))
 
-pub sees_is : (own source : Region) → sees own source ≡ shows own source
-sees_is North source = ap not (region_turned North source)
-sees_is Local source = refl
-sees_is (South id Client) source = refl
-sees_is (South id Router) source = ap not (region_turned (South id Router) source)
-sees_is (South id Peer) source = ap not (region_turned (South id Peer) source)
+pub sees_is : (mode : WhatAmI) (own source : Region) → sees own source ≡ shows mode own source
+sees_is Router North source = ap not (region_turned North source)
+sees_is Peer North source = ap not (region_turned North source)
+sees_is Client North source = ap not (region_turned North source)
+sees_is mode Local source = refl
+sees_is mode (South id Client) source = refl
+sees_is mode (South id Router) source = ap not (region_turned (South id Router) source)
+sees_is mode (South id Peer) source = ap not (region_turned (South id Peer) source)
 
 -- ---- tests
 
@@ -67,17 +71,18 @@ module _ {K : Type 0} (matching : K → K → Bool) where
       any-map (λ interest. concerns matching interest e) (λ row. row.1) f.held
       ∙ any_alike (λ row. concerns matching row.1 e) (λ row. asks_token matching row.1 e) (λ row. concerns_is row.1 e) f.held
 
-  pub hears_is : (f : Face K) (e : K) → may_hear matching f e ≡ seeks matching f e
-  unfolding may_hear seeks
-  hears_is f e = ap (λ b. is_north f.region || b) (interested_is f e)
+  pub hears_is : (mode : WhatAmI) (f : Face K) (e : K) → may_hear matching f e ≡ seeks matching mode f e
+  unfolding may_hear
+  hears_is mode f e = ap (λ b. is_north f.region || b) (interested_is f e) ∙ sym (seeks_is matching mode f e)
 
-  pub owed_is : (f : Face K) (e : K) → is_owed matching f e ≡ covers matching f e
-  unfolding is_owed covers
-  owed_is f e =
+  pub owed_is : (mode : WhatAmI) (f : Face K) (e : K) → is_owed matching f e ≡ covers matching mode f e
+  unfolding is_owed
+  owed_is mode f e =
       ap (λ b. is_north f.region || b)
       (any-map (λ interest. concerns matching interest e && is_current interest.mode) (λ row. row.1) f.held
       ∙ any_alike (λ row. concerns matching row.1 e && is_current row.1.mode) (λ row. is_current row.1.mode && asks_token matching row.1 e)
       (λ row. and_turned (concerns matching row.1 e) (is_current row.1.mode) ∙ ap (λ b. is_current row.1.mode && b) (concerns_is row.1 e)) f.held)
+      ∙ sym (covers_is matching mode f e)
 
 module _ {K : Type 0} (cmp : K → K → Ordering) where
   -- ---- seeing
@@ -109,14 +114,14 @@ module _ {K : Type 0} (cmp : K → K → Ordering) where
   unfolding is_seen is_visible
   seen_is g own e =
       stands_is (sees own) g e
-      ∙ any_alike (λ row. same cmp e row.1 && sees own row.0) (λ row. same cmp e row.1 && shows own row.0) (λ row. ap (λ b. same cmp e row.1 && b) (sees_is own row.0)) (live_rows g)
+      ∙ any_alike (λ row. same cmp e row.1 && sees own row.0) (λ row. same cmp e row.1 && shows g.mode own row.0) (λ row. ap (λ b. same cmp e row.1 && b) (sees_is g.mode own row.0)) (live_rows g)
 
   pub admitted_is : (g : Rows K) (own : Region) (e : K) → is_seen_and_admitted cmp g own e ≡ is_admitted cmp g own e
   unfolding is_seen_and_admitted is_admitted
   admitted_is g own e =
       stands_is (λ source. sees own source && admits g.refused source own) g e
-      ∙ any_alike (λ row. same cmp e row.1 && (sees own row.0 && admits g.refused row.0 own)) (λ row. same cmp e row.1 && (shows own row.0 && admits g.refused row.0 own))
-      (λ row. ap (λ b. same cmp e row.1 && (b && admits g.refused row.0 own)) (sees_is own row.0)) (live_rows g)
+      ∙ any_alike (λ row. same cmp e row.1 && (sees own row.0 && admits g.refused row.0 own)) (λ row. same cmp e row.1 && (shows g.mode own row.0 && admits g.refused row.0 own))
+      (λ row. ap (λ b. same cmp e row.1 && (b && admits g.refused row.0 own)) (sees_is g.mode own row.0)) (live_rows g)
 
 module _ {K : Type 0} (cmp : K → K → Ordering) (matching : K → K → Bool) where
   -- ---- what faces should keep
@@ -124,15 +129,15 @@ module _ {K : Type 0} (cmp : K → K → Ordering) (matching : K → K → Bool)
   pub keeps_as_promised : (g : Rows K) (f : Face K) → KeepsRight cmp matching g f → KeepsWhatItShould cmp matching g f
   keeps_as_promised g f right = record {
     kept_is_visible = λ e kept. seen_is cmp g f.region e ∙ right.kept_is_visible e kept;
-    kept_is_sought = λ e kept. hears_is matching f e ∙ right.kept_is_sought e kept;
-    admitted_is_kept = λ e admitted owed. right.admitted_is_kept e (sym (admitted_is cmp g f.region e) ∙ admitted) (sym (owed_is matching f e) ∙ owed);
+    kept_is_sought = λ e kept. hears_is matching g.mode f e ∙ right.kept_is_sought e kept;
+    admitted_is_kept = λ e admitted owed. right.admitted_is_kept e (sym (admitted_is cmp g f.region e) ∙ admitted) (sym (owed_is matching g.mode f e) ∙ owed);
   }
 
   pub keeps_as_the_machine : (g : Rows K) (f : Face K) → KeepsWhatItShould cmp matching g f → KeepsRight cmp matching g f
   keeps_as_the_machine g f should = record {
     kept_is_visible = λ e kept. sym (seen_is cmp g f.region e) ∙ should.kept_is_visible e kept;
-    kept_is_sought = λ e kept. sym (hears_is matching f e) ∙ should.kept_is_sought e kept;
-    admitted_is_kept = λ e admitted covered. should.admitted_is_kept e (admitted_is cmp g f.region e ∙ admitted) (owed_is matching f e ∙ covered);
+    kept_is_sought = λ e kept. sym (hears_is matching g.mode f e) ∙ should.kept_is_sought e kept;
+    admitted_is_kept = λ e admitted covered. should.admitted_is_kept e (admitted_is cmp g f.region e ∙ admitted) (owed_is matching g.mode f e ∙ covered);
   }
 
   pub faces_as_promised : (g : Rows K) → FacesKeepRight cmp matching g → FacesKeepWhatTheyShould cmp matching g

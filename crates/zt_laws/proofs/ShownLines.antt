@@ -1,5 +1,5 @@
 -- The fabric that a transcript shows after a line is what the machine keeps then, but for own rows.
-use Rattle.std.proofs.Common.{◌≡◌, ℕ, ◌+◌, ◌-◌, Bool, true, false, ◌&&◌, ◌==◌, not, nat_lt, if◌then◌else◌, List, [], ◌∷◌, ◌++◌, map, filter, Option, Some, None, refl, sym, ap, ◌∙◌, subst}
+use Rattle.std.proofs.Common.{◌≡◌, ℕ, ◌+◌, ◌-◌, Bool, true, false, ◌==◌, not, nat_lt, if◌then◌else◌, List, [], ◌∷◌, ◌++◌, map, filter, Option, Some, None, refl, sym, ap, ◌∙◌, subst}
 use Rattle.std.proofs.lemmas.Bool.{and_parts}
 use Rattle.std.specs.List.{flat_map}
 use Rattle.std.specs.Cmp.{IsTotalOrder}
@@ -7,7 +7,6 @@ use Rattle.std.specs.declared.cmp.Ordering.{Ordering}
 use Rattle.zt_region.specs.declared.region.Bound.{Bound}
 use Rattle.zt_region.specs.declared.region.Region.{Region}
 use Rattle.zt_region.specs.declared.region.WhatAmI.{WhatAmI}
-use Rattle.zt_region.specs.declared.region.WhatAmI.TheVariants.{Router, Peer, Client}
 use Rattle.zt_region.specs.declared.region.Zid.{Zid}
 use Rattle.zt_region.specs.Region.{is_north}
 use Rattle.zt_protocol.specs.Interest.{is_current, is_future}
@@ -27,11 +26,12 @@ use Rattle.zt_model.specs.Lists.{nth, without_id}
 use Rattle.zt_model.specs.Places.{Link}
 use Rattle.zt_model.specs.Promises.{Turn, turns_from}
 use Rattle.zt_model.specs.Refusals.{first_cause, would_send}
-use Rattle.zt_model.specs.Routing.{asked_as, is_target, is_target_of, opened, route_to, sent_as}
+use Rattle.zt_model.specs.Routing.{asked_as, is_asked, is_target, opened, route_to, sent_as}
 use Rattle.zt_model.specs.Rows.{ById, Face, InterestRow, Rows}
 use Rattle.zt_model.specs.Says.{altered, altered_by, answered_expressions, answers_from, answers_of, asking, final_of, find_face, opened_session, parts_of, row_of, said, said_by, to_each, to_face, told_id, with_face}
-use Rattle.zt_model.specs.Shown.{interest_kept, rows_shown, with_interest}
+use Rattle.zt_model.specs.Shown.{interest_kept, rows_shown, with_interest, with_new_transport}
 use Rattle.zt_model.specs.Transcript.{Each, current_ids, fabric_shown, fabric_with, with_call, with_closings, with_opening, with_openings}
+use Rattle.zt_model.proofs.Hats.{asked_north}
 use Rattle.zt_laws.specs.Order.{FabricIsInOrder, ListsAreInOrder}
 use Rattle.zt_laws.specs.Shown.{as_shown, call_shown, node_shown, without_own}
 use Rattle.zt_laws.specs.Sound.{HasFirstIds, is_placed}
@@ -42,7 +42,7 @@ use Rattle.zt_laws.proofs.Hearing.{each_ruled_one, messages_for-append, messages
 use Rattle.zt_laws.proofs.LinesOrder.{called_at, called_by_speaker, called_by_step, gateway_in_order}
 use Rattle.zt_laws.proofs.Lists.{by_test, each_append, each_weaker, map-append}
 use Rattle.zt_laws.proofs.PartsOrder.{each_message_for}
-use Rattle.zt_laws.proofs.ShownRows.{call_shown_is, closed_shown}
+use Rattle.zt_laws.proofs.ShownRows.{call_shown_is, closed_shown, opened_is_made}
 use Rattle.zt_laws.proofs.Silent.{silent_entities, silent_final}
 use Rattle.zt_laws.proofs.ToldOrder.{DrawsNothing}
 use Rattle.zt_laws.proofs.Unlinking.{closing_case}
@@ -151,12 +151,7 @@ module _ {K : Type 0} (cmp : K → K → Ordering) (matching : K → K → Bool)
   -- numbers of expressions change no target
   still_target : (es : List K) (asker : Region) (mode : InterestMode) (g : Rows K) (f : Face K) → is_target (with_numbers cmp es g) asker mode f ≡ is_target g asker mode f
   unfolding is_target
-  still_target es asker mode g f = ap (λ b. not (is_north asker) && (is_north f.region && b)) (by_mode g.mode)
-    where
-      by_mode : (m : WhatAmI) → is_target_of m (with_numbers cmp es g) mode f ≡ is_target_of m g mode f
-      by_mode Router = refl
-      by_mode Peer = refl
-      by_mode Client = refl
+  still_target es asker mode g f = refl
 
   -- the pendings that the interest is printed with are those that it is sent as
   routed_pendings : (h : Rows K) (asker : Region) (interest : InterestRow K) (g : Rows K) (fs : List (Face K)) → is_current interest.mode ≡ true → ((f : Face K) → is_target h asker interest.mode f ≡ is_target g asker interest.mode f)
@@ -174,7 +169,7 @@ module _ {K : Type 0} (cmp : K → K → Ordering) (matching : K → K → Bool)
       rw (there, here) (by_test (is_north f.region) (λ up. rw up rest) (λ up. rw up rest)))
     where
       north : (f : Face K) → is_target g asker interest.mode f ≡ true → is_north f.region ≡ true
-      north f here = unfold is_target in (and_parts (is_north f.region) (is_target_of g.mode g interest.mode f) (and_parts (not (is_north asker)) (is_north f.region && is_target_of g.mode g interest.mode f) here).1).0
+      north f here = unfold is_target in asked_north g interest.mode f (and_parts (not (is_north asker)) (is_asked g interest.mode f) here).1
 
   abbrev printed_pendings : ℕ → List Place → List (Sent K) → List (Face K) → List (ℕ × ℕ)
   printed_pendings n places ms fs = flat_map (λ f. pendings_for (printed_for (number_from 1 n f.number places) ms) f) fs
@@ -364,8 +359,8 @@ module _ {K : Type 0} (cmp : K → K → Ordering) (matching : K → K → Bool)
       let c : PlainCall K = NewTransport zid whatami region bound first in
       called_at (λ at. with_opening cmp matching (call_shown at) (as_shown t) ≡ as_shown (opened_at cmp matching at t)) t n c refl
       (λ node at_.
-      ap (λ k. with_rows n (opened zid whatami region bound first) (record (as_shown t) { faces = t.faces ++ record { gateway = n; face = k } ∷ [] })) (next_face_shown t n)
-      ∙ rows_changed_all n (opened zid whatami region bound first) (opened zid whatami region bound first) (with_place n t) (λ g. refl))
+      ap (λ k. with_rows n (with_new_transport zid whatami region bound first) (record (as_shown t) { faces = t.faces ++ record { gateway = n; face = k } ∷ [] })) (next_face_shown t n)
+      ∙ rows_changed_all n (with_new_transport zid whatami region bound first) (opened zid whatami region bound first) (with_place n t) (λ g. sym (ap without_own (opened_is_made zid whatami region bound first g))))
 
   openings_shown : (ends : List (LinkEnd K)) (t : Fabric K) → with_openings cmp matching (map end_shown ends) (as_shown t) ≡ as_shown (opened_ends cmp matching ends t)
   unfolding with_openings opened_ends

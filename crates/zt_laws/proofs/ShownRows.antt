@@ -7,7 +7,9 @@ use Rattle.std.specs.FinMap.Entries.{by_order}
 use Rattle.std.specs.Ordering.{is_eq, nat_cmp, ordering_then}
 use Rattle.std.specs.declared.cmp.Ordering.{Ordering}
 use Rattle.std.specs.declared.cmp.Ordering.TheVariants.{Less, Equal, Greater}
+use Rattle.zt_region.specs.declared.region.Bound.{Bound}
 use Rattle.zt_region.specs.declared.region.Region.{Region}
+use Rattle.zt_region.specs.declared.region.WhatAmI.{WhatAmI}
 use Rattle.zt_region.specs.declared.region.Zid.{Zid}
 use Rattle.zt_region.specs.Region.{zid_eq, zid_eq-refl}
 use Rattle.zt_protocol.specs.declared.interests.InterestMode.{InterestMode}
@@ -16,13 +18,14 @@ use Rattle.zt_protocol.specs.Plain.{PlainCall, NewSession, NewTransport, Declare
 use Rattle.zt_model.specs.Closing.{closing, is_expired, leaving, without_asks, without_face}
 use Rattle.zt_model.specs.Lists.{at_id, first_where, has_id, same, with_key, without_id}
 use Rattle.zt_model.specs.Refusals.{would_send}
-use Rattle.zt_model.specs.Routing.{ended, ending, finalising, finishing, initial_finalised, sent_as, unheld}
+use Rattle.zt_model.specs.Routing.{ended, ending, finalising, finishing, initial_finalised, opened, sent_as, unheld}
 use Rattle.zt_model.specs.Rows.{ById, Face, InterestRow, Pending, RoutedRow, Rows}
 use Rattle.zt_model.specs.Says.{Alter, Part, Say, altered, altered_by, answering, asking, row_of, declaring, declaring_of, find_face, finalising_held, forget, hiding_undeclared, is_routed, parts_of, registered, registers, undeclared, undeclaring, undeclaring_of, to_each, unregistered, with_face}
-use Rattle.zt_model.specs.Shown.{interest_kept, rows_shown, with_declared, with_interest, with_source, without_declared, without_expired, without_source}
+use Rattle.zt_model.specs.Shown.{face_made, interest_kept, rows_shown, with_declared, with_interest, with_new, with_new_transport, with_source, without_declared, without_expired, without_source}
 use Rattle.zt_model.specs.Parts.{unsaid_to}
 use Rattle.zt_model.specs.Transcript.{Each}
 use Rattle.zt_model.specs.Trees.{counted_table, forgetting, greet_to, hiding, is_hidden, is_left_out, is_routed_row, left_out, region_order, row_at, routed_order, showing, source_of, table_of, with_own_rows, with_routed, with_table, without_left_out, without_own_rows, without_routed}
+use Rattle.zt_model.proofs.Hats.{initial_is}
 use Rattle.zt_laws.specs.Order.{HasRowsInOrder, InKeyOrder, ListsAreInOrder}
 use Rattle.zt_laws.specs.Shown.{is_from_other, without_own}
 use Rattle.zt_laws.specs.Sound.{RiseFrom}
@@ -86,6 +89,14 @@ module _ {A : Type 0} (cmp : A → A → Ordering) (p : A → Bool) where
               (λ here. rw here (ap (λ ys. k ∷ ys) rest ∙ sym (ap (λ o. by_order o (e ∷ k ∷ filter p ks) (k ∷ filter p ks) (k ∷ with_key cmp e (filter p ks))) h)))
               (λ here. rw here rest)
         ] refl
+
+-- ---- a new face
+
+-- it has its initial interest by the hat of its region, and as the words of transcripts have it by the two bounds
+pub opened_is_made : {K : Type 0} (zid : Zid) (whatami : WhatAmI) (region : Region) (bound : Bound) (first : ℕ) (g : Rows K)
+    → opened zid whatami region bound first g ≡ with_new_transport zid whatami region bound first g
+opened_is_made zid whatami region bound first g =
+    ap (λ (initial : Option Bool). with_new (face_made zid whatami region bound first initial g) g) (initial_is g.mode region bound)
 
 -- ---- rows of other routers alone
 
@@ -461,7 +472,7 @@ module _ {K : Type 0} (cmp : K → K → Ordering) (matching : K → K → Bool)
   pub call_is_shown : (c : PlainCall K) (g : Rows K) → ListsAreInOrder cmp matching g → without_own (altered cmp matching c g) ≡ without_own (rows_shown cmp (would_send cmp matching c g) c g)
   unfolding parts_of rows_shown altered_by
   call_is_shown (NewSession first) g lists = refl
-  call_is_shown (NewTransport zid whatami region bound first) g lists = refl
+  call_is_shown (NewTransport zid whatami region bound first) g lists = ap without_own (opened_is_made zid whatami region bound first g)
   call_is_shown (DeclareToken n id e node interest) g lists = declared_shown n id node e interest [] g
   call_is_shown (UndeclareToken n id given node) g lists = undeclared_shown n id node given [] g lists
   call_is_shown (Interest n id mode options e) g lists = interest_shown n id mode options e g

@@ -11,11 +11,11 @@ use Rattle.zt_protocol.specs.Plain.{Trees}
 use Rattle.zt_protocol.specs.declared.messages.Message.{Message}
 use Rattle.zt_protocol.specs.declared.messages.Message.TheVariants.{DeclareToken, UndeclareToken, DeclareFinal, Interest, InterestFinal}
 use Rattle.zt_model.specs.Entities.{aggregate_of, all_merged, entities_for, info_of, matching_queryables, matching_subscribers, queryable_of, queryables_for, subscriber_of, subscribers_for}
+use Rattle.zt_model.specs.Hat.{hat_of_face}
 use Rattle.zt_model.specs.Lists.{at_id, first_of, in_key_order, is_some_and}
 use Rattle.zt_model.specs.Routing.{asks_same, end_upstream_to, final_of, final_of_both, finish_to, is_finished_by, is_held_south, is_target, opening_final, route_to, untell_to}
 use Rattle.zt_model.specs.Rows.{Ask, Face, InterestRow, Rows}
 use Rattle.zt_model.specs.Says.{forget_to, forget_untold, is_routed, told_id}
-use Rattle.zt_model.specs.Strategy.{is_client_hat, strategy_of}
 use Rattle.zt_model.specs.Transcript.{Each}
 use Rattle.zt_model.specs.Trees.{greet_to, hide_to, is_child, is_hidden, is_newly_shown, node_of, pass_to, routed_expressions, routers_in_order, show_to, table_of, unpass_to}
 use Rattle.zt_model.specs.Visible.{is_visible, shows}
@@ -57,7 +57,7 @@ module _ {K : Type 0} where
 module _ {K : Type 0} (cmp : K → K → Ordering) (matching : K → K → Bool) where
   silent_untold : (g : Rows K) (source : Region) (e : K) (f : Face K) → DrawNothing (forget_untold cmp matching g source e f)
   silent_untold g source e f =
-      of_cond DrawNothing (wants matching f e && not (is_client_hat (strategy_of g.mode f.region)) && shows f.region source) (UndeclareToken 0 (Some e) 0 ∷ []) [] (λ _. (tt, tt)) (λ _. tt)
+      of_cond DrawNothing (wants matching f e && (hat_of_face g f).undeclares_untold && shows g.mode f.region source) (UndeclareToken 0 (Some e) 0 ∷ []) [] (λ _. (tt, tt)) (λ _. tt)
 
   pub silent_forget : (g : Rows K) (source : Region) (e : K) (f : Face K) → DrawNothing (forget_to cmp matching g source e f)
   unfolding forget_to
@@ -68,10 +68,10 @@ module _ {K : Type 0} (cmp : K → K → Ordering) (matching : K → K → Bool)
       cases None = silent_untold g source e f
       cases (Some id) = (tt, tt)
 
-  pub silent_untell : (f : Face K) → DrawNothing (untell_to cmp matching f)
+  pub silent_untell : (g : Rows K) (f : Face K) → DrawNothing (untell_to cmp matching g f)
   unfolding untell_to
-  silent_untell f =
-      of_cond DrawNothing (is_north f.region) []
+  silent_untell g f =
+      of_cond DrawNothing ((hat_of_face g f).is_told_unasked f.region) []
       (flat_map (λ e. elim (told_id cmp e f.told) [ None ↦ [] | Some id ↦ UndeclareToken id None 0 ∷ [] ]) (filter (λ e. not (wants matching f e)) (in_key_order cmp (map (λ row. row.1) f.told))))
       (λ _. tt)
       (λ _. each_flat_map DrawsNothing (λ e. elim (told_id cmp e f.told) [ None ↦ [] | Some id ↦ UndeclareToken id None 0 ∷ [] ]) (filter (λ e. not (wants matching f e)) (in_key_order cmp (map (λ row. row.1) f.told))) (λ e. one (told_id cmp e f.told)))

@@ -4,10 +4,11 @@ use Rattle.std.proofs.lemmas.Bool.{and_parts, or_left, or_right, or_cases}
 use Rattle.std.specs.List.{list_any}
 use Rattle.std.specs.declared.cmp.Ordering.{Ordering}
 use Rattle.zt_region.specs.declared.region.Region.{Region}
-use Rattle.zt_region.specs.Region.{is_north}
+use Rattle.zt_region.specs.declared.region.WhatAmI.{WhatAmI}
 use Rattle.zt_protocol.specs.Interest.{is_current}
 use Rattle.zt_protocol.specs.declared.messages.Message.{Message}
 use Rattle.zt_protocol.specs.declared.messages.Message.TheVariants.{DeclareToken}
+use Rattle.zt_model.specs.Hat.{hat_of}
 use Rattle.zt_model.specs.Hearing.{heard, heard_all, told_pair}
 use Rattle.zt_model.specs.Rows.{ById, Face, Rows}
 use Rattle.zt_model.specs.Says.{is_told, tell_to}
@@ -25,26 +26,26 @@ module _ {K : Type 0} (cmp : K → K → Ordering) where
   heard_if now false m f after h = refl
 
 -- a face of the same region with the same interests seeks and covers the same
-pub seeks_alike : {K : Type 0} (matching : K → K → Bool) (f h : Face K) (e : K) → f.region ≡ h.region → f.held ≡ h.held → seeks matching f e ≡ seeks matching h e
+pub seeks_alike : {K : Type 0} (matching : K → K → Bool) (mode : WhatAmI) (f h : Face K) (e : K) → f.region ≡ h.region → f.held ≡ h.held → seeks matching mode f e ≡ seeks matching mode h e
 unfolding seeks wants
-seeks_alike matching f h e region_ held_ =
-    ap (λ (r : Region). is_north r || list_any (λ row. asks_token matching row.1 e) f.held) region_
-    ∙ ap (λ rows. is_north h.region || list_any (λ row. asks_token matching row.1 e) rows) held_
+seeks_alike matching mode f h e region_ held_ =
+    ap (λ (r : Region). (hat_of mode r).is_told_unasked r || list_any (λ row. asks_token matching row.1 e) f.held) region_
+    ∙ ap (λ rows. (hat_of mode h.region).is_told_unasked h.region || list_any (λ row. asks_token matching row.1 e) rows) held_
 
-pub covers_alike : {K : Type 0} (matching : K → K → Bool) (f h : Face K) (e : K) → f.region ≡ h.region → f.held ≡ h.held → covers matching f e ≡ covers matching h e
+pub covers_alike : {K : Type 0} (matching : K → K → Bool) (mode : WhatAmI) (f h : Face K) (e : K) → f.region ≡ h.region → f.held ≡ h.held → covers matching mode f e ≡ covers matching mode h e
 unfolding covers
-covers_alike matching f h e region_ held_ =
-    ap (λ (r : Region). is_north r || list_any (λ row. is_current row.1.mode && asks_token matching row.1 e) f.held) region_
-    ∙ ap (λ rows. is_north h.region || list_any (λ row. is_current row.1.mode && asks_token matching row.1 e) rows) held_
+covers_alike matching mode f h e region_ held_ =
+    ap (λ (r : Region). (hat_of mode r).is_told_unasked r || list_any (λ row. is_current row.1.mode && asks_token matching row.1 e) f.held) region_
+    ∙ ap (λ rows. (hat_of mode h.region).is_told_unasked h.region || list_any (λ row. is_current row.1.mode && asks_token matching row.1 e) rows) held_
 
 -- what a face covers it seeks
-pub covers_seeks : {K : Type 0} (matching : K → K → Bool) (f : Face K) (e : K) → covers matching f e ≡ true → seeks matching f e ≡ true
+pub covers_seeks : {K : Type 0} (matching : K → K → Bool) (mode : WhatAmI) (f : Face K) (e : K) → covers matching mode f e ≡ true → seeks matching mode f e ≡ true
 unfolding covers seeks wants
-covers_seeks matching f e h =
-    ⊎_elim (λ north. or_left (is_north f.region) (list_any (λ row. asks_token matching row.1 e) f.held) north)
-    (λ asked. or_right (is_north f.region) (list_any (λ row. asks_token matching row.1 e) f.held)
+covers_seeks matching mode f e h =
+    ⊎_elim (λ unasked. or_left ((hat_of mode f.region).is_told_unasked f.region) (list_any (λ row. asks_token matching row.1 e) f.held) unasked)
+    (λ asked. or_right ((hat_of mode f.region).is_told_unasked f.region) (list_any (λ row. asks_token matching row.1 e) f.held)
     (any_weaker (λ row. is_current row.1.mode && asks_token matching row.1 e) (λ row. asks_token matching row.1 e) (λ row both. (and_parts (is_current row.1.mode) (asks_token matching row.1 e) both).1) f.held asked))
-    (or_cases (is_north f.region) (list_any (λ row. is_current row.1.mode && asks_token matching row.1 e) f.held) h)
+    (or_cases ((hat_of mode f.region).is_told_unasked f.region) (list_any (λ row. is_current row.1.mode && asks_token matching row.1 e) f.held) h)
 
 module _ {K : Type 0} (cmp : K → K → Ordering) (matching : K → K → Bool) where
   -- a face that is told an expression has it under its next id, and any other face is as it was

@@ -194,9 +194,9 @@ module _ {K : Type 0} (cmp : K → K → Ordering) where
         where
           is_new : is_told cmp matching g source e f ≡ true → names cmp e f.told ≡ false
           is_new tells =
-              let whole = and_parts (not (is_routed g f)) (admits g.refused source f.region && shows f.region source && not (keeps cmp f e) && seeks matching f e) tells in
-              let sought = and_parts (admits g.refused source f.region && shows f.region source && not (keeps cmp f e)) (seeks matching f e) whole.1 in
-              not-true (keeps cmp f e) (and_parts (admits g.refused source f.region && shows f.region source) (not (keeps cmp f e)) sought.0).1
+              let whole = and_parts (not (is_routed g f)) (admits g.refused source f.region && shows g.mode f.region source && not (keeps cmp f e) && seeks matching g.mode f e) tells in
+              let sought = and_parts (admits g.refused source f.region && shows g.mode f.region source && not (keeps cmp f e)) (seeks matching g.mode f e) whole.1 in
+              not-true (keeps cmp f e) (and_parts (admits g.refused source f.region && shows g.mode f.region source) (not (keeps cmp f e)) sought.0).1
 
       -- ---- answering
 

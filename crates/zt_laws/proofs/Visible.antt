@@ -1,5 +1,5 @@
 -- What is visible, after the rows of a face change.
-use Rattle.std.proofs.Common.{◌≡◌, ℕ, ◌+◌, ◌≤◌, ◌<◌, Bool, true, false, not, if◌then◌else◌, ◌&&◌, ◌||◌, ◌==◌, List, [], ◌∷◌, ◌++◌, map, filter, flat_map, Some, None, refl, sym, ap, ◌∙◌, subst, arith, eqb-true, ne_eqb, eq-eqb, ⊎_elim, ◌⊎◌}
+use Rattle.std.proofs.Common.{◌≡◌, ℕ, ◌+◌, ◌≤◌, ◌<◌, Bool, true, false, not, if◌then◌else◌, ◌&&◌, ◌||◌, ◌==◌, List, [], ◌∷◌, ◌++◌, map, filter, flat_map, Some, None, refl, sym, ap, ◌∙◌, subst, arith, eqb-true, ne_eqb, eq-eqb, ⊎_elim}
 use Rattle.std.proofs.lemmas.Bool.{and_parts, and_from, or_left, or_right, or_cases, not-false}
 use Rattle.std.proofs.lemmas.Cmp.{ranked}
 use Rattle.std.specs.Cmp.{IsTotalOrder}
@@ -231,39 +231,39 @@ module _ {K : Type 0} where
 
 module _ {K : Type 0} (cmp : K → K → Ordering) where
   pub visible_still : (own : Region) (x : K) (n id : ℕ) (g : Rows K) → is_visible cmp (with_face n (unregistered id) g) own x ≡ true → is_visible cmp g own x ≡ true
-  unfolding is_visible
-  visible_still own x n id g some = any_still (λ row. same cmp x row.1 && shows own row.0) n id g some
+  unfolding is_visible with_face
+  visible_still own x n id g some = any_still (λ row. same cmp x row.1 && shows g.mode own row.0) n id g some
 
   -- what is admitted is visible
   pub admitted_visible : (g : Rows K) (own : Region) (x : K) → is_admitted cmp g own x ≡ true → is_visible cmp g own x ≡ true
   unfolding is_visible is_admitted
   admitted_visible g own x some =
-      any_weaker (λ row. same cmp x row.1 && (shows own row.0 && admits g.refused row.0 own)) (λ row. same cmp x row.1 && shows own row.0)
+      any_weaker (λ row. same cmp x row.1 && (shows g.mode own row.0 && admits g.refused row.0 own)) (λ row. same cmp x row.1 && shows g.mode own row.0)
       (λ row h.
-      let parts = and_parts (same cmp x row.1) (shows own row.0 && admits g.refused row.0 own) h in
-      and_from (same cmp x row.1) (shows own row.0) parts.0 (and_parts (shows own row.0) (admits g.refused row.0 own) parts.1).0)
+      let parts = and_parts (same cmp x row.1) (shows g.mode own row.0 && admits g.refused row.0 own) h in
+      and_from (same cmp x row.1) (shows g.mode own row.0) parts.0 (and_parts (shows g.mode own row.0) (admits g.refused row.0 own) parts.1).0)
       (live_rows g) some
 
   -- ---- rows with the same live rows
 
   pub visible_alike : (g : Rows K) (fs : List (Face K)) (own : Region) (x : K) → flat_map rows_of_face fs ≡ flat_map rows_of_face g.faces → is_visible cmp (record g { faces = fs }) own x ≡ is_visible cmp g own x
   unfolding is_visible
-  visible_alike g fs own x h = ap (list_any (λ row. same cmp x row.1 && shows own row.0)) (live_rows_alike g fs h)
+  visible_alike g fs own x h = ap (list_any (λ row. same cmp x row.1 && shows g.mode own row.0)) (live_rows_alike g fs h)
 
   pub visible_expressions_alike : (g : Rows K) (fs : List (Face K)) (own : Region) → flat_map rows_of_face fs ≡ flat_map rows_of_face g.faces → visible_expressions cmp (record g { faces = fs }) own ≡ visible_expressions cmp g own
   unfolding visible_expressions
-  visible_expressions_alike g fs own h = ap (λ (rows : List (Region × K)). in_key_order cmp (map (λ row. row.1) (filter (λ row. shows own row.0) rows))) (live_rows_alike g fs h)
+  visible_expressions_alike g fs own h = ap (λ (rows : List (Region × K)). in_key_order cmp (map (λ row. row.1) (filter (λ row. shows g.mode own row.0) rows))) (live_rows_alike g fs h)
 
   module _ (total : IsTotalOrder cmp) where
     -- the visible expressions are those that are visible, in key order
     pub visible_expressions_in_order : (g : Rows K) (own : Region) → InKeyOrder cmp (visible_expressions cmp g own)
     unfolding visible_expressions
-    visible_expressions_in_order g own = in_key_order_is cmp total (map (λ row. row.1) (filter (λ row. shows own row.0) (live_rows g)))
+    visible_expressions_in_order g own = in_key_order_is cmp total (map (λ row. row.1) (filter (λ row. shows g.mode own row.0) (live_rows g)))
 
     pub among-visible_expressions : (g : Rows K) (own : Region) (x : K) → is_among cmp x (visible_expressions cmp g own) ≡ is_visible cmp g own x
     unfolding visible_expressions is_visible
     among-visible_expressions g own x =
-        among-in_key_order cmp total x (map (λ row. row.1) (filter (λ row. shows own row.0) (live_rows g)))
-        ∙ any-map (same cmp x) (λ (row : Region × K). row.1) (filter (λ row. shows own row.0) (live_rows g))
-        ∙ any-filter (λ row. same cmp x row.1) (λ row. shows own row.0) (live_rows g)
-        ∙ any_alike (λ row. shows own row.0 && same cmp x row.1) (λ row. same cmp x row.1 && shows own row.0) (λ row. and_back (shows own row.0) (same cmp x row.1)) (live_rows g)
+        among-in_key_order cmp total x (map (λ row. row.1) (filter (λ row. shows g.mode own row.0) (live_rows g)))
+        ∙ any-map (same cmp x) (λ (row : Region × K). row.1) (filter (λ row. shows g.mode own row.0) (live_rows g))
+        ∙ any-filter (λ row. same cmp x row.1) (λ row. shows g.mode own row.0) (live_rows g)
+        ∙ any_alike (λ row. shows g.mode own row.0 && same cmp x row.1) (λ row. same cmp x row.1 && shows g.mode own row.0) (λ row. and_back (shows g.mode own row.0) (same cmp x row.1)) (live_rows g)

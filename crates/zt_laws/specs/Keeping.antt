@@ -13,8 +13,8 @@ module _ {K : Type 0} (cmp : K → K → Ordering) (matching : K → K → Bool)
   -- only visible tokens that the face seeks, among them every admitted one that it covers
   pub record KeepsRight (g : Rows K) (f : Face K) : Type 0 where
     pub kept_is_visible : (e : K) → keeps cmp f e ≡ true → is_visible cmp g f.region e ≡ true
-    pub kept_is_sought : (e : K) → keeps cmp f e ≡ true → seeks matching f e ≡ true
-    pub admitted_is_kept : (e : K) → is_admitted cmp g f.region e ≡ true → covers matching f e ≡ true → keeps cmp f e ≡ true
+    pub kept_is_sought : (e : K) → keeps cmp f e ≡ true → seeks matching g.mode f e ≡ true
+    pub admitted_is_kept : (e : K) → is_admitted cmp g f.region e ≡ true → covers matching g.mode f e ≡ true → keeps cmp f e ≡ true
 
   -- each open face outside router regions keeps these
   abbrev pub FacesKeepRight : Rows K → Type 0

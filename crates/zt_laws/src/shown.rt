@@ -3,6 +3,7 @@
 
 ghost use Rattle.std.specs.Prelude.{◌≡◌, ℕ, Bool, Option};
 ghost use Rattle.zt_region.specs.declared.region.Region.{Region};
+ghost use Rattle.zt_region.specs.declared.region.WhatAmI.{WhatAmI};
 ghost use Rattle.zt_protocol.specs.Plain.{PlainCall, PlainLine};
 ghost use Rattle.zt_model.specs.Fabric.{Fabric, altered_by_line, empty_fabric, entry_of};
 ghost use Rattle.zt_model.specs.Fabric.{fabric_after, said_by_line, sorted_by_face};
@@ -40,16 +41,19 @@ pub fn transcripts_show_what_is_kept<K: Key>()
 {}
 
 /// Promises read who wants a token and who sees it by words of their own. They come to the words
-/// that the machine goes by: what counts as a declaration, what a face is interested in, may hear
-/// and is owed, and what faces of a region see.
+/// that the machine goes by, whatever the mode of the gateway: what counts as a declaration, what a
+/// face is interested in, may hear and is owed, and what faces of a region see.
 pub fn words_of_promises_are_kept_to<K: Key>()
     ensures declared { (f : Face K) (interest : Option ℕ)
         → counts_as_declared f interest ≡ registers f interest }
     ensures interested { (f : Face K) (e : K)
         → is_interested K.matching f e ≡ wants K.matching f e }
-    ensures hears { (f : Face K) (e : K) → may_hear K.matching f e ≡ seeks K.matching f e }
-    ensures owed { (f : Face K) (e : K) → is_owed K.matching f e ≡ covers K.matching f e }
-    ensures regions { (own source : Region) → sees own source ≡ shows own source }
+    ensures hears { (mode : WhatAmI) (f : Face K) (e : K)
+        → may_hear K.matching f e ≡ seeks K.matching mode f e }
+    ensures owed { (mode : WhatAmI) (f : Face K) (e : K)
+        → is_owed K.matching f e ≡ covers K.matching mode f e }
+    ensures regions { (mode : WhatAmI) (own source : Region)
+        → sees own source ≡ shows mode own source }
     ensures seen { (g : Rows K) (own : Region) (e : K)
         → is_seen K.cmp g own e ≡ is_visible K.cmp g own e }
     ensures admitted { (g : Rows K) (own : Region) (e : K)
