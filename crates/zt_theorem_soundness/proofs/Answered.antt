@@ -2,31 +2,32 @@
 -- asks, when its interest ends, and when it is greeted.
 use Rattle.std.proofs.Common.{◌≡◌, ◌⊎◌, inl, inr, ℕ, ◌+◌, ◌≤◌, ◌<◌, Bool, true, false, not, if◌then◌else◌, ◌&&◌, ◌||◌, ◌==◌, List, [], ◌∷◌, ◌++◌, filter, map, Option, Some, None, refl, sym, ap, ◌∙◌, subst, arith, ⊎_elim}
 use Rattle.std.proofs.Math.Bool.{or-false}
-use Rattle.std.proofs.lemmas.Bool.{and_parts, and_from, or_left, or_right, or_cases, or_parts}
+use Rattle.std.proofs.lemmas.Bool.{and_parts, and_from, or_left, or_right, or_cases, or_parts, not_from_false}
 use Rattle.std.specs.Cmp.{IsTotalOrder}
 use Rattle.std.specs.List.{flat_map, list_any}
 use Rattle.std.specs.declared.cmp.Ordering.{Ordering}
 use Rattle.std.specs.declared.cmp.Ordering.TheVariants.{Equal}
 use Rattle.zt_region.specs.declared.region.Region.{Region}
 use Rattle.zt_region.specs.declared.region.Region.TheVariants.{North, Local, South}
-use Rattle.zt_region.specs.declared.region.WhatAmI.{WhatAmI}
 use Rattle.zt_region.specs.declared.region.WhatAmI.TheVariants.{Router, Peer, Client}
-use Rattle.zt_region.specs.Region.{is_north, region_eq, whatami_eq}
+use Rattle.zt_region.specs.Region.{is_north, whatami_eq}
 use Rattle.zt_protocol.specs.Interest.{is_current, is_future}
 use Rattle.zt_protocol.specs.declared.interests.InterestMode.{InterestMode}
 use Rattle.zt_protocol.specs.declared.messages.Message.{Message}
 use Rattle.zt_protocol.specs.declared.messages.Message.TheVariants as message
+use Rattle.zt_model.specs.Hat.{hat_of}
 use Rattle.zt_model.specs.Hearing.{heard, heard_all}
 use Rattle.zt_model.specs.Lists.{at_id, has_id, in_key_order, is_among, is_some_and, same}
 use Rattle.zt_model.specs.Refusals.{is_interest_id_in_use}
-use Rattle.zt_model.specs.Routing.{asked_as, final_of, final_of_both, opening_tokens, tokens_from, unheld, untell_to}
+use Rattle.zt_model.specs.Routing.{asked_as, final_of, final_of_both, is_greeted, opening_tokens, tokens_from, unheld, untell_to}
 use Rattle.zt_model.specs.Rows.{Ask, ById, Face, InterestRow, Rows}
 use Rattle.zt_model.specs.Says.{answered_expressions, answers_from, answers_of, asked, is_routed, told_id}
-use Rattle.zt_model.specs.Strategy.{is_broker, is_router_hat, strategy_of}
+use Rattle.zt_model.specs.Seen.{sees}
 use Rattle.zt_model.specs.Telling.{answer_to, is_answered_by, was_sent_as}
 use Rattle.zt_model.specs.Transcript.{Each}
-use Rattle.zt_model.specs.Visible.{is_admitted, is_visible, keeps, shows, visible_expressions}
+use Rattle.zt_model.specs.Visible.{is_admitted, is_visible, keeps, visible_expressions}
 use Rattle.zt_model.specs.Wants.{asks_token, covers, seeks, wants}
+use Rattle.zt_model.proofs.Hats.{covers_is, greeted_is, seeks_is, told_unasked_north, untell_is}
 use Rattle.zt_laws.specs.Keeping.{KeepsRight}
 use Rattle.zt_laws.specs.Sound.{IsToldInOrder, NamesOnce, RiseFrom}
 use Rattle.zt_laws.specs.Effects.{told_after_answers}
@@ -43,14 +44,6 @@ and_not_or : (a b c : Bool) → ((a && not b) && not c) ≡ (a && not (b || c))
 and_not_or true true c = refl
 and_not_or true false c = refl
 and_not_or false b c = refl
-
--- outside router regions a face to the north is greeted
-greets_north : (mode : WhatAmI) (own : Region) → is_north own ≡ true → is_router_hat (strategy_of mode own) ≡ false → not (whatami_eq mode Router) ≡ true
-greets_north Router North north plain = never refl plain
-greets_north Peer North north plain = refl
-greets_north Client North north plain = refl
-greets_north mode Local north plain = never north refl
-greets_north mode (South id w) north plain = never north refl
 
 and_true : (a : Bool) → (a && true) ≡ a
 and_true true = refl
@@ -167,10 +160,12 @@ module _ {K : Type 0} (cmp : K → K → Ordering) (matching : K → K → Bool)
       let no_one : was_sent_as n id ask ≡ false = ap (λ (ps : List (ℕ × ℕ)). list_any (λ p. (n == p.0) && (id == p.1)) ps) none_ in
       never sent no_one
 
-  shows_north : (own : Region) → is_north own ≡ false → shows own North ≡ true
-  shows_north North south = never refl south
-  shows_north Local south = refl
-  shows_north (South id mode) south = or_right (is_broker (South id mode)) (not (region_eq North (South id mode))) refl
+  sees_north : (own : Region) → is_north own ≡ false → sees own North ≡ true
+  sees_north North south = never refl south
+  sees_north Local south = refl
+  sees_north (South id Client) south = refl
+  sees_north (South id Router) south = refl
+  sees_north (South id Peer) south = refl
 
   -- of asks that are answered an expression and hear of later too: the face isn't to the north, and wants it
   answered_wants : (n id : ℕ) (e : K) (f : Face K) (asks : ById (Ask K)) → Each (AskIsHeld f) asks → list_any (is_answered_later n id e) asks ≡ true → (is_north f.region ≡ false) × (wants matching f e ≡ true)
@@ -191,7 +186,7 @@ module _ {K : Type 0} (cmp : K → K → Ordering) (matching : K → K → Bool)
     -- A token from the north answers the asks that it names: where they are to hear of later too, the face keeps it,
     -- and sees it once it is registered.
     pub keeps_answered : (now n id : ℕ) (e : K) (g : Rows K) (f : Face K) → Each (AskIsHeld f) f.asks → KeepsBut cmp matching nothing_left nothing_left g f → KeepsBut cmp matching (shown_from cmp North e) nothing_left g (heard_all cmp now (answer_to cmp matching n id e f) f)
-    unfolding answer_to seeks
+    unfolding answer_to
     keeps_answered now n id e g f held right =
         let h = heard_all cmp now (answer_to cmp matching n id e f) f in
         let region_ = heard_all-region cmp now (answer_to cmp matching n id e f) f in
@@ -204,15 +199,15 @@ module _ {K : Type 0} (cmp : K → K → Ordering) (matching : K → K → Bool)
               ∙ ⊎_elim (λ old. right.kept_is_visible x old refl)
               (λ own.
               let both = new_ x own in
-              never (ap (λ r. same cmp x e && shows r North) region_ ∙ and_from (same cmp x e) (shows f.region North) both.0 (shows_north f.region (answered_wants n id e f f.asks held both.1).0)) seen)
+              never (ap (λ r. same cmp x e && sees r North) region_ ∙ and_from (same cmp x e) (sees f.region North) both.0 (sees_north f.region (answered_wants n id e f f.asks held both.1).0)) seen)
               ((kept_ x).1 kept);
           kept_is_sought = λ x kept.
-              seeks_alike matching h f x region_ held_
+              seeks_alike matching g.mode h f x region_ held_
               ∙ ⊎_elim (λ old. right.kept_is_sought x old)
-              (λ own. let both = new_ x own in or_right (is_north f.region) (wants matching f x) (ap (wants matching f) (same_is cmp total equal_is_same x e both.0) ∙ (answered_wants n id e f f.asks held both.1).1))
+              (λ own. let both = new_ x own in seeks_is matching g.mode f x ∙ or_right (is_north f.region) (wants matching f x) (ap (wants matching f) (same_is cmp total equal_is_same x e both.0) ∙ (answered_wants n id e f f.asks held both.1).1))
               ((kept_ x).1 kept);
           admitted_is_kept = λ x admitted covered _.
-              (kept_ x).0 (right.admitted_is_kept x (ap (λ r. is_admitted cmp g r x) (sym region_) ∙ admitted) (sym (covers_alike matching h f x region_ held_) ∙ covered) refl);
+              (kept_ x).0 (right.admitted_is_kept x (ap (λ r. is_admitted cmp g r x) (sym region_) ∙ admitted) (sym (covers_alike matching g.mode h f x region_ held_) ∙ covered) refl);
         }
 
     -- an answer to asks for what is there now alone changes nothing that is kept
@@ -227,9 +222,9 @@ module _ {K : Type 0} (cmp : K → K → Ordering) (matching : K → K → Bool)
         λ x kept. ⊎_elim (λ old. old) (λ own. never (and_parts (same cmp x e) (list_any (is_answered_later n id e) f.asks) own).1 none_) ((kept_ x).1 kept) in
         record {
           kept_is_visible = λ x kept _. ap (λ r. is_visible cmp g r x) region_ ∙ right.kept_is_visible x (old_ x kept) refl;
-          kept_is_sought = λ x kept. seeks_alike matching h f x region_ held_ ∙ right.kept_is_sought x (old_ x kept);
+          kept_is_sought = λ x kept. seeks_alike matching g.mode h f x region_ held_ ∙ right.kept_is_sought x (old_ x kept);
           admitted_is_kept = λ x admitted covered _.
-              (kept_ x).0 (right.admitted_is_kept x (ap (λ r. is_admitted cmp g r x) (sym region_) ∙ admitted) (sym (covers_alike matching h f x region_ held_) ∙ covered) refl);
+              (kept_ x).0 (right.admitted_is_kept x (ap (λ r. is_admitted cmp g r x) (sym region_) ∙ admitted) (sym (covers_alike matching g.mode h f x region_ held_) ∙ covered) refl);
         }
 
     -- ---- an interest
@@ -256,8 +251,8 @@ module _ {K : Type 0} (cmp : K → K → Ordering) (matching : K → K → Bool)
         ∙ ap (λ b. names cmp x f.told || (is_future interest.mode && b)) (among-answered cmp matching total equal_is_same g interest one x))
         (λ x. ap (λ r. is_visible cmp g r x) region_)
         (λ x. ap (λ r. is_admitted cmp g r x) region_)
-        (λ x. seeks_alike matching three (asked id interest f) x region_ held_ ∙ seeks_asked matching id interest f x new_)
-        (λ x. covers_alike matching three (asked id interest f) x region_ held_ ∙ covers_asked matching id interest f x new_)
+        (λ x. seeks_alike matching g.mode three (asked id interest f) x region_ held_ ∙ seeks_asked matching g.mode id interest f x new_)
+        (λ x. covers_alike matching g.mode three (asked id interest f) x region_ held_ ∙ covers_asked matching g.mode id interest f x new_)
         (should_keep g f right))
 
     -- ---- the end of an interest
@@ -290,9 +285,8 @@ module _ {K : Type 0} (cmp : K → K → Ordering) (matching : K → K → Bool)
         ] refl
 
     -- what a face to the south was told and doesn't want any more is gone
-    untold_kept : (now : ℕ) (f : Face K) (x : K) → IsToldInOrder cmp f.told f.next → is_north f.region ≡ false → keeps cmp (heard_all cmp now (untell_to cmp matching f) f) x ≡ (keeps cmp f x && wants matching f x)
-    unfolding untell_to
-    untold_kept now f x ordered south =
+    untold_kept : (at : Rows K) (now : ℕ) (f : Face K) (x : K) → IsToldInOrder cmp f.told f.next → is_north f.region ≡ false → keeps cmp (heard_all cmp now (untell_to cmp matching at f) f) x ≡ (keeps cmp f x && wants matching f x)
+    untold_kept at now f x ordered south =
         let keys = in_key_order cmp (map (λ row. row.1) f.told) in
         let es = filter (λ e. not (wants matching f e)) keys in
         let ms : List (Message K) = flat_map (λ e. elim (told_id cmp e f.told) [ None ↦ [] | Some id ↦ message.UndeclareToken id None 0 ∷ [] ]) es in
@@ -302,7 +296,8 @@ module _ {K : Type 0} (cmp : K → K → Ordering) (matching : K → K → Bool)
         any_alike (λ e. same cmp e x) (same cmp x) (λ e. same_back cmp total e x) es
         ∙ among-filter cmp total equal_is_same (λ e. not (wants matching f e)) x keys
         ∙ ap (λ b. not (wants matching f x) && b) (among-in_key_order cmp total x (map (λ row. row.1) f.told) ∙ any-map (same cmp x) (λ (row : ℕ × K). row.1) f.told) in
-        ap (λ b. keeps cmp (heard_all cmp now (if b then [] else ms) f) x) south
+        ap (λ sent. keeps cmp (heard_all cmp now sent f) x) (untell_is cmp matching at f)
+        ∙ ap (λ b. keeps cmp (heard_all cmp now (if b then [] else ms) f) x) south
         ∙ ap (names cmp x) told_
         ∙ any-filter (λ row. same cmp x row.1) (but_keys es) f.told
         ∙ any_alike (λ row. but_keys es row && same cmp x row.1) (λ row. not (list_any (λ e. same cmp e x) es) && same cmp x row.1)
@@ -320,11 +315,11 @@ module _ {K : Type 0} (cmp : K → K → Ordering) (matching : K → K → Bool)
         regroup false true = refl
         regroup false false = refl
 
-    none_untold : (now : ℕ) (f : Face K) → is_north f.region ≡ true → heard_all cmp now (untell_to cmp matching f) f ≡ f
-    unfolding untell_to heard_all
-    none_untold now f north =
+    none_untold : (at : Rows K) (now : ℕ) (f : Face K) → is_north f.region ≡ true → heard_all cmp now (untell_to cmp matching at f) f ≡ f
+    unfolding heard_all
+    none_untold at now f north =
         let ms : List (Message K) = flat_map (λ e. elim (told_id cmp e f.told) [ None ↦ [] | Some id ↦ message.UndeclareToken id None 0 ∷ [] ]) (filter (λ e. not (wants matching f e)) (in_key_order cmp (map (λ row. row.1) f.told))) in
-        ap (λ b. heard_all cmp now (if b then [] else ms) f) north
+        ap (λ sent. heard_all cmp now sent f) (untell_is cmp matching at f) ∙ ap (λ b. heard_all cmp now (if b then [] else ms) f) north
 
     final_told : (now id : ℕ) (interest : InterestRow K) (f : Face K) → (heard_all cmp now (final_of_both id interest f) f).told ≡ f.told
     unfolding heard_all
@@ -332,44 +327,44 @@ module _ {K : Type 0} (cmp : K → K → Ordering) (matching : K → K → Bool)
         of_cond (λ (ms : List (Message K)). (heard_all cmp now ms f).told ≡ f.told) (is_current interest.mode && is_some_and (at_id id f.asks) (λ ask. is_future ask.interest.mode)) (message.DeclareFinal id ∷ []) [] (λ _. refl) (λ _. refl)
 
     -- the face whose interest ends, before it is untold what it doesn't want any more, once it is, and once its ask ends
-    pub keeps_finalised : (now id : ℕ) (interest : InterestRow K) (g : Rows K) (f : Face K) → IsToldInOrder cmp f.told f.next
+    pub keeps_finalised : (at : Rows K) (now id : ℕ) (interest : InterestRow K) (g : Rows K) (f : Face K) → IsToldInOrder cmp f.told f.next
         → (let one = unheld id f in
-        let two = heard_all cmp now (untell_to cmp matching one) one in
+        let two = heard_all cmp now (untell_to cmp matching at one) one in
         let three = heard_all cmp now (final_of_both id interest two) two in
         KeepsBut cmp matching nothing_left nothing_left g f → KeepsBut cmp matching nothing_left nothing_left g three)
-    unfolding seeks covers wants
-    keeps_finalised now id interest g f ordered right = by_test (is_north f.region) north south
+    keeps_finalised at now id interest g f ordered right = by_test (is_north f.region) north south
       where
         one : Face K
         one = unheld id f
 
         two : Face K
-        two = heard_all cmp now (untell_to cmp matching one) one
+        two = heard_all cmp now (untell_to cmp matching at one) one
 
         three : Face K
         three = heard_all cmp now (final_of_both id interest two) two
 
         region_ : three.region ≡ f.region
-        region_ = heard_all-region cmp now (final_of_both id interest two) two ∙ heard_all-region cmp now (untell_to cmp matching one) one
+        region_ = heard_all-region cmp now (final_of_both id interest two) two ∙ heard_all-region cmp now (untell_to cmp matching at one) one
 
         held_ : three.held ≡ one.held
-        held_ = heard_all-held cmp now (final_of_both id interest two) two ∙ heard_all-held cmp now (untell_to cmp matching one) one
+        held_ = heard_all-held cmp now (final_of_both id interest two) two ∙ heard_all-held cmp now (untell_to cmp matching at one) one
 
         kept_ : (x : K) → keeps cmp three x ≡ keeps cmp two x
         kept_ x = ap (names cmp x) (final_told now id interest two)
 
-        sought : (x : K) → seeks matching three x ≡ seeks matching one x
-        sought x = seeks_alike matching three one x region_ held_
+        sought : (x : K) → seeks matching g.mode three x ≡ (is_north f.region || wants matching one x)
+        sought x = seeks_alike matching g.mode three one x region_ held_ ∙ seeks_is matching g.mode one x
 
-        covered_before : (x : K) → covers matching three x ≡ true → covers matching f x ≡ true
+        covered_before : (x : K) → covers matching g.mode three x ≡ true → covers matching g.mode f x ≡ true
         covered_before x covered =
-            ⊎_elim (λ north_. or_left (is_north f.region) (list_any (λ row. is_current row.1.mode && asks_token matching row.1 x) f.held) north_)
+            covers_is matching g.mode f x
+            ∙ ⊎_elim (λ north_. or_left (is_north f.region) (list_any (λ row. is_current row.1.mode && asks_token matching row.1 x) f.held) north_)
             (λ asked_. or_right (is_north f.region) (list_any (λ row. is_current row.1.mode && asks_token matching row.1 x) f.held) (any_from_filter (λ (row : ℕ × InterestRow K). is_current row.1.mode && asks_token matching row.1 x) (λ row. not (id == row.0)) f.held asked_))
-            (or_cases (is_north f.region) (list_any (λ row. is_current row.1.mode && asks_token matching row.1 x) one.held) (sym (covers_alike matching three one x region_ held_) ∙ covered))
+            (or_cases (is_north f.region) (list_any (λ row. is_current row.1.mode && asks_token matching row.1 x) one.held) (sym (covers_alike matching g.mode three one x region_ held_ ∙ covers_is matching g.mode one x) ∙ covered))
 
         north : is_north f.region ≡ true → KeepsBut cmp matching nothing_left nothing_left g three
         north is =
-            let same_kept = λ (x : K). kept_ x ∙ ap (λ (k : Face K). keeps cmp k x) (none_untold now one is) in
+            let same_kept = λ (x : K). kept_ x ∙ ap (λ (k : Face K). keeps cmp k x) (none_untold at now one is) in
             record {
               kept_is_visible = λ x kept _. ap (λ r. is_visible cmp g r x) region_ ∙ right.kept_is_visible x (sym (same_kept x) ∙ kept) refl;
               kept_is_sought = λ x kept. sought x ∙ or_left (is_north f.region) (wants matching one x) is;
@@ -378,14 +373,14 @@ module _ {K : Type 0} (cmp : K → K → Ordering) (matching : K → K → Bool)
 
         south : is_north f.region ≡ false → KeepsBut cmp matching nothing_left nothing_left g three
         south is =
-            let parts = λ (x : K). kept_ x ∙ untold_kept now one x ordered is in
+            let parts = λ (x : K). kept_ x ∙ untold_kept at now one x ordered is in
             record {
               kept_is_visible = λ x kept _. ap (λ r. is_visible cmp g r x) region_ ∙ right.kept_is_visible x (and_parts (keeps cmp f x) (wants matching one x) (sym (parts x) ∙ kept)).0 refl;
               kept_is_sought = λ x kept. sought x ∙ or_right (is_north f.region) (wants matching one x) (and_parts (keeps cmp f x) (wants matching one x) (sym (parts x) ∙ kept)).1;
               admitted_is_kept = λ x admitted covered _.
                   parts x
                   ∙ and_from (keeps cmp f x) (wants matching one x) (right.admitted_is_kept x (ap (λ r. is_admitted cmp g r x) (sym region_) ∙ admitted) (covered_before x covered) refl)
-                  (⊎_elim (λ north_. never north_ is) (λ wanted. wanted) (or_cases (is_north f.region) (wants matching one x) (sym (sought x) ∙ covers_seeks matching three x covered)));
+                  (⊎_elim (λ north_. never north_ is) (λ wanted. wanted) (or_cases (is_north f.region) (wants matching one x) (sym (sought x) ∙ covers_seeks matching g.mode three x covered)));
             }
 
     -- ---- greeting
@@ -408,7 +403,6 @@ module _ {K : Type 0} (cmp : K → K → Ordering) (matching : K → K → Bool)
     -- a new face, which keeps and holds nothing yet: one to the north is told all that is visible
     pub keeps_greeted : (now : ℕ) (g h : Rows K) (f : Face K) → 1 ≤ f.next → f.told ≡ [] → f.held ≡ [] → is_routed g f ≡ false → h.mode ≡ g.mode → ((x : K) → is_visible cmp h f.region x ≡ is_visible cmp g f.region x)
         → KeepsBut cmp matching nothing_left nothing_left g (heard_all cmp now (tokens_from f.next (opening_tokens cmp matching h f)) f)
-    unfolding seeks covers wants
     keeps_greeted now g h f real told_ held_ plain mode_ visible_ =
         subst (λ es. KeepsBut cmp matching nothing_left nothing_left g (heard_all cmp now (tokens_from f.next es) f)) (sym (by_test (is_north f.region) (λ is. to_north is) (λ is. to_south is))) (by_test (is_north f.region) north south)
       where
@@ -417,11 +411,12 @@ module _ {K : Type 0} (cmp : K → K → Ordering) (matching : K → K → Bool)
 
         to_north : is_north f.region ≡ true → opening_tokens cmp matching h f ≡ tokens
         to_north is =
-            let greets = and_from (is_north f.region) (not (whatami_eq h.mode Router)) is (greets_north h.mode f.region is (ap (λ m. is_router_hat (strategy_of m f.region)) mode_ ∙ plain)) in
+            let plain_ : is_routed h f ≡ false = ap (λ m. (hat_of m f.region).goes_by_trees) mode_ ∙ plain in
+            let greets : is_greeted cmp matching h f ≡ true = and_from (not (is_routed h f)) ((hat_of h.mode f.region).is_told_unasked f.region) (not_from_false (is_routed h f) plain_) (told_unasked_north h.mode f.region ∙ is) in
             ap (λ b. if b then visible_expressions cmp h f.region else []) greets ∙ ap (λ b. if b then visible_expressions cmp h f.region else []) (sym is)
 
         to_south : is_north f.region ≡ false → opening_tokens cmp matching h f ≡ tokens
-        to_south is = ap (λ b. if b && not (whatami_eq h.mode Router) then visible_expressions cmp h f.region else []) is ∙ ap (λ b. if b then visible_expressions cmp h f.region else []) (sym is)
+        to_south is = ap (λ b. if b then visible_expressions cmp h f.region else []) (greeted_is cmp matching h f) ∙ ap (λ b. if b && not (whatami_eq h.mode Router) then visible_expressions cmp h f.region else []) is ∙ ap (λ b. if b then visible_expressions cmp h f.region else []) (sym is)
 
         none_kept : (x : K) → keeps cmp f x ≡ false
         none_kept x = ap (names cmp x) told_
@@ -438,7 +433,7 @@ module _ {K : Type 0} (cmp : K → K → Ordering) (matching : K → K → Bool)
             ∙ visible_ x in
             record {
               kept_is_visible = λ x kept _. ap (λ r. is_visible cmp g r x) region_ ∙ sym (kept_ x) ∙ kept;
-              kept_is_sought = λ x kept. or_left (is_north k.region) (list_any (λ row. asks_token matching row.1 x) k.held) (ap is_north region_ ∙ is);
+              kept_is_sought = λ x kept. seeks_is matching g.mode k x ∙ or_left (is_north k.region) (wants matching k x) (ap is_north region_ ∙ is);
               admitted_is_kept = λ x admitted covered _. kept_ x ∙ ap (λ r. is_visible cmp g r x) (sym region_) ∙ admitted_visible cmp g k.region x admitted;
             }
 
@@ -449,5 +444,5 @@ module _ {K : Type 0} (cmp : K → K → Ordering) (matching : K → K → Bool)
               kept_is_visible = λ x kept _. never kept (none_kept x);
               kept_is_sought = λ x kept. never kept (none_kept x);
               admitted_is_kept = λ x admitted covered _.
-                  never covered (ap (λ b. b || list_any (λ row. is_current row.1.mode && asks_token matching row.1 x) f.held) is ∙ ap (λ (rows : ById (InterestRow K)). list_any (λ row. is_current row.1.mode && asks_token matching row.1 x) rows) held_);
+                  never (sym (covers_is matching g.mode f x) ∙ covered) (ap (λ b. b || list_any (λ row. is_current row.1.mode && asks_token matching row.1 x) f.held) is ∙ ap (λ (rows : ById (InterestRow K)). list_any (λ row. is_current row.1.mode && asks_token matching row.1 x) rows) held_);
             })

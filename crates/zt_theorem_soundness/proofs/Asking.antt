@@ -7,8 +7,6 @@ use Rattle.std.specs.FinMap.Entries.{put}
 use Rattle.std.specs.declared.cmp.Ordering.{Ordering}
 use Rattle.std.specs.declared.cmp.Ordering.TheVariants.{Equal}
 use Rattle.zt_region.specs.declared.region.Region.{Region}
-use Rattle.zt_region.specs.declared.region.WhatAmI.{WhatAmI}
-use Rattle.zt_region.specs.declared.region.WhatAmI.TheVariants.{Router, Peer, Client}
 use Rattle.zt_region.specs.Region.{is_north}
 use Rattle.zt_protocol.specs.Interest.{is_current, is_future}
 use Rattle.zt_protocol.specs.declared.interests.InterestMode.{InterestMode}
@@ -19,7 +17,7 @@ use Rattle.zt_model.specs.Entities.{entities_for, numbered_by, with_numbers}
 use Rattle.zt_model.specs.Hearing.{heard, heard_all, messages_for, put_if, rows_heard}
 use Rattle.zt_model.specs.Lists.{at_id, first_where, has_id}
 use Rattle.zt_model.specs.Refusals.{is_interest_id_in_use}
-use Rattle.zt_model.specs.Routing.{asked_as, final_of, is_target, is_target_of, route_to, sent_as}
+use Rattle.zt_model.specs.Routing.{asked_as, final_of, is_asked, is_target, route_to, sent_as}
 use Rattle.zt_model.specs.Rows.{Ask, ById, Face, InterestRow, Pending, Rows}
 use Rattle.zt_model.specs.Says.{Alter, Say, answered_expressions, answers_from, answers_of, asking, find_face, is_routed, to_each, to_face, told_id, with_face}
 use Rattle.zt_model.specs.Transcript.{Each}
@@ -28,7 +26,7 @@ use Rattle.zt_laws.specs.Order.{HasRowsInOrder, RowsAreInOrder}
 use Rattle.zt_laws.specs.Sound.{IsToldInOrder}
 use Rattle.zt_laws.proofs.Hearing.{each_ruled, each_ruled_one, find_only, heard_all-held, heard_all-live, heard_all-number, heard_all-region, messages_for_each}
 use Rattle.zt_laws.proofs.Interests.{answered_in_order}
-use Rattle.zt_laws.proofs.Lists.{by_test, each_always, each_both, each_map, each_weaker, filter_alike, never, of_cond}
+use Rattle.zt_laws.proofs.Lists.{by_test, each_both, each_map, each_weaker, never, of_cond}
 use Rattle.zt_laws.proofs.PartsOrder.{each_message_for, orderly_each, orderly_one, quiet_face, rise_put_if}
 use Rattle.zt_laws.proofs.Silent.{silent_final, silent_route}
 use Rattle.zt_laws.proofs.ToldFrom.{found_by_number}
@@ -58,7 +56,7 @@ module _ {K : Type 0} where
   -- an interest of a face to the north goes to nobody
   pub none_sent_north : (g : Rows K) (asker : Region) (mode : InterestMode) → is_north asker ≡ true → sent_as g asker mode ≡ []
   unfolding sent_as is_target
-  none_sent_north g asker mode north = ap (map (λ (f : Face K). (f.number, f.next))) (filter_none (is_target g asker mode) g.faces (λ f. ap (λ b. not b && (is_north f.region && is_target_of g.mode g mode f)) north))
+  none_sent_north g asker mode north = ap (map (λ (f : Face K). (f.number, f.next))) (filter_none (is_target g asker mode) g.faces (λ f. ap (λ b. not b && is_asked g mode f) north))
 
 module _ {K : Type 0} (cmp : K → K → Ordering) where
   -- an interest's own id is named rightly where it was sent
@@ -117,17 +115,9 @@ module _ {K : Type 0} (cmp : K → K → Ordering) where
     sent_new g asker interest f current target rows = rw target (named_new g.moment interest.mode interest.options interest.expr f current rows)
 
     -- the dictionary says nothing of targets
-    target_numbered : (es : List K) (g : Rows K) (w : WhatAmI) (mode : InterestMode) (f : Face K) → is_target_of w (with_numbers cmp es g) mode f ≡ is_target_of w g mode f
-    target_numbered es g Client mode f = refl
-    target_numbered es g Peer mode f = refl
-    target_numbered es g Router mode f = refl
-
     sent_numbered : (es : List K) (g : Rows K) (asker : Region) (mode : InterestMode) → sent_as (with_numbers cmp es g) asker mode ≡ sent_as g asker mode
     unfolding sent_as is_target
-    sent_numbered es g asker mode =
-        ap (map (λ (f : Face K). (f.number, f.next)))
-        (filter_alike (is_target (with_numbers cmp es g) asker mode) (is_target g asker mode) g.faces
-        (each_always (λ f. is_target (with_numbers cmp es g) asker mode f ≡ is_target g asker mode f) (λ f. ap (λ b. not (is_north asker) && (is_north f.region && b)) (target_numbered es g g.mode mode f)) g.faces))
+    sent_numbered es g asker mode = refl
 
     -- what is sent is known then: the ids and mode of an interest, where it goes
     sent_known : (asker : Region) (interest : InterestRow K) (g : Rows K) → is_current interest.mode ≡ true → RowsAreInOrder cmp matching g

@@ -156,13 +156,13 @@ module _ {K : Type 0} (cmp : K → K → Ordering) (matching : K → K → Bool)
   none_refused : (g : Rows K) (own : Region) (x : K) → g.refused ≡ [] → is_admitted cmp g own x ≡ is_visible cmp g own x
   unfolding is_admitted is_visible
   none_refused g own x none_ =
-      any_alike (λ (row : Region × K). same cmp x row.1 && (shows own row.0 && admits g.refused row.0 own)) (λ row. same cmp x row.1 && shows own row.0)
-      (λ row. ap (λ (pairs : List (Region × Region)). same cmp x row.1 && (shows own row.0 && admits pairs row.0 own)) none_ ∙ ap (λ b. same cmp x row.1 && b) (and_true (shows own row.0))) (live_rows g)
+      any_alike (λ (row : Region × K). same cmp x row.1 && (shows g.mode own row.0 && admits g.refused row.0 own)) (λ row. same cmp x row.1 && shows g.mode own row.0)
+      (λ row. ap (λ (pairs : List (Region × Region)). same cmp x row.1 && (shows g.mode own row.0 && admits pairs row.0 own)) none_ ∙ ap (λ b. same cmp x row.1 && b) (and_true (shows g.mode own row.0))) (live_rows g)
     where
       and_true : (b : Bool) → (b && true) ≡ b
       and_true true = refl
       and_true false = refl
 
-  pub keeps_exactly : (g : Rows K) (f : Face K) (e : K) → KeepsRight cmp matching g f → g.refused ≡ [] → covers matching f e ≡ true → keeps cmp f e ≡ is_visible cmp g f.region e
+  pub keeps_exactly : (g : Rows K) (f : Face K) (e : K) → KeepsRight cmp matching g f → g.refused ≡ [] → covers matching g.mode f e ≡ true → keeps cmp f e ≡ is_visible cmp g f.region e
   keeps_exactly g f e right none_ covered =
       same_tests (keeps cmp f e) (is_visible cmp g f.region e) (λ kept. right.kept_is_visible e kept) (λ sees. right.admitted_is_kept e (none_refused g f.region e none_ ∙ sees) covered)

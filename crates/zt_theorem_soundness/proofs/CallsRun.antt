@@ -13,13 +13,13 @@ use Rattle.zt_protocol.specs.declared.messages.Message.TheVariants as message
 use Rattle.zt_protocol.specs.declared.messages.QueryableInfo.{QueryableInfo}
 use Rattle.zt_model.specs.Closing.{closing, is_expired, leaving, without_asks, without_face}
 use Rattle.zt_model.specs.Entities.{aggregate_of, all_merged, entities_for, info_of, matching_queryables, matching_subscribers, number_of, numbered_by, queryable_of, queryables_for, subscriber_of, subscribers_for, with_entities, with_numbers}
+use Rattle.zt_model.specs.Hat.{hat_of}
 use Rattle.zt_model.specs.Hearing.{heard, heard_all, messages_for, rows_heard}
 use Rattle.zt_model.specs.Lists.{at_id, first_of, has_id, in_key_order, same}
 use Rattle.zt_model.specs.Parts.{unsaid_to}
 use Rattle.zt_model.specs.Routing.{asked_as, end_upstream_to, ended, ending, final_of, final_of_both, finalising, finish_to, finishing, initial_finalised, interests_from, is_target, opened, opening_final, opening_interests, opening_tokens, route_to, sent_as, tokens_from, unheld, untell_to}
 use Rattle.zt_model.specs.Rows.{Face, InterestRow, RoutedRow, Rows}
 use Rattle.zt_model.specs.Says.{Alter, Part, Say, altered_by, answering, answers_of, asking, declaring, declaring_of, finalising_held, find_face, forget_to, hiding_undeclared, is_routed, opened_session, parts_of, registered, registers, row_of, said_by, tell_to, to_each, to_face, undeclared, undeclaring, undeclaring_of, unregistered, with_face}
-use Rattle.zt_model.specs.Strategy.{is_router_hat, strategy_of}
 use Rattle.zt_model.specs.Telling.{answer_to}
 use Rattle.zt_model.specs.Transcript.{Each}
 use Rattle.zt_model.specs.Trees.{changing_table, counted_table, greet_to, hide_to, hiding, is_hidden, is_newly_shown, left_out, pass_to, router_regions, show_to, showing, source_of, table_of, unpass_to, with_own_rows, with_routed, with_table, without_left_out, without_own_rows, without_routed}
@@ -181,8 +181,8 @@ module _ {K : Type 0} (cmp : K → K → Ordering) where
       ∙ sym (own_rows_alike rs e g (map (λ f. heard_all cmp g.moment (messages_for f.number ss) f) g.faces))
 
   pub visible_heard : (ss : List (ℕ × Message K)) (g : Rows K) (own : Region) (x : K) → is_visible cmp (rows_heard cmp ss g) own x ≡ is_visible cmp g own x
-  unfolding is_visible
-  visible_heard ss g own x = ap (list_any (λ row. same cmp x row.1 && shows own row.0)) (live_rows_heard ss g)
+  unfolding is_visible rows_heard
+  visible_heard ss g own x = ap (list_any (λ row. same cmp x row.1 && shows g.mode own row.0)) (live_rows_heard ss g)
 
   hiding_exchanged : (P : Message K → Type 0) (source : Region) (e : K) → Exchanges cmp P (without_own_rows cmp source e)
   unfolding without_own_rows is_hidden rows_heard
@@ -192,7 +192,7 @@ module _ {K : Type 0} (cmp : K → K → Ordering) where
       same_ ss g =
           filter_alike (λ row. not (zid_eq row.source g.zid && (same cmp e row.expr && is_hidden cmp (rows_heard cmp ss g) source e row.region))) (λ row. not (zid_eq row.source g.zid && (same cmp e row.expr && is_hidden cmp g source e row.region))) g.routed
           (each_always (λ row. not (zid_eq row.source g.zid && (same cmp e row.expr && is_hidden cmp (rows_heard cmp ss g) source e row.region)) ≡ not (zid_eq row.source g.zid && (same cmp e row.expr && is_hidden cmp g source e row.region)))
-          (λ row. ap (λ b. not (zid_eq row.source g.zid && (same cmp e row.expr && (is_router_hat (strategy_of g.mode row.region) && (not (region_eq row.region source) && not b))))) (visible_heard ss g row.region e)) g.routed)
+          (λ row. ap (λ b. not (zid_eq row.source g.zid && (same cmp e row.expr && ((hat_of g.mode row.region).goes_by_trees && (not (region_eq row.region source) && not b))))) (visible_heard ss g row.region e)) g.routed)
 
   -- ---- what entities are answered with
 
@@ -261,7 +261,7 @@ module _ {K : Type 0} (cmp : K → K → Ordering) where
         cases (Some e) = hiding_runs f.region e
 
     finalising_runs : (n id : ℕ) (interest : InterestRow K) → Each Silent (finalising cmp matching n id interest)
-    finalising_runs n id interest = (unheld_exchanged DrawsNothing n id, (λ g. each_ruled_one DrawsNothing n (untell_to cmp matching) g (silent_untell cmp matching), (λ g. each_ruled_one DrawsNothing n (final_of_both id interest) g (silent_final_of_both id interest), (λ g. each_ruled DrawsNothing (end_upstream_to cmp matching g interest) g.faces (silent_end_upstream cmp matching g interest), tt))))
+    finalising_runs n id interest = (unheld_exchanged DrawsNothing n id, (λ g. each_ruled_one DrawsNothing n (untell_to cmp matching g) g (silent_untell cmp matching g), (λ g. each_ruled_one DrawsNothing n (final_of_both id interest) g (silent_final_of_both id interest), (λ g. each_ruled DrawsNothing (end_upstream_to cmp matching g interest) g.faces (silent_end_upstream cmp matching g interest), tt))))
 
     ending_runs : (n id : ℕ) → Each Silent (ending n id)
     ending_runs n id = (ended_exchanged n id, (λ g. each_ruled DrawsNothing (finish_to g n id) g.faces (silent_finish g n id), tt))

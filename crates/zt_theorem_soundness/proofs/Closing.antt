@@ -132,8 +132,8 @@ module _ {K : Type 0} (cmp : K → K → Ordering) (matching : K → K → Bool)
         let ss = unsaid n (to_each (end_upstream_to cmp matching h interest) h.faces) in
         let done : Left n (rows_heard cmp ss h) = (sound_quiet cmp matching (only n) nothing_left nothing_left ss h ((spares_one cmp matching n).quiet (to_each (end_upstream_to cmp matching h interest) h.faces) (each_end_upstream cmp matching h interest)) s1, nothing_heard n ss h n1) in
         let silent_two : (k : Rows K) → k ≡ h → Left n (rows_heard cmp (unsaid n (to_each (end_upstream_to cmp matching k interest) k.faces)) k) = λ k is. subst (λ x. Left n (rows_heard cmp (unsaid n (to_each (end_upstream_to cmp matching x interest) x.faces)) x)) (sym is) done in
-        let h2 = rows_heard cmp (unsaid n (to_face n (untell_to cmp matching) h)) h in
-        let is2 : h2 ≡ h = ap (λ ss. rows_heard cmp ss h) (none_said n (untell_to cmp matching) h) ∙ rows_heard_nothing cmp h in
+        let h2 = rows_heard cmp (unsaid n (to_face n (untell_to cmp matching h) h)) h in
+        let is2 : h2 ≡ h = ap (λ ss. rows_heard cmp ss h) (none_said n (untell_to cmp matching h) h) ∙ rows_heard_nothing cmp h in
         let is3 : rows_heard cmp (unsaid n (to_face n (final_of_both id interest) h2)) h2 ≡ h = ap (λ ss. rows_heard cmp ss h2) (none_said n (final_of_both id interest) h2) ∙ rows_heard_nothing cmp h2 ∙ is2 in
         silent_two (rows_heard cmp (unsaid n (to_face n (final_of_both id interest) h2)) h2) is3
 

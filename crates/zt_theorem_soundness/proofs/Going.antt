@@ -12,13 +12,13 @@ use Rattle.zt_protocol.specs.declared.interests.InterestMode.{InterestMode}
 use Rattle.zt_protocol.specs.declared.interests.InterestOptions.{InterestOptions}
 use Rattle.zt_protocol.specs.declared.messages.Message.{Message}
 use Rattle.zt_protocol.specs.declared.messages.Message.TheVariants as message
+use Rattle.zt_model.specs.Hat.{hat_of}
 use Rattle.zt_model.specs.Hearing.{heard, heard_all, messages_for, put_if, rows_heard, with_answer}
 use Rattle.zt_region.specs.Region.{is_north}
 use Rattle.zt_model.specs.Lists.{at_id, same}
 use Rattle.zt_model.specs.Routing.{interests_from}
 use Rattle.zt_model.specs.Rows.{Ask, ById, Face, InterestRow, Rows}
 use Rattle.zt_model.specs.Says.{Say, Sends, is_routed, to_each, with_face}
-use Rattle.zt_model.specs.Strategy.{is_router_hat, strategy_of}
 use Rattle.zt_model.specs.Transcript.{Each}
 use Rattle.zt_laws.specs.Order.{RowsAreInOrder}
 use Rattle.zt_laws.specs.Sound.{IsToldInOrder}
@@ -202,7 +202,7 @@ module _ {K : Type 0} where
       (each_map (λ f. is_routed h f ≡ true → f.live ≡ []) change g.faces
       (each_both (λ f. FaceGoesOn but g f (change f)) (λ f. is_routed g f ≡ true → f.live ≡ []) (λ f. is_routed h (change f) ≡ true → (change f).live ≡ [])
       (λ f one none_ is.
-      let is_ : is_routed g f ≡ true = sym (ap (λ m. is_router_hat (strategy_of m (change f).region)) goes.mode ∙ ap (λ (r : Region). is_router_hat (strategy_of g.mode r)) one.region) ∙ is in
+      let is_ : is_routed g f ≡ true = sym (ap (λ m. (hat_of m (change f).region).goes_by_trees) goes.mode ∙ ap (λ (r : Region). (hat_of g.mode r).goes_by_trees) one.region) ∙ is in
       one.live is_ (none_ is_))
       g.faces goes.each routed))
 
@@ -216,7 +216,7 @@ module _ {K : Type 0} (cmp : K → K → Ordering) (matching : K → K → Bool)
       (each_map (λ f. is_routed h f ≡ false → but f.number ≡ false → KeepsBut cmp matching unseen_ untold_ h f) change g.faces
       (each_both (λ f. FaceGoesOn but g f (change f) × (is_routed g f ≡ false → but f.number ≡ false → KeepsBut cmp matching unseen untold g f → KeepsBut cmp matching unseen_ untold_ h (change f))) (λ f. is_routed g f ≡ false → but f.number ≡ false → KeepsBut cmp matching unseen untold g f) (λ f. is_routed h (change f) ≡ false → but (change f).number ≡ false → KeepsBut cmp matching unseen_ untold_ h (change f))
       (λ f both right plain seen.
-      let plain_ : is_routed g f ≡ false = sym (ap (λ m. is_router_hat (strategy_of m (change f).region)) goes.mode ∙ ap (λ (r : Region). is_router_hat (strategy_of g.mode r)) both.0.region) ∙ plain in
+      let plain_ : is_routed g f ≡ false = sym (ap (λ m. (hat_of m (change f).region).goes_by_trees) goes.mode ∙ ap (λ (r : Region). (hat_of g.mode r).goes_by_trees) both.0.region) ∙ plain in
       let seen_ : but f.number ≡ false = ap but (sym both.0.number) ∙ seen in
       both.1 plain_ seen_ (right plain_ seen_))
       g.faces

@@ -68,9 +68,9 @@ module _ {K : Type 0} (cmp : K → K → Ordering) (matching : K → K → Bool)
 
   -- ---- the end of an interest
 
-  module _ (now id : ℕ) (interest : InterestRow K) (f : Face K) where
+  module _ (at : Rows K) (now id : ℕ) (interest : InterestRow K) (f : Face K) where
     abbrev untold_face : Face K
-    untold_face = heard_all cmp now (untell_to cmp matching (unheld id f)) (unheld id f)
+    untold_face = heard_all cmp now (untell_to cmp matching at (unheld id f)) (unheld id f)
 
     abbrev pub finalised_face : Face K
     finalised_face = heard_all cmp now (final_of_both id interest untold_face) untold_face
@@ -87,10 +87,10 @@ module _ {K : Type 0} (cmp : K → K → Ordering) (matching : K → K → Bool)
         let two = untold_face in
         let three = finalised_face in
         let unheld_rows : HasRowsInOrder (unheld id f) = record { live = rows.live; held = rise_without_id id f.held rows.held; locals = rows.locals; pendings = rows.pendings; asks = rows.asks } in
-        let two_rows = rows_in_order_heard_all cmp now (untell_to cmp matching (unheld id f)) (unheld id f) unheld_rows in
-        let all_two : Each (AskIsHeld f) two.asks = asks_heard cmp (AskIsHeld f) (λ row es one. record { current = one.current; held = one.held; from_south = one.from_south }) now (untell_to cmp matching (unheld id f)) (unheld id f) all in
-        let region_ : three.region ≡ f.region = heard_all-region cmp now (final_of_both id interest two) two ∙ heard_all-region cmp now (untell_to cmp matching (unheld id f)) (unheld id f) in
-        let held_three : three.held ≡ without_id id f.held = heard_all-held cmp now (final_of_both id interest two) two ∙ heard_all-held cmp now (untell_to cmp matching (unheld id f)) (unheld id f) in
+        let two_rows = rows_in_order_heard_all cmp now (untell_to cmp matching at (unheld id f)) (unheld id f) unheld_rows in
+        let all_two : Each (AskIsHeld f) two.asks = asks_heard cmp (AskIsHeld f) (λ row es one. record { current = one.current; held = one.held; from_south = one.from_south }) now (untell_to cmp matching at (unheld id f)) (unheld id f) all in
+        let region_ : three.region ≡ f.region = heard_all-region cmp now (final_of_both id interest two) two ∙ heard_all-region cmp now (untell_to cmp matching at (unheld id f)) (unheld id f) in
+        let held_three : three.held ≡ without_id id f.held = heard_all-held cmp now (final_of_both id interest two) two ∙ heard_all-held cmp now (untell_to cmp matching at (unheld id f)) (unheld id f) in
         let ends = of_cond (Each (λ row. AskIsHeld f row × ((id == row.0) ≡ true → is_future row.1.interest.mode ≡ false))) (ends_ask two) (without_id id two.asks) two.asks
         (λ _. each_both (AskIsHeld f) (λ row. not (id == row.0) ≡ true) (λ row. AskIsHeld f row × ((id == row.0) ≡ true → is_future row.1.interest.mode ≡ false))
         (λ row one other. (one, λ hit. never other (ap not hit))) (without_id id two.asks) (each_filter (AskIsHeld f) (λ row. not (id == row.0)) two.asks all_two) (each_passes (λ row. not (id == row.0)) two.asks))
@@ -119,14 +119,14 @@ module _ {K : Type 0} (cmp : K → K → Ordering) (matching : K → K → Bool)
     pub finalised_goes_on : (g : Rows K) → HasRowsInOrder f → at_id id f.held ≡ Some interest → FaceGoesOn nobody g f finalised_face
     finalised_goes_on g rows held_ =
         let two = untold_face in
-        let untells = untell_to cmp matching (unheld id f) in
+        let untells = untell_to cmp matching at (unheld id f) in
         let finals = final_of_both id interest two in
         record {
           number = heard_all-number cmp now finals two ∙ heard_all-number cmp now untells (unheld id f);
           region = heard_all-region cmp now finals two ∙ heard_all-region cmp now untells (unheld id f);
           named = λ mode k is.
               named_heard cmp mode k now finals two (each_weaker DrawsNothing MakesNoPending none_if_drawn finals (silent_final_of_both id interest two))
-              (named_heard cmp mode k now untells (unheld id f) (each_weaker DrawsNothing MakesNoPending none_if_drawn untells (silent_untell cmp matching (unheld id f))) (record { below = is.below; of_mode = is.of_mode }));
+              (named_heard cmp mode k now untells (unheld id f) (each_weaker DrawsNothing MakesNoPending none_if_drawn untells (silent_untell cmp matching at (unheld id f))) (record { below = is.below; of_mode = is.of_mode }));
           held = λ _ all. asks_ended rows held_ all;
           pendings = λ all. asks_heard cmp (PendingsOfAskAreKnown g) (λ row es one. one) now finals two (asks_heard cmp (PendingsOfAskAreKnown g) (λ row es one. one) now untells (unheld id f) all);
           live = λ _ none_. heard_all-live cmp now finals two ∙ heard_all-live cmp now untells (unheld id f) ∙ none_;
@@ -137,31 +137,31 @@ module _ {K : Type 0} (cmp : K → K → Ordering) (matching : K → K → Bool)
     unfolding ran
     sound_finalised n id interest from g found held_ sound =
         let h1 = with_face n (unheld id) g in
-        let ss2 = to_face n (untell_to cmp matching) h1 in
+        let ss2 = to_face n (untell_to cmp matching h1) h1 in
         let h2 = rows_heard cmp ss2 h1 in
         let ss3 = to_face n (final_of_both id interest) h2 in
         let h3 = rows_heard cmp ss3 h2 in
         let o1 = ordered_altered cmp matching (with_face n (unheld id)) g (quiet_face cmp matching n (unheld id) (λ k. refl) (λ k rows. record { live = rows.live; held = rise_without_id id k.held rows.held; locals = rows.locals; pendings = rows.pendings; asks = rows.asks })) sound.ordered in
-        let o2 = silent_ordered cmp matching ss2 h1 (each_ruled_one DrawsNothing n (untell_to cmp matching) h1 (silent_untell cmp matching)) o1 in
+        let o2 = silent_ordered cmp matching ss2 h1 (each_ruled_one DrawsNothing n (untell_to cmp matching h1) h1 (silent_untell cmp matching h1)) o1 in
         let o3 = silent_ordered cmp matching ss3 h2 (each_ruled_one DrawsNothing n (final_of_both id interest) h2 (silent_final_of_both id interest)) o2 in
-        let is : h3 ≡ with_face n (finalised_face g.moment id interest) g = face_hears_twice n (unheld id) (untell_to cmp matching) (final_of_both id interest) g sound.ordered (λ f. refl) in
+        let is : h3 ≡ with_face n (finalised_face (with_face n (unheld id) g) g.moment id interest) g = face_hears_twice n (unheld id) (untell_to cmp matching h1) (final_of_both id interest) g sound.ordered (λ f. refl) in
         let sound_three = composite (subst (RowsAreInOrder cmp matching) is o3) in
         sound_quiet cmp matching nobody nothing_left nothing_left (to_each (end_upstream_to cmp matching h3 interest) h3.faces) h3 (each_end_upstream cmp matching h3 interest) (subst (Sound cmp matching total equal_is_same) (sym is) sound_three)
       where
-        composite : RowsAreInOrder cmp matching (with_face n (finalised_face g.moment id interest) g) → Sound cmp matching total equal_is_same (with_face n (finalised_face g.moment id interest) g)
+        composite : RowsAreInOrder cmp matching (with_face n (finalised_face (with_face n (unheld id) g) g.moment id interest) g) → Sound cmp matching total equal_is_same (with_face n (finalised_face (with_face n (unheld id) g) g.moment id interest) g)
         composite ordered =
-            let three = finalised_face g.moment id interest in
+            let three = finalised_face (with_face n (unheld id) g) g.moment id interest in
             let chosen = λ (f : Face K). if n == f.number then three f else f in
             let h = with_face n three g in
             let facts = each_both (λ f. (n == f.number) ≡ true → f ≡ from) HasRowsInOrder (λ f. ((n == f.number) ≡ true → f ≡ from) × HasRowsInOrder f) (λ f a b. (a, b)) g.faces (find_only n 1 g.faces from sound.ordered.lists.faces_rise found) sound.ordered.lists.rows in
             let goes = each_weaker (λ f. ((n == f.number) ≡ true → f ≡ from) × HasRowsInOrder f) (λ f. FaceGoesOn nobody g f (chosen f))
-            (λ f both. of_cond (FaceGoesOn nobody g f) (n == f.number) (three f) f (λ here. finalised_goes_on g.moment id interest f g both.1 (ap (λ (k : Face K). at_id id k.held) (both.0 here) ∙ held_)) (λ _. goes_on_itself nobody g f)) g.faces facts in
-            let shows_same : ShowSame g h = with_face_same n three g (λ f. heard_all-region cmp g.moment (final_of_both id interest (untold_face g.moment id interest f)) (untold_face g.moment id interest f) ∙ heard_all-region cmp g.moment (untell_to cmp matching (unheld id f)) (unheld id f))
-            (λ f. heard_all-live cmp g.moment (final_of_both id interest (untold_face g.moment id interest f)) (untold_face g.moment id interest f) ∙ heard_all-live cmp g.moment (untell_to cmp matching (unheld id f)) (unheld id f)) in
+            (λ f both. of_cond (FaceGoesOn nobody g f) (n == f.number) (three f) f (λ here. finalised_goes_on (with_face n (unheld id) g) g.moment id interest f g both.1 (ap (λ (k : Face K). at_id id k.held) (both.0 here) ∙ held_)) (λ _. goes_on_itself nobody g f)) g.faces facts in
+            let shows_same : ShowSame g h = with_face_same n three g (λ f. heard_all-region cmp g.moment (final_of_both id interest (untold_face (with_face n (unheld id) g) g.moment id interest f)) (untold_face (with_face n (unheld id) g) g.moment id interest f) ∙ heard_all-region cmp g.moment (untell_to cmp matching (with_face n (unheld id) g) (unheld id f)) (unheld id f))
+            (λ f. heard_all-live cmp g.moment (final_of_both id interest (untold_face (with_face n (unheld id) g) g.moment id interest f)) (untold_face (with_face n (unheld id) g) g.moment id interest f) ∙ heard_all-live cmp g.moment (untell_to cmp matching (with_face n (unheld id) g) (unheld id f)) (unheld id f)) in
             sound_goes_on cmp matching nobody nothing_left nothing_left nothing_left nothing_left g h chosen (record { faces = with_face_faces n three g; made = with_face_made n three g; mode = with_face_mode n three g; each = goes }) ordered
             (each_weaker (λ f. IsToldInOrder cmp f.told f.next) (λ f. is_routed g f ≡ false → false ≡ false → KeepsBut cmp matching nothing_left nothing_left g f → KeepsBut cmp matching nothing_left nothing_left h (chosen f))
             (λ f told _ _ right.
             of_cond (KeepsBut cmp matching nothing_left nothing_left h) (n == f.number) (three f) f
-            (λ here. keeps_stays cmp matching nothing_left nothing_left g h (three f) (three f) shows_same (stays_itself (three f)) (keeps_finalised cmp matching total equal_is_same g.moment id interest g f told right))
+            (λ here. keeps_stays cmp matching nothing_left nothing_left g h (three f) (three f) shows_same (stays_itself (three f)) (keeps_finalised cmp matching total equal_is_same (with_face n (unheld id) g) g.moment id interest g f told right))
             (λ _. keeps_stays cmp matching nothing_left nothing_left g h f f shows_same (stays_itself f) right)) g.faces sound.ordered.told)
             sound

@@ -13,11 +13,11 @@ use Rattle.zt_region.specs.declared.region.WhatAmI.TheVariants.{Client}
 use Rattle.zt_region.specs.declared.region.Zid.{Zid}
 use Rattle.zt_protocol.specs.declared.interests.InterestMode.{InterestMode}
 use Rattle.zt_protocol.specs.declared.messages.Message.{Message}
+use Rattle.zt_model.specs.Hat.{hat_of}
 use Rattle.zt_model.specs.Hearing.{heard_all, messages_for, rows_heard}
 use Rattle.zt_model.specs.Routing.{face_opened, interests_from, opened, opening, opening_final, opening_interests, opening_tokens, tokens_from}
 use Rattle.zt_model.specs.Rows.{Face, InterestRow, Rows}
 use Rattle.zt_model.specs.Says.{Sends, find_face, is_routed, new_face, opened_session, to_face}
-use Rattle.zt_model.specs.Strategy.{is_router_hat, strategy_of}
 use Rattle.zt_model.specs.Transcript.{Each}
 use Rattle.zt_model.specs.Wants.{covers, seeks, wants}
 use Rattle.zt_model.specs.Visible.{routed_rows, rows_of_face}
@@ -172,7 +172,7 @@ module _ {K : Type 0} (cmp : K → K → Ordering) (matching : K → K → Bool)
       each_map (λ k. is_routed three k ≡ false → false ≡ false → KeepsBut cmp matching nothing_left nothing_left three k) (hears cmp matching ss two) two.faces
       (each_both (λ k. ((n == k.number) ≡ true → (k.told ≡ []) × (k.held ≡ [])) × IsToldInOrder cmp k.told k.next × (messages_for k.number ss ≡ (if n == k.number then tokens k else []))) (λ k. is_routed two k ≡ false → (n == k.number) ≡ false → KeepsBut cmp matching nothing_left nothing_left two k) (λ k. is_routed three (hears cmp matching ss two k) ≡ false → false ≡ false → KeepsBut cmp matching nothing_left nothing_left three (hears cmp matching ss two k))
       (λ k facts right plain _.
-      let plain_ : is_routed two k ≡ false = sym (ap (λ (r : Region). is_router_hat (strategy_of two.mode r)) (heard_all-region cmp two.moment (messages_for k.number ss) k)) ∙ plain in
+      let plain_ : is_routed two k ≡ false = sym (ap (λ (r : Region). (hat_of two.mode r).goes_by_trees) (heard_all-region cmp two.moment (messages_for k.number ss) k)) ∙ plain in
       by_test (n == k.number)
       (λ here.
       let new_ = facts.0 here in

@@ -12,6 +12,7 @@ use Rattle.zt_protocol.specs.Plain.{Trees}
 use Rattle.zt_protocol.specs.declared.interests.InterestMode.{InterestMode}
 use Rattle.zt_protocol.specs.declared.messages.Message.{Message}
 use Rattle.zt_protocol.specs.declared.messages.Message.TheVariants as message
+use Rattle.zt_model.specs.Hat.{hat_of}
 use Rattle.zt_model.specs.Hearing.{heard_all, messages_for, rows_heard}
 use Rattle.zt_model.specs.Lists.{same, without_id}
 use Rattle.zt_laws.specs.Kept.{told_of}
@@ -19,11 +20,11 @@ use Rattle.zt_model.specs.Refusals.{is_token_id_in_use}
 use Rattle.zt_model.specs.Routing.{asks_same, end_upstream_to, finish_to, is_finished_by, is_held_south, opening_final}
 use Rattle.zt_model.specs.Rows.{Face, InterestRow, Rows}
 use Rattle.zt_model.specs.Says.{Sends, find_face, forget_to, is_routed, is_told, registered, tell_to, to_each, unregistered, with_face}
-use Rattle.zt_model.specs.Strategy.{is_router_hat, strategy_of}
+use Rattle.zt_model.specs.Seen.{sees}
 use Rattle.zt_model.specs.Telling.{answer_to}
 use Rattle.zt_model.specs.Transcript.{Each}
 use Rattle.zt_model.specs.Trees.{greet_to, hide_to, is_child, is_hidden, is_newly_shown, node_of, pass_to, routed_expressions, router_regions, routers_in_order, show_to, table_of, unpass_to, with_own_rows, without_own_rows}
-use Rattle.zt_model.specs.Visible.{is_visible, shows}
+use Rattle.zt_model.specs.Visible.{is_visible}
 use Rattle.zt_laws.specs.Order.{RowsAreInOrder}
 use Rattle.zt_laws.specs.Sound.{IsToldInOrder}
 use Rattle.zt_laws.proofs.CallsOrder.{orderly_telling, quiet_own_rows, quiet_without_own_rows}
@@ -122,11 +123,11 @@ module _ {K : Type 0} where
     unfolding hide_to is_hidden
     hides_routed g source e f plain = ap (λ b. if b && (not (region_eq f.region source) && not (is_visible cmp g f.region e)) then unpass_to cmp g f.region g.zid e f else []) plain
 
-    pub unpasses_routed : (g : Rows K) (region : Region) (source : Zid) (e : K) (f : Face K) → is_router_hat (strategy_of g.mode region) ≡ true → is_routed g f ≡ false → unpass_to cmp g region source e f ≡ []
+    pub unpasses_routed : (g : Rows K) (region : Region) (source : Zid) (e : K) (f : Face K) → (hat_of g.mode region).goes_by_trees ≡ true → is_routed g f ≡ false → unpass_to cmp g region source e f ≡ []
     unfolding unpass_to
     unpasses_routed g region source e f routed plain =
         by_test (region_eq f.region region)
-        (λ here. never (ap (λ (r : Region). is_router_hat (strategy_of g.mode r)) (region_eq-same f.region region here) ∙ routed) plain)
+        (λ here. never (ap (λ (r : Region). (hat_of g.mode r).goes_by_trees) (region_eq-same f.region region here) ∙ routed) plain)
         (λ here. ap (λ b. if b && is_child g (table_of g region) source f then message.UndeclareToken 0 (Some e) (node_of source (table_of g region)) ∷ [] else []) here)
 
 module _ {K : Type 0} (cmp : K → K → Ordering) (matching : K → K → Bool) where
@@ -202,7 +203,7 @@ module _ {K : Type 0} (cmp : K → K → Ordering) (matching : K → K → Bool)
               (λ f k stays right. keeps_more cmp matching from.region e unseen g h f k more stays covered_by right)
               (λ f. record { region = refl; told = refl; held = refl })
               sound,
-          λ own shows_. visible_more cmp from.region e g h own e more ∙ or_right (is_visible cmp g own e) (shown_from cmp from.region e own e) (and_from (same cmp e e) (shows own from.region) (same_itself cmp total e) shows_),
+          λ own shows_. visible_more cmp from.region e g h own e more ∙ or_right (is_visible cmp g own e) (shown_from cmp from.region e own e) (and_from (same cmp e e) (sees own from.region) (same_itself cmp total e) shows_),
         )
 
     -- ---- taking a token away

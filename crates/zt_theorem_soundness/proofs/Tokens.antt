@@ -12,16 +12,17 @@ use Rattle.zt_region.specs.Region.{is_north, region_eq-same, zid_eq}
 use Rattle.zt_protocol.specs.Interest.{is_future}
 use Rattle.zt_protocol.specs.Plain.{Trees}
 use Rattle.zt_protocol.specs.declared.messages.Message.{Message}
+use Rattle.zt_model.specs.Hat.{hat_of}
 use Rattle.zt_model.specs.Hearing.{heard_all, messages_for, rows_heard}
 use Rattle.zt_model.specs.Lists.{at_id, first_where, has_id, is_some_and, same}
 use Rattle.zt_model.specs.Refusals.{is_token_id_in_use}
 use Rattle.zt_model.specs.Rows.{Ask, ById, Face, Pending, Rows}
 use Rattle.zt_model.specs.Says.{Alter, Part, Say, answering, declaring, declaring_of, find_face, forget_to, hiding_undeclared, is_routed, registered, registers, tell_to, to_each, undeclared, undeclaring, undeclaring_of, unregistered, with_face}
-use Rattle.zt_model.specs.Strategy.{is_router_hat, strategy_of}
+use Rattle.zt_model.specs.Seen.{sees}
 use Rattle.zt_model.specs.Telling.{answer_to, is_answered_by, was_sent_as}
 use Rattle.zt_model.specs.Transcript.{Each}
 use Rattle.zt_model.specs.Trees.{changing_table, counted_table, forgetting, greet_to, hiding, left_out, pass_to, showing, source_of, table_of, unpass_to, with_routed, with_table, without_left_out, without_routed}
-use Rattle.zt_model.specs.Visible.{is_visible, shows}
+use Rattle.zt_model.specs.Visible.{is_visible}
 use Rattle.zt_laws.specs.Order.{HasRowsInOrder}
 use Rattle.zt_laws.specs.Sound.{RiseFrom}
 use Rattle.zt_laws.proofs.CallsOrder.{quiet_table, quiet_with_routed, quiet_without_left_out, quiet_without_routed}
@@ -152,7 +153,7 @@ module _ {K : Type 0} (cmp : K → K → Ordering) (matching : K → K → Bool)
           let is_north_ : from.region ≡ North = region_eq-same from.region North (north i refl) in
           by_both true true (at_has i from.pendings pending at_) registers_
           (sound_declared (shown_from cmp North e) n id e from.region now (rows_heard cmp ss g) (found_heard ss) region_
-          (routed_heard ss ∙ ap (λ (r : Region). is_router_hat (strategy_of g.mode r)) region_ ∙ plain)
+          (routed_heard ss ∙ ap (λ (r : Region). (hat_of g.mode r).goes_by_trees) region_ ∙ plain)
           (ap (λ (rows : ById K). is_some_and (at_id id rows) (λ live. not (same cmp e live))) live_ ∙ free registers_)
           (λ own x is. ap (λ (r : Region). shown_from cmp r e own x) is_north_ ∙ is)
           (sound_answered cmp matching total equal_is_same n i e g sound)))
@@ -161,7 +162,7 @@ module _ {K : Type 0} (cmp : K → K → Ordering) (matching : K → K → Bool)
           found_heard : (ss : List (ℕ × Message K)) → find_face n (rows_heard cmp ss g) ≡ Some (hears cmp matching ss g from)
           found_heard ss = find_mapped n (hears cmp matching ss g) g.faces from (λ f. heard_all-number cmp g.moment (messages_for f.number ss) f) found
 
-          routed_heard : (ss : List (ℕ × Message K)) → is_routed (rows_heard cmp ss g) (hears cmp matching ss g from) ≡ is_router_hat (strategy_of g.mode (hears cmp matching ss g from).region)
+          routed_heard : (ss : List (ℕ × Message K)) → is_routed (rows_heard cmp ss g) (hears cmp matching ss g from) ≡ (hat_of g.mode (hears cmp matching ss g from).region).goes_by_trees
           routed_heard ss = refl
 
   -- ---- undeclarations
@@ -196,7 +197,7 @@ module _ {K : Type 0} (cmp : K → K → Ordering) (matching : K → K → Bool)
       let k = rows_heard cmp ss h in
       let two = sound_quiet cmp matching nobody nothing_left (told_from cmp h region e) ss h (each_filter (λ s. IsQuietMessage s.1) (λ s. not (n == s.0)) (to_each (pass_to cmp h region zid e) h.faces) (each_pass cmp matching h region zid e)) one in
       let shown : IsShown cmp matching total equal_is_same region e k =
-      λ own shows_. visible_heard cmp ss h own e ∙ visible_more cmp region e g h own e more ∙ or_right (is_visible cmp g own e) (shown_from cmp region e own e) (and_from (same cmp e e) (shows own region) (same_itself cmp total e) shows_) in
+      λ own shows_. visible_heard cmp ss h own e ∙ visible_more cmp region e g h own e more ∙ or_right (is_visible cmp g own e) (shown_from cmp region e own e) (and_from (same cmp e e) (sees own region) (same_itself cmp total e) shows_) in
       sound_shown cmp matching total equal_is_same region e (rows_heard cmp (to_each (tell_to cmp matching k region e) k.faces) k) (sound_tell cmp matching total equal_is_same region e k shown two)
 
   pub sound_undeclared_routed : (n : ℕ) (source : Option Zid) (given : Option K) (from : Face K) (g : Rows K) → is_routed g from ≡ true → Sound g → Sound (ran cmp (undeclaring_of cmp matching n source given from) g)

@@ -14,8 +14,9 @@ use Rattle.zt_protocol.specs.declared.interests.InterestMode.{InterestMode}
 use Rattle.zt_model.specs.Lists.{at_id, is_among, same}
 use Rattle.zt_model.specs.Rows.{Ask, Face, Rows}
 use Rattle.zt_model.specs.Says.{is_routed}
+use Rattle.zt_model.specs.Seen.{sees}
 use Rattle.zt_model.specs.Transcript.{Each}
-use Rattle.zt_model.specs.Visible.{is_admitted, is_visible, keeps, shows}
+use Rattle.zt_model.specs.Visible.{is_admitted, is_visible, keeps}
 use Rattle.zt_model.specs.Wants.{covers, seeks}
 use Rattle.zt_laws.specs.Keeping.{FacesKeepRight}
 use Rattle.zt_laws.specs.Order.{RowsAreInOrder}
@@ -28,11 +29,11 @@ nothing_left own e = false
 module _ {K : Type 0} (cmp : K → K → Ordering) where
   -- one expression, in the regions that are shown another
   abbrev pub shown_from : Region → K → Region → K → Bool
-  shown_from source e own x = same cmp x e && shows own source
+  shown_from source e own x = same cmp x e && sees own source
 
   -- one expression, in the regions that are shown another and to which the admission table admits it
   abbrev pub told_from : Rows K → Region → K → Region → K → Bool
-  told_from g source e own x = same cmp x e && (shows own source && admits g.refused source own)
+  told_from g source e own x = same cmp x e && (sees own source && admits g.refused source own)
 
   -- these expressions, in each region
   abbrev pub any_of : List K → Region → K → Bool
@@ -45,8 +46,8 @@ module _ {K : Type 0} (cmp : K → K → Ordering) (matching : K → K → Bool)
   -- covers, but for `untold`.
   pub record KeepsBut (unseen untold : Region → K → Bool) (g : Rows K) (f : Face K) : Type 0 where
     pub kept_is_visible : (e : K) → keeps cmp f e ≡ true → unseen f.region e ≡ false → is_visible cmp g f.region e ≡ true
-    pub kept_is_sought : (e : K) → keeps cmp f e ≡ true → seeks matching f e ≡ true
-    pub admitted_is_kept : (e : K) → is_admitted cmp g f.region e ≡ true → covers matching f e ≡ true → untold f.region e ≡ false → keeps cmp f e ≡ true
+    pub kept_is_sought : (e : K) → keeps cmp f e ≡ true → seeks matching g.mode f e ≡ true
+    pub admitted_is_kept : (e : K) → is_admitted cmp g f.region e ≡ true → covers matching g.mode f e ≡ true → untold f.region e ≡ false → keeps cmp f e ≡ true
 
   -- each face outside router regions, but those of some numbers
   abbrev pub AllKeepBut : (ℕ → Bool) → (Region → K → Bool) → (Region → K → Bool) → Rows K → Type 0

@@ -55,6 +55,6 @@ pub fn lines_leave_gateways_sound<K: Key>()
 /// covers, exactly what is visible.
 pub fn admitted_faces_keep_exactly<K: Key>()
     ensures { (g : Rows K) (f : Face K) (e : K) → KeepsWhatItShould K.cmp K.matching g f
-        → g.refused ≡ [] → covers K.matching f e ≡ true
+        → g.refused ≡ [] → covers K.matching g.mode f e ≡ true
         → keeps K.cmp f e ≡ is_visible K.cmp g f.region e }
 {}
