@@ -112,10 +112,10 @@ module _ {K : Type 0} (cmp : K → K → Ordering) (matching : K → K → Bool)
           record { spared = same_; rows = rw is (rows ∙ ap (λ sends. rows_heard cmp sends g) others); said = rw is (said ∙ ap (λ sends. s.said.items ++ sends) (others ∙ sym (append-nil (heard_of (Some n) (rule g))))) }
 
   -- what is said to the face that is spared isn't said
-  pub does-unsaid : (n : ℕ) (rule : Face K → List (Message K)) (g : Rows K) (s : Speech K) → s.spared ≡ Some n → Does cmp matching (Say (to_face n rule) ∷ []) g g s s
+  pub does-unsaid : (n : ℕ) (rule : Rows K → Face K → List (Message K)) (g : Rows K) (s : Speech K) → s.spared ≡ Some n → Does cmp matching (Say (λ h. to_face n (rule h) h) ∷ []) g g s s
   does-unsaid n rule g s spared =
-      does-say (to_face n rule) g g s s []
-      (rw spared (sym (none-heard-of n rule g))) refl (sym (none-heard cmp g)) (sym (append-nil s.said.items))
+      does-say (λ h. to_face n (rule h) h) g g s s []
+      (rw spared (sym (none-heard-of n (rule g) g))) refl (sym (none-heard cmp g)) (sym (append-nil s.said.items))
 
   -- ---- one piece of work for each of a list
 

@@ -30,7 +30,7 @@ fn say_untold<K: Key>(
     face: u32,
 ) -> Result<(), Memory>
     ensures { OnOk result (Does K.cmp K.matching
-        (Say (to_face face (untell_to K.cmp K.matching)) ∷ [])
+        (Say (λ h. to_face face (untell_to K.cmp K.matching h) h) ∷ [])
         g.old g.new speech.old speech.new) }
 {
     if is_spared(speech, face) {

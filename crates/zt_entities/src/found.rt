@@ -21,10 +21,10 @@ fn is_about<K: Key>(expr: &Option<K>, key: &K) -> bool
 }
 
 // Whether the face is shown the entities of the other.
-fn is_shown_of<K: Key>(f: &FaceState<K>, other: &FaceState<K>) -> bool
-    ensures { result ≡ is_shown_of f.now other.now }
+fn is_shown_of<K: Key>(g: &GatewayState<K>, f: &FaceState<K>, other: &FaceState<K>) -> bool
+    ensures { result ≡ is_shown_of g.now f.now other.now }
 {
-    other.number() != f.number() && shows(f.region(), other.region())
+    other.number() != f.number() && shows(g.mode(), f.region(), other.region())
 }
 
 // Adds the subscriber, if the interest is about it.
@@ -62,15 +62,17 @@ fn add_subscribers<K: Key>(
 // Adds what the face is shown of the other's subscribers.
 fn add_subscribers_of<K: Key>(
     alloc: Global,
+    g: &GatewayState<K>,
     interest: &RemoteInterest<K>,
     f: &FaceState<K>,
     other: &FaceState<K>,
     found: &mut Vec<K>,
 ) -> Result<(), Memory>
     ensures { OnOk result (found.new.items ≡ found.old.items
-        ++ found_at f.now (is_about K.matching interest.now.expr) (λ x. x.subscribers) other.now) }
+        ++ found_at g.now f.now (is_about K.matching interest.now.expr)
+        (λ x. x.subscribers) other.now) }
 {
-    if is_shown_of(f, other) {
+    if is_shown_of(g, f, other) {
         add_subscribers(alloc, interest.expr(), other.subscribers(), found)?;
     }
     Ok(())
@@ -88,7 +90,7 @@ pub(crate) fn matching_subscribers<K: Key>(
 {
     let mut found = Vec::new(alloc);
     for other in g.faces() {
-        add_subscribers_of(alloc, interest, f, other, &mut found)?;
+        add_subscribers_of(alloc, g, interest, f, other, &mut found)?;
     }
     Ok(found)
 }
@@ -128,16 +130,17 @@ fn add_queryables<K: Key>(
 // Adds what the face is shown of the other's queryables.
 fn add_queryables_of<K: Key>(
     alloc: Global,
+    g: &GatewayState<K>,
     interest: &RemoteInterest<K>,
     f: &FaceState<K>,
     other: &FaceState<K>,
     found: &mut Vec<(K, QueryableInfo)>,
 ) -> Result<(), Memory>
     ensures { OnOk result (found.new.items ≡ found.old.items
-        ++ found_at f.now (λ q. is_about K.matching interest.now.expr q.0)
+        ++ found_at g.now f.now (λ q. is_about K.matching interest.now.expr q.0)
         (λ x. x.queryables) other.now) }
 {
-    if is_shown_of(f, other) {
+    if is_shown_of(g, f, other) {
         add_queryables(alloc, interest.expr(), other.queryables(), found)?;
     }
     Ok(())
@@ -155,7 +158,7 @@ pub(crate) fn matching_queryables<K: Key>(
 {
     let mut found = Vec::new(alloc);
     for other in g.faces() {
-        add_queryables_of(alloc, interest, f, other, &mut found)?;
+        add_queryables_of(alloc, g, interest, f, other, &mut found)?;
     }
     Ok(found)
 }

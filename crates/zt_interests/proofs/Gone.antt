@@ -3,10 +3,10 @@ use Rattle.std.proofs.Common.{◌≡◌, ◌+◌, ◌<◌, ◌≤◌, ℕ, Bool,
 use Rattle.std.proofs.lemmas.List.{append-nil, drop_all, map-append}
 use Rattle.std.specs.declared.cmp.Ordering.{Ordering}
 use Rattle.zt_keys.specs.Test.{by_test}
-use Rattle.zt_region.specs.Region.{is_north}
+use Rattle.zt_model.specs.Hat.{hat_of_face}
 use Rattle.zt_model.specs.Lists.{in_key_order}
 use Rattle.zt_model.specs.Routing.{untell_to}
-use Rattle.zt_model.specs.Rows.{Face}
+use Rattle.zt_model.specs.Rows.{Face, Rows}
 use Rattle.zt_model.specs.Wants.{wants}
 use Rattle.zt_interests.specs.Untold.{gone_by_id, untold_of}
 use Rattle.zt_state.proofs.Walks.{drop_item}
@@ -19,11 +19,11 @@ flat_failing p give (x ∷ xs) =
     (λ yes_. rw yes_ (flat_failing p give xs))
     (λ no_. rw no_ (ap (λ given. give x ++ given) (flat_failing p give xs)))
 
--- a face to the south is told so of each expression that it was told, in key order
-pub untold_all : {K : Type 0} (cmp : K → K → Ordering) (matching : K → K → Bool) (f : Face K) → is_north f.region ≡ false
-    → untell_to cmp matching f ≡ flat_map (untold_of cmp matching f) (in_key_order cmp (map (λ row. row.1) f.told))
+-- a face that isn't told unasked is told so of each expression that it was told, in key order
+pub untold_all : {K : Type 0} (cmp : K → K → Ordering) (matching : K → K → Bool) (g : Rows K) (f : Face K) → (hat_of_face g f).is_told_unasked f.region ≡ false
+    → untell_to cmp matching g f ≡ flat_map (untold_of cmp matching f) (in_key_order cmp (map (λ row. row.1) f.told))
 unfolding untell_to
-untold_all cmp matching f south = rw south (flat_failing (wants matching f) (gone_by_id cmp f.told) (in_key_order cmp (map (λ row. row.1) f.told)))
+untold_all cmp matching g f asks = rw asks (flat_failing (wants matching f) (gone_by_id cmp f.told) (in_key_order cmp (map (λ row. row.1) f.told)))
 
 -- what a face is told so far, and of the expressions left, is all, one later too
 pub told_more : {A B : Type 0} (n : ℕ) (rule : A → List B) (xs : List A) (i : ℕ) (x : A) (before after all : List (ℕ × B))

@@ -1,25 +1,34 @@
 -- Faces to the south are given nothing that goes north.
-use Rattle.std.proofs.Common.{◌≡◌, ◌<◌, ◌≤◌, ◌+◌, ℕ, ◌==◌, drop, get_or, length, Bool, true, false, ◌&&◌, not, List, [], ◌∷◌, Option, Some, None, ap, filter, flat_map, map, refl, ◌∙◌}
+use Rattle.std.proofs.Common.{◌≡◌, ◌<◌, ◌≤◌, ◌+◌, ℕ, ◌==◌, drop, get_or, length, Bool, true, false, ◌&&◌, ◌||◌, not, if◌then◌else◌, List, [], ◌∷◌, Option, Some, None, ap, filter, flat_map, map, refl, ◌∙◌}
 use Rattle.std.specs.List.{AllByRecursion, list_any}
 use Rattle.std.specs.declared.cmp.Ordering.{Ordering}
 use Rattle.zt_keys.specs.Test.{by_test}
-use Rattle.zt_region.specs.Region.{bound_eq, is_north}
+use Rattle.zt_region.specs.Region.{is_north}
 use Rattle.zt_region.specs.declared.region.Region.{Region}
-use Rattle.zt_region.specs.declared.region.Bound.TheVariants.{South as SouthBound}
+use Rattle.zt_protocol.specs.Interest.{is_future}
 use Rattle.zt_protocol.specs.declared.interests.InterestMode.{InterestMode}
 use Rattle.zt_protocol.specs.declared.messages.Message.TheVariants as message
 use Rattle.std.proofs.lemmas.List.{drop_all, drop_more}
+use Rattle.zt_model.specs.Hat.{north_hat}
 use Rattle.zt_model.specs.Lists.{first_where, is_some_and}
 use Rattle.zt_model.specs.Parts.{find_face}
-use Rattle.zt_model.specs.Routing.{asks_same, end_upstream_to, is_held_south, is_target, is_target_of, leads_up, route_to}
+use Rattle.zt_model.specs.Routing.{asks_same, awaits_initial, end_upstream_to, is_asked, is_held_south, is_lowest_up, is_target, leads_up, route_to}
 use Rattle.zt_model.specs.Rows.{Face, InterestRow, Rows}
 use Rattle.zt_faces.specs.Rising.{IsRising}
 use Rattle.zt_interests.specs.Chosen.{all_chosen, chosen}
 use Rattle.zt_tokens.proofs.Chosen.{all-found}
 
-and-second : (a b c : Bool) → b ≡ false → (a && (b && c)) ≡ false
-and-second true b c h = rw h refl
-and-second false b c h = refl
+and-first : (a b : Bool) → a ≡ false → (a && b) ≡ false
+and-first true b h = cc
+and-first false b h = refl
+
+and-second : (a b : Bool) → b ≡ false → (a && b) ≡ false
+and-second true b h = h
+and-second false b h = refl
+
+either : (test a b : Bool) → a ≡ false → b ≡ false → (if test then a else b) ≡ false
+either true a b h k = h
+either false a b h k = k
 
 -- where none passes nothing is chosen
 none-chosen : {A B : Type 0} (p : A → Bool) (give : A → B) (xs : List A) → list_any p xs ≡ false → map give (filter p xs) ≡ []
@@ -37,9 +46,15 @@ module _ {X : Type 0} (p : X → Bool) where
   first-none xs i past = ap (first_where p) (drop_all i xs past)
 
 module _ {K : Type 0} where
+  south-unasked : (g : Rows K) (mode : InterestMode) (f : Face K) → is_north f.region ≡ false → is_asked g mode f ≡ false
+  south-unasked g mode f h =
+      either (is_future mode || not (north_hat g.mode).asks_one) (leads_up g.mode f) (is_north f.region && (awaits_initial f || is_lowest_up g f))
+      (and-first (is_north f.region) ((north_hat g.mode).leads_up f.bound) h)
+      (and-first (is_north f.region) (awaits_initial f || is_lowest_up g f) h)
+
   pub south-untargeted : (g : Rows K) (asker : Region) (mode : InterestMode) (f : Face K) → is_north f.region ≡ false → is_target g asker mode f ≡ false
   unfolding is_target
-  south-untargeted g asker mode f h = and-second (not (is_north asker)) (is_north f.region) (is_target_of g.mode g mode f) h
+  south-untargeted g asker mode f h = and-second (not (is_north asker)) (is_asked g mode f) (south-unasked g mode f h)
 
   pub south-unrouted : (g : Rows K) (asker : Region) (i : InterestRow K) (f : Face K) → is_north f.region ≡ false → route_to g asker i f ≡ []
   unfolding route_to
@@ -67,18 +82,18 @@ module _ {K : Type 0} where
 
   -- the lowest that leads up is the first among those to the north
   pub lowest-up : (g : Rows K) → IsRising (λ f. f.number) g.faces → (m : ℕ)
-      → is_some_and (first_where (λ n. is_some_and (find_face n g) leads_up) (map (λ f. f.number) (filter (λ f. is_north f.region) g.faces))) (λ n. n == m) ≡ is_some_and (first_where leads_up g.faces) (λ f. f.number == m)
+      → is_some_and (first_where (λ n. is_some_and (find_face n g) (leads_up g.mode)) (map (λ f. f.number) (filter (λ f. is_north f.region) g.faces))) (λ n. n == m) ≡ is_some_and (first_where (leads_up g.mode) g.faces) (λ f. f.number == m)
   lowest-up g rising m = each g.faces (all-found g.faces rising)
     where
       each : (fs : List (Face K)) → AllByRecursion (λ f. first_where (λ x. f.number == x.number) g.faces ≡ Some f) fs
-          → is_some_and (first_where (λ n. is_some_and (find_face n g) leads_up) (map (λ f. f.number) (filter (λ f. is_north f.region) fs))) (λ n. n == m) ≡ is_some_and (first_where leads_up fs) (λ f. f.number == m)
+          → is_some_and (first_where (λ n. is_some_and (find_face n g) (leads_up g.mode)) (map (λ f. f.number) (filter (λ f. is_north f.region) fs))) (λ n. n == m) ≡ is_some_and (first_where (leads_up g.mode) fs) (λ f. f.number == m)
       each [] found = refl
       each (f ∷ fs) found =
           let rest = each fs found.1 in
           by_test (is_north f.region)
           (λ t.
-          let here : is_some_and (find_face f.number g) leads_up ≡ leads_up f = ap (λ (o : Option (Face K)). is_some_and o leads_up) found.0 in
-          by_test (bound_eq f.bound SouthBound)
-          (λ u. let yes : is_some_and (find_face f.number g) leads_up ≡ true = here ∙ (λ i. t i && u i) in rw (t, yes, u) refl)
-          (λ u. let no_more : is_some_and (find_face f.number g) leads_up ≡ false = here ∙ (λ i. t i && u i) in rw (t, no_more, u) rest))
+          let here : is_some_and (find_face f.number g) (leads_up g.mode) ≡ leads_up g.mode f = ap (λ (o : Option (Face K)). is_some_and o (leads_up g.mode)) found.0 in
+          by_test ((north_hat g.mode).leads_up f.bound)
+          (λ u. let yes : is_some_and (find_face f.number g) (leads_up g.mode) ≡ true = here ∙ (λ i. t i && u i) in rw (t, yes, u) refl)
+          (λ u. let no_more : is_some_and (find_face f.number g) (leads_up g.mode) ≡ false = here ∙ (λ i. t i && u i) in rw (t, no_more, u) rest))
           (λ t. rw t rest)

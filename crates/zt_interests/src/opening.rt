@@ -11,19 +11,19 @@ ghost use Rattle.zt_protocol.specs.declared.messages.Message.TheVariants as mess
 ghost use Rattle.zt_tokens.specs.Gathered.{with_keys};
 
 use crate::ordering::insert_interest;
-use crate::routing::is_north;
+use crate::routing::{is_north, leads_up};
 use std::alloc::Global;
 use zt_keys::{Key, Memory};
 use zt_protocol::{InterestMode, Message, copy_expression};
-use zt_region::{Bound, WhatAmI};
 use zt_state::{FaceState, GatewayState, RemoteInterest, RowsById};
-use zt_tokens::{find_face, visible_expressions};
+use zt_tokens::{find_face, hat_of_face, visible_expressions};
 
-// Whether the face, to the north of a client or a peer, is told of what is there.
+// Whether the new face is told of what is there: where it is told unasked, and not by trees.
 fn is_greeted<K: Key>(g: &GatewayState<K>, f: &FaceState<K>) -> bool
     ensures { result ≡ is_greeted K.cmp K.matching g.now f.now }
 {
-    is_north(f) && g.mode() != WhatAmI::Router
+    let hat = hat_of_face(g, f);
+    !hat.goes_by_trees() && hat.is_told_unasked(f.region())
 }
 
 // Puts an interest in its place, asked for now and later.
@@ -99,9 +99,8 @@ fn held_south<K: Key>(alloc: Global, g: &GatewayState<K>) -> Result<Vec<RemoteIn
     Ok(interests)
 }
 
-/// The interests that a new face is sent: to the north of a client or a peer, where it leads to a
-/// gateway above, what south-bound faces hold, each pair of expression and options once; any other
-/// none. The only error is want of memory.
+/// The interests that a new face is sent: where it leads to a gateway above, what south-bound faces
+/// hold, each pair of expression and options once, else none. The only error is want of memory.
 pub fn opening_interests<K: Key>(
     alloc: Global,
     g: &GatewayState<K>,
@@ -110,15 +109,15 @@ pub fn opening_interests<K: Key>(
     ensures { IfOk result (λ interests. interests.items
         ≡ opening_interests K.cmp K.matching g.now f.now) }
 {
-    if is_greeted(g, f) && f.bound() == Bound::South {
+    if leads_up(g, f) {
         held_south(alloc, g)
     } else {
         Ok(Vec::new(alloc))
     }
 }
 
-/// The tokens that a new face is told: to the north of a client or a peer those that are visible to
-/// it, any other none. The only error is want of memory.
+/// The tokens that a new face is told: where it is told unasked, and not by trees, those that are
+/// visible to it, else none. The only error is want of memory.
 pub fn opening_tokens<K: Key>(
     alloc: Global,
     g: &GatewayState<K>,

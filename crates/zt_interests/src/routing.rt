@@ -1,17 +1,20 @@
 // Where an interest goes.
-ghost use Rattle.std.specs.Prelude.{◌≡◌, ◌++◌, IfOk, OnOk};
+ghost use Rattle.std.specs.Prelude.{◌≡◌, ◌++◌, ◌||◌, IfOk, OnOk, not};
 ghost use Rattle.zt_region.specs.Region.{is_north};
 ghost use Rattle.zt_interests.specs.Chosen.{chosen};
+ghost use Rattle.zt_model.specs.Hat.{north_hat};
 ghost use Rattle.zt_model.specs.Lists.{is_some_and};
 ghost use Rattle.zt_model.specs.Parts.{find_face};
-ghost use Rattle.zt_model.specs.Routing.{awaits_initial, is_lowest_up, is_target, is_target_of};
+ghost use Rattle.zt_model.specs.Routing.{awaits_initial, is_asked, is_lowest_up, is_target};
 ghost use Rattle.zt_model.specs.Routing.{leads_up, route, sent_as};
+ghost use Rattle.zt_protocol.specs.Interest.{is_future};
 ghost use Rattle.zt_tokens.specs.Walks.{given_at};
 
 use std::alloc::Global;
+use zt_hats::north_hat;
 use zt_keys::{Key, Memory};
 use zt_protocol::{InterestMode, Message, copy_expression};
-use zt_region::{Bound, Region, WhatAmI};
+use zt_region::Region;
 use zt_state::{FaceState, GatewayState, RemoteInterest};
 use zt_tokens::{FaceRule, find_face, say_at};
 
@@ -22,19 +25,19 @@ pub(crate) fn is_north<K: Key>(f: &FaceState<K>) -> bool
     f.region() == Region::North
 }
 
-// A face to a gateway above, which is not itself north-bound at the other end.
-fn leads_up<K: Key>(f: &FaceState<K>) -> bool
-    ensures { result ≡ leads_up f.now }
+// Whether the face leads to a gateway above, by the hat of north.
+pub(crate) fn leads_up<K: Key>(g: &GatewayState<K>, f: &FaceState<K>) -> bool
+    ensures { result ≡ leads_up g.now.mode f.now }
 {
-    is_north(f) && f.bound() == Bound::South
+    is_north(f) && north_hat(g.mode()).leads_up(f.bound())
 }
 
 // Whether the face of a number leads to a gateway above.
 fn leads_up_at<K: Key>(g: &GatewayState<K>, number: u32) -> bool
-    ensures { result ≡ is_some_and (find_face number g.now) leads_up }
+    ensures { result ≡ is_some_and (find_face number g.now) (leads_up g.now.mode) }
 {
     match find_face(g, number) {
-        Some(f) => leads_up(f),
+        Some(f) => leads_up(g, f),
         None => false,
     }
 }
@@ -61,15 +64,22 @@ fn awaits_initial<K: Key>(f: &FaceState<K>) -> bool
     }
 }
 
-// Whether the face, to the north, is one that the gateway asks in its mode.
-fn is_target_of<K: Key>(g: &GatewayState<K>, mode: InterestMode, f: &FaceState<K>) -> bool
-    ensures { result ≡ is_target_of g.now.mode g.now mode f.now }
+// Whether an interest of this mode goes to all gateways above: it does unless it asks for what is
+// there now alone, and the hat of north asks one.
+fn goes_to_all<K: Key>(g: &GatewayState<K>, mode: InterestMode) -> bool
+    ensures { result ≡ (is_future mode || not (north_hat g.now.mode).asks_one) }
 {
-    match g.mode() {
-        WhatAmI::Client => true,
-        WhatAmI::Peer if mode.is_future() => leads_up(f),
-        WhatAmI::Peer => awaits_initial(f) || is_lowest_up(g, f),
-        WhatAmI::Router => false,
+    mode.is_future() || !north_hat(g.mode()).asks_one()
+}
+
+// Whether the gateway asks the face.
+fn is_asked<K: Key>(g: &GatewayState<K>, mode: InterestMode, f: &FaceState<K>) -> bool
+    ensures { result ≡ is_asked g.now mode f.now }
+{
+    if goes_to_all(g, mode) {
+        leads_up(g, f)
+    } else {
+        is_north(f) && (awaits_initial(f) || is_lowest_up(g, f))
     }
 }
 
@@ -83,7 +93,7 @@ pub fn is_target<K: Key>(
 ) -> bool
     ensures { result ≡ is_target g.now asker mode f.now }
 {
-    asker != Region::North && is_north(f) && is_target_of(g, mode, f)
+    asker != Region::North && is_asked(g, mode, f)
 }
 
 // An interest that is sent on.

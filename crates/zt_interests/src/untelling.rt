@@ -2,16 +2,16 @@
 ghost use Rattle.std.specs.Prelude.{◌≡◌, ◌++◌, IfOk, OnOk, Some, map};
 ghost use Rattle.std.specs.List.{flat_map};
 ghost use Rattle.zt_interests.specs.Untold.{untold_of};
+ghost use Rattle.zt_model.specs.Hat.{hat_of_face};
 ghost use Rattle.zt_model.specs.Lists.{in_key_order};
 ghost use Rattle.zt_model.specs.Parts.{find_face, to_face};
 ghost use Rattle.zt_model.specs.Routing.{untell_to};
 
-use crate::routing::is_north;
 use std::alloc::Global;
 use zt_keys::{Key, Memory};
 use zt_protocol::Message;
 use zt_state::{FaceState, GatewayState};
-use zt_tokens::{KeysInOrder, find_face, wants};
+use zt_tokens::{KeysInOrder, find_face, hat_of_face, wants};
 
 // The expressions that the face was told, in key order, each once.
 #[tactic(auto, using(zt_tokens::proofs::Gathering::in_key_order_is))]
@@ -76,6 +76,13 @@ fn untell_all<K: Key>(
     Ok(sends)
 }
 
+// Whether the face is told unasked, by its hat. It goes on being told.
+fn is_told_unasked<K: Key>(g: &GatewayState<K>, f: &FaceState<K>) -> bool
+    ensures { result ≡ (hat_of_face g.now f.now).is_told_unasked f.now.region }
+{
+    hat_of_face(g, f).is_told_unasked(f.region())
+}
+
 // What the face is told is gone.
 #[tactic(auto, using(crate::proofs::Gone::untold_all), unfolding(zt_model::specs::Routing::untell_to))]
 fn untell_to<K: Key>(
@@ -86,9 +93,9 @@ fn untell_to<K: Key>(
 ) -> Result<Vec<(u32, Message<K>)>, Memory>
     requires { find_face face g.now ≡ Some f.now }
     ensures { IfOk result (λ sends. sends.items
-        ≡ map (λ m. (face, m)) (untell_to K.cmp K.matching f.now)) }
+        ≡ map (λ m. (face, m)) (untell_to K.cmp K.matching g.now f.now)) }
 {
-    if is_north(f) {
+    if is_told_unasked(g, f) {
         return Ok(Vec::new(alloc));
     }
     let exprs = told_in_order(alloc, f)?;
@@ -104,7 +111,7 @@ pub fn untell<K: Key>(
     face: u32,
 ) -> Result<Vec<(u32, Message<K>)>, Memory>
     ensures { IfOk result (λ sends. sends.items
-        ≡ to_face face (untell_to K.cmp K.matching) g.now) }
+        ≡ to_face face (untell_to K.cmp K.matching g.now) g.now) }
 {
     match find_face(g, face) {
         None => Ok(Vec::new(alloc)),

@@ -3,18 +3,18 @@ use Rattle.std.proofs.Common.{◌≡◌, ◌+◌, ◌<◌, ◌≤◌, ◌++◌, 
 use Rattle.std.proofs.lemmas.List.{append-nil, drop_all, drop_more}
 use Rattle.std.proofs.lemmas.List.Elements.{filter-append}
 use Rattle.zt_region.specs.declared.region.Region.{Region}
+use Rattle.zt_model.specs.Hat.{hat_of}
 use Rattle.zt_model.specs.Rows.{Rows}
-use Rattle.zt_model.specs.Strategy.{is_router_hat, strategy_of}
 
 -- the router regions among these that pass a test
 abbrev pub kept_regions : {K : Type 0} → Rows K → (Region → Bool) → List Region → List Region
-kept_regions g test regions = filter test (filter (λ r. is_router_hat (strategy_of g.mode r)) regions)
+kept_regions g test regions = filter test (filter (λ r. (hat_of g.mode r).goes_by_trees) regions)
 
 module _ {K : Type 0} (g : Rows K) (test : Region → Bool) where
   -- one region, and those behind it
   pub kept-cons : (r : Region) (rs : List Region) → kept_regions g test (r ∷ []) ++ kept_regions g test rs ≡ kept_regions g test (r ∷ rs)
   kept-cons r rs =
-      let listed : Region → Bool = λ s. is_router_hat (strategy_of g.mode s) in
+      let listed : Region → Bool = λ s. (hat_of g.mode s).goes_by_trees in
       sym (filter-append test (filter listed (r ∷ [])) (filter listed rs)) ∙ ap (filter test) (sym (filter-append listed (r ∷ []) rs))
 
   pub kept_more : (rs : List Region) (i : ℕ) (d : Region) (before after all : List Region) → i < length rs

@@ -2,9 +2,9 @@
 ghost use Rattle.std.specs.Prelude.{◌≡◌, ◌&&◌, ◌++◌, [], ◌∷◌, IfOk, OnOk, filter};
 ghost use Rattle.std.specs.List.Sorted.{IsStrictlySortedBy};
 ghost use Rattle.zt_region.specs.Region.{zid_eq};
+ghost use Rattle.zt_model.specs.Hat.{hat_of};
 ghost use Rattle.zt_model.specs.Lists.{is_among};
 ghost use Rattle.zt_model.specs.Parts.{to_each};
-ghost use Rattle.zt_model.specs.Strategy.{is_router_hat, strategy_of};
 ghost use Rattle.zt_link_state.specs.Routed.{rows_of};
 ghost use Rattle.zt_routers.specs.Branches.{IsHiding, IsShowing};
 ghost use Rattle.zt_routers.specs.Hiding.{hidden_among};
@@ -14,12 +14,20 @@ ghost use Rattle.zt_model.specs.Trees.{router_regions, show_to};
 use crate::passing::{Branch, own_branch, pass_to, unpass_to};
 use std::alloc::Global;
 use std::collections::BTreeSet;
+use zt_hats::hat_of;
 use zt_keys::{Key, Memory};
 use zt_link_state::Origin;
 use zt_protocol::Message;
 use zt_region::Region;
 use zt_state::GatewayState;
-use zt_tokens::{is_router_region, is_visible};
+use zt_tokens::is_visible;
+
+// Whether tokens of the region go by trees, as its hat says: whether it is a router region.
+fn goes_by_trees<K: Key>(g: &GatewayState<K>, region: Region) -> bool
+    ensures { result ≡ (hat_of g.now.mode region).goes_by_trees }
+{
+    hat_of(g.mode(), region).goes_by_trees()
+}
 
 // Whether the gateway shows the expression in the region.
 fn is_own_row<K: Key>(g: &GatewayState<K>, region: Region, expr: &K) -> bool
@@ -33,7 +41,7 @@ fn is_own_row<K: Key>(g: &GatewayState<K>, region: Region, expr: &K) -> bool
 fn is_newly_shown<K: Key>(g: &GatewayState<K>, source: Region, expr: &K, region: Region) -> bool
     ensures { result ≡ is_newly_shown K.cmp g.now source expr.now region }
 {
-    is_router_region(g.mode(), region)
+    goes_by_trees(g, region)
         && region != source
         && g.admits(source, region)
         && !is_own_row(g, region, expr)
@@ -44,7 +52,7 @@ fn is_newly_shown<K: Key>(g: &GatewayState<K>, source: Region, expr: &K, region:
 fn is_hidden<K: Key>(g: &GatewayState<K>, source: Region, expr: &K, region: Region) -> bool
     ensures { result ≡ is_hidden K.cmp g.now source expr.now region }
 {
-    is_router_region(g.mode(), region) && region != source && !is_visible(g, region, expr)
+    goes_by_trees(g, region) && region != source && !is_visible(g, region, expr)
 }
 
 // The branch becomes that for the face's region. Mostly it is already, as that of the face before.
@@ -103,9 +111,9 @@ fn add_newly_shown<K: Key>(
 ) -> Result<(), Memory>
     ensures { OnOk result (regions.new.items ≡ regions.old.items
         ++ filter (is_newly_shown K.cmp g.now source expr.now)
-        (filter (λ r. is_router_hat (strategy_of g.now.mode r)) (region ∷ []))) }
+        (filter (λ r. (hat_of g.now.mode r).goes_by_trees) (region ∷ []))) }
 {
-    if is_router_region(g.mode(), region) && is_newly_shown(g, source, expr, region) {
+    if goes_by_trees(g, region) && is_newly_shown(g, source, expr, region) {
         regions.push(region)?;
     }
     Ok(())

@@ -9,4 +9,4 @@ returns-then-is_spared g c = does-unsaid g.K.Ord.cmp g.K.Key.matching c.args.fac
 
 pub returns : goal.returns
 returns g c =
-    on_ok_weaker c.say.result (λ said. said (to_face c.args.face (untell_to g.K.Ord.cmp g.K.Key.matching)) c.in_ok-gone.ensures) c.say.ensures
+    on_ok_weaker c.say.result (λ said. said (λ h. to_face c.args.face (untell_to g.K.Ord.cmp g.K.Key.matching h) h) c.in_ok-gone.ensures) c.say.ensures

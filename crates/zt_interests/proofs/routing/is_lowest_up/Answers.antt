@@ -11,7 +11,7 @@ returns-then-leads_up_at g c =
     let m = c.args.f.now.number in
     let items = c.north-number-items.result.now in
     let i = c.loop-number.number-index in
-    let leads = λ (n : ℕ). is_some_and (find_face n rows) leads_up in
+    let leads = λ (n : ℕ). is_some_and (find_face n rows) (leads_up rows.mode) in
     let here = first-here leads items i 0 c.loop-number-test.true (sym c.leads_up_at.ensures ∙ c.if-leads_up_at.true) in
     rw c.number.ensures
     (ap (λ (o : Option ℕ). is_some_and o (λ n. n == m)) (sym here ∙ c.loop-number.invariant ∙ ap (first_where leads) c.north-number-items.ensures.north) ∙ lowest-up rows c.north-number-items.ensures.rising m)
@@ -19,13 +19,13 @@ returns-then-leads_up_at g c =
 pub loop-number-preserved : goal.loop-number-preserved
 loop-number-preserved g c =
     let rows = c.args.g.now in
-    let leads = λ (n : ℕ). is_some_and (find_face n rows) leads_up in
+    let leads = λ (n : ℕ). is_some_and (find_face n rows) (leads_up rows.mode) in
     first-later leads c.north-number-items.result.now c.loop-number.number-index 0 c.loop-number-test.true (sym c.leads_up_at.ensures ∙ c.if-leads_up_at.false) ∙ c.loop-number.invariant
 
 pub returns : goal.returns
 returns g c =
     let rows = c.args.g.now in
     let m = c.args.f.now.number in
-    let leads = λ (n : ℕ). is_some_and (find_face n rows) leads_up in
+    let leads = λ (n : ℕ). is_some_and (find_face n rows) (leads_up rows.mode) in
     let gone = first-none leads c.north-number-items.result.now c.loop-number.number-index c.loop-number-test.false in
     ap (λ (o : Option ℕ). is_some_and o (λ n. n == m)) (sym gone ∙ c.loop-number.invariant ∙ ap (first_where leads) c.north-number-items.ensures.north) ∙ lowest-up rows c.north-number-items.ensures.rising m

@@ -7,5 +7,5 @@ use Rattle.zt_interests.proofs.routing.is_lowest_up.Given as goal
 -- the first that leads up stands among the numbers left
 abbrev pub invariant-loop-number : goal.invariant-loop-number
 invariant-loop-number g l =
-    let leads = λ (n : ℕ). is_some_and (find_face n l.g) leads_up in
+    let leads = λ (n : ℕ). is_some_and (find_face n l.g) (leads_up l.g.mode) in
     first_where leads (drop l.number-index l.number-items) ≡ first_where leads l.number-items
