@@ -1,17 +1,24 @@
--- What an accepted call is known to be.
+-- What an accepted call is known to be, and what it leaves.
 use Rattle.std.proofs.Common.{◌≡◌, ◌+◌, ◌<◌, ◌^◌, Bool, true, None, arith, leb-false, Ok, ap, map, sym, ◌∙◌}
 use Rattle.std.specs.declared.cmp.Ordering.{Ordering}
 use Rattle.zt_protocol.specs.Plain.{PlainCall, NewSession, NewTransport, DeclareToken, UndeclareToken, Interest, InterestFinal, DeclareFinal, CloseFace, Expire, SetTrees, SetEntities}
 use Rattle.zt_laws.proofs.Calls.{no_cause}
+use Rattle.zt_laws.proofs.Seen.{faces_as_promised}
 use Rattle.zt_laws.specs.Sound.{opens_face, rows_after_call}
+use Rattle.zt_theorem_soundness.specs.Sound.{IsSound}
 use Rattle.zt_model.specs.Journal.{cause_of, face_of_call, made_by, outcome_of, rows_after}
 use Rattle.zt_model.specs.Refusals.{call_causes}
 use Rattle.zt_model.specs.Rows.{Rows}
 use Rattle.zt_model.specs.Says.{said}
+use Rattle.zt_model.specs.Transcript.{FacesKeepWhatTheyShould}
 use Rattle.zt_gateway.proofs.ByFace.{by_face_alone}
 use Rattle.zt_gateway.specs.Running.{by_face, sent_alone}
 
 module _ {K : Type 0} (cmp : K → K → Ordering) (matching : K → K → Bool) where
+  -- the faces of a sound gateway keep what they should
+  pub sound_as_promised : (g : Rows K) → IsSound cmp matching g → FacesKeepWhatTheyShould cmp matching g
+  sound_as_promised g sound = faces_as_promised cmp matching g sound.keeps
+
   -- there is a number left for the face that it makes
   pub numbers_are_left : (c : PlainCall K) (g : Rows K) → cause_of cmp matching c g ≡ None → opens_face c ≡ true → g.made + 1 < 2 ^ 32
   unfolding cause_of call_causes

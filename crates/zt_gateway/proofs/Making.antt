@@ -7,7 +7,8 @@ use Rattle.zt_region.specs.declared.region.Zid.{Zid}
 use Rattle.zt_theorem_soundness.specs.Sound.{IsSound}
 use Rattle.zt_model.specs.Fabric.{line_causes, empty_fabric, new_rows}
 use Rattle.zt_model.specs.Refusals.{first_cause}
-use Rattle.zt_gateway.specs.Settings.{Settings, line_of, making_causes}
+use Rattle.zt_refusals.specs.Making.{making_causes}
+use Rattle.zt_gateway.specs.Settings.{Settings, line_of}
 
 module _ {K : Type 0} (cmp : K → K → Ordering) (matching : K → K → Bool) where
   -- a gateway of no fabric is refused by its settings alone

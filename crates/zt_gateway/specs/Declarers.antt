@@ -10,10 +10,11 @@ use Rattle.zt_region.specs.Region.{region_eq, whatami_eq, zid_eq}
 use Rattle.zt_protocol.specs.declared.errors.CallError.{CallError}
 use Rattle.zt_protocol.specs.declared.errors.CallError.TheVariants.{Refused, Memory}
 use Rattle.zt_protocol.specs.declared.errors.Refusal.TheVariants.{NoSuchRegion}
+use Rattle.zt_model.specs.Hat.{hat}
 use Rattle.zt_model.specs.Lists.{same, with_key}
 use Rattle.zt_model.specs.Rows.{Face, RoutedRow}
-use Rattle.zt_model.specs.Sourced.{PlainSources, SourcedRow, kind_of, zids_of}
-use Rattle.zt_model.specs.Strategy.{is_region_of, strategy_of}
+use Rattle.zt_model.specs.Sourced.{PlainSources, SourcedRow, zids_of}
+use Rattle.zt_model.specs.Strategy.{Strategy, is_region_of}
 use Rattle.zt_gateway.specs.declared.sourced.Sources.{Sources}
 
 abbrev pub plain_sources : Sources → PlainSources
@@ -27,9 +28,9 @@ abbrev pub IsUnknownRegion : List Region → Region → CallError → Type 0
 IsUnknownRegion regions region Memory = Unit {0}
 IsUnknownRegion regions region (Refused r) = (r ≡ NoSuchRegion) × (is_region_of regions region ≡ false)
 
--- the rows of a face, where it is of the region, at a gateway of the mode `own`
-abbrev pub face_rows : {K : Type 0} → WhatAmI → Region → Face K → List (SourcedRow K)
-face_rows own region f = if region_eq f.region region then map (λ row. record { kind = kind_of (strategy_of own region) f.mode; zid = f.zid; expr = row.1 }) f.live else []
+-- the rows of a face, where it is of the region, which has this strategy
+abbrev pub face_rows : {K : Type 0} → Strategy → Region → Face K → List (SourcedRow K)
+face_rows strategy region f = if region_eq f.region region then map (λ row. record { kind = (hat strategy).kind_of f.mode; zid = f.zid; expr = row.1 }) f.live else []
 
 -- a router's token
 abbrev pub router_row : {K : Type 0} → Zid → K → SourcedRow K

@@ -1,19 +1,17 @@
 // The settings of a gateway, from which it is made.
-ghost use Rattle.std.specs.Prelude.{◌≡◌, ◌||◌, ◌&&◌, not, [], None, Some, IfErr, IfOk, OnOk, false};
+ghost use Rattle.std.specs.Prelude.{◌≡◌, [], None, Some, IfErr, IfOk, OnOk, false};
 ghost use Rattle.std.specs.Prelude.{option_map, string_bytes};
-ghost use Rattle.std.specs.List.{list_any};
-ghost use Rattle.zt_gateway.specs.Settings.{line_of, making_causes, names_other_region};
-ghost use Rattle.zt_gateway.specs.Settings.{new_gateway};
-ghost use Rattle.zt_model.specs.Fabric.{line_causes, empty_fabric, is_south_router};
+ghost use Rattle.zt_gateway.specs.Settings.{line_of, new_gateway};
+ghost use Rattle.zt_model.specs.Fabric.{line_causes, empty_fabric};
 ghost use Rattle.zt_model.specs.Refusals.{first_cause};
-ghost use Rattle.zt_model.specs.Strategy.{is_region_of};
 ghost use Rattle.zt_region.specs.South.{plain_south};
 
 use crate::gateway::Gateway;
 use std::alloc::Global;
 use std::marker::Model;
 use zt_keys::Key;
-use zt_protocol::{CallError, Refusal};
+use zt_protocol::CallError;
+use zt_refusals::cause_of_making;
 use zt_region::{Admission, Region, SouthConf, WhatAmI, Zid};
 use zt_rollback::RestorableState;
 use zt_state::GatewayState;
@@ -48,70 +46,6 @@ impl Model for GatewayBuilder {
       timeout = b.timeout;
       refused = b.admission.refused.items;
     } };
-}
-
-// Whether a gateway with these south regions has the region.
-pub(crate) fn is_region_of(regions: &[Region], region: Region) -> bool
-    ensures { result ≡ is_region_of regions.now region }
-{
-    match region {
-        Region::North | Region::Local => true,
-        Region::South { .. } => regions.contains(&region),
-    }
-}
-
-// Whether a pair names a region that the gateway doesn't have.
-fn names_other_region(regions: &[Region], pair: &(Region, Region)) -> bool
-    ensures { result ≡ names_other_region regions.now pair.now }
-{
-    !is_region_of(regions, pair.0) || !is_region_of(regions, pair.1)
-}
-
-// Whether the region is one of routers to the south.
-fn is_south_router(region: &Region) -> bool
-    ensures { result ≡ is_south_router region.now }
-{
-    matches!(
-        region,
-        Region::South {
-            mode: WhatAmI::Router,
-            ..
-        }
-    )
-}
-
-// Whether one of the pairs names a region that the gateway doesn't have.
-fn name_other_region(regions: &[Region], refused: &[(Region, Region)]) -> bool
-    ensures { result ≡ list_any (names_other_region regions.now) refused.now }
-{
-    refused.iter().any(|pair| names_other_region(regions, pair))
-}
-
-// Whether one of the regions is one of routers to the south.
-fn has_south_router(regions: &[Region]) -> bool
-    ensures { result ≡ list_any is_south_router regions.now }
-{
-    regions.iter().any(|region| is_south_router(region))
-}
-
-// Why a gateway of these settings isn't made.
-#[tactic(auto, unfolding(zt_model::specs::Refusals::first_cause))]
-fn cause_of_making(
-    mode: WhatAmI,
-    regions: &[Region],
-    refused: &[(Region, Region)],
-) -> Option<Refusal>
-    ensures { result ≡ first_cause (making_causes mode regions.now refused.now) }
-{
-    let names_other = name_other_region(regions, refused);
-    let conflicts = has_south_router(regions) && mode != WhatAmI::Router;
-    if names_other {
-        Some(Refusal::NoSuchRegion)
-    } else if conflicts {
-        Some(Refusal::RegionConflict)
-    } else {
-        None
-    }
 }
 
 impl GatewayBuilder {
@@ -184,9 +118,9 @@ impl GatewayBuilder {
     }
 
     /// Makes a gateway without faces, as the first line of a script makes it. Refused are a pair of
-    /// regions that names one that the gateway doesn't have, and a south region of routers at a
-    /// gateway that is no router. The south configuration and the name are for those who find
-    /// regions: the gateway keeps neither.
+    /// regions that names one that the gateway doesn't have, and a south region that goes by trees
+    /// where the gateway's north doesn't: one of routers, at a gateway that is no router. The south
+    /// configuration and the name are for those who find regions: the gateway keeps neither.
     pub fn build<K: Key>(self) -> Result<Gateway<K>, CallError>
         ensures refused { IfErr result (λ error.
             option_map CallError.Refused

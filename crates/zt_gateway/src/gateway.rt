@@ -4,10 +4,10 @@ ghost use Rattle.std.specs.Prelude.{IfOk, None, OnErr, OnOk};
 ghost use Rattle.zt_gateway.specs.Running.{IsRefusedBy, by_face, called, next_waiting, oldest_for};
 ghost use Rattle.zt_gateway.specs.Running.{planned, sent_alone, without_closed, without_oldest};
 ghost use Rattle.zt_theorem_soundness.specs.Sound.{IsSound};
-ghost use Rattle.zt_laws.specs.Keeping.{FacesKeepRight};
 ghost use Rattle.zt_laws.specs.Sound.{CallHasFirstIds};
 ghost use Rattle.zt_model.specs.Journal.{cause_of, made_by, outcome_of};
 ghost use Rattle.zt_model.specs.Says.{said};
+ghost use Rattle.zt_model.specs.Transcript.{FacesKeepWhatTheyShould};
 ghost use Rattle.zt_protocol.specs.Plain.{plain_call};
 
 use crate::carrying::{carried, closed_by, room_for};
@@ -125,7 +125,7 @@ impl<K: Key> Gateway<K> {
         requires { prepared.before ≡ self.old }
         ensures done { self.new ≡ prepared.after }
         ensures made { result ≡ prepared.made }
-        ensures sound { FacesKeepRight K.cmp K.matching self.new.rows }
+        ensures sound { FacesKeepWhatTheyShould K.cmp K.matching self.new.rows }
     {
         let Prepared {
             state,
@@ -148,7 +148,7 @@ impl<K: Key> Gateway<K> {
         requires planned { prepared ≡ planned K.cmp K.matching (plain_call call.now) self.old }
         ensures done { self.new ≡ prepared.after }
         ensures made { result ≡ prepared.made }
-        ensures sound { FacesKeepRight K.cmp K.matching self.new.rows }
+        ensures sound { FacesKeepWhatTheyShould K.cmp K.matching self.new.rows }
     {
         let Prepared {
             state,
@@ -179,7 +179,7 @@ impl<K: Key> Gateway<K> {
         ensures made { IfOk result
             (λ made. made ≡ made_by K.cmp K.matching (plain_call call.now) self.old.rows) }
         ensures err { OnErr result (self.new ≡ self.old) }
-        ensures sound { OnOk result (FacesKeepRight K.cmp K.matching self.new.rows) }
+        ensures sound { OnOk result (FacesKeepWhatTheyShould K.cmp K.matching self.new.rows) }
     {
         match self.prepare(call) {
             Ok(prepared) => Ok(self.commit_call(prepared, call)),

@@ -2,7 +2,8 @@
 ghost use Rattle.std.specs.Prelude.{◌≡◌, ◌++◌, map, IfOk, OnOk};
 ghost use Rattle.std.specs.List.{flat_map};
 ghost use Rattle.zt_gateway.specs.Declarers.{face_rows, router_row, router_rows};
-ghost use Rattle.zt_model.specs.Sourced.{kind_of, rows_sourced};
+ghost use Rattle.zt_hats.specs.Rules.{strategy};
+ghost use Rattle.zt_model.specs.Sourced.{rows_sourced};
 ghost use Rattle.zt_model.specs.Sourced.{rows_sourced_by_faces, rows_sourced_by_routers};
 ghost use Rattle.zt_model.specs.Strategy.{strategy_of};
 ghost use Rattle.zt_link_state.specs.Routed.{rows_of};
@@ -10,11 +11,11 @@ ghost use Rattle.zt_link_state.specs.Routed.{rows_of};
 use std::alloc::Global;
 use std::collections::BTreeSet;
 use std::marker::Model;
+use zt_hats::{Hat, hat_of};
 use zt_keys::{Key, Memory};
 use zt_link_state::Origin;
 use zt_region::{Region, WhatAmI, Zid};
 use zt_state::{FaceState, GatewayState, RowsById};
-use zt_tokens::is_router_region;
 
 // A declarer's token: what the declarer is listed as, its number and the expression.
 #[derive(Drop)]
@@ -55,20 +56,6 @@ impl<K: Key> SourcedToken<K> {
     }
 }
 
-// As what a face of the region and mode is listed, at a gateway of the mode `own`.
-fn kind_of(own: WhatAmI, region: Region, mode: WhatAmI) -> WhatAmI
-    ensures { result ≡ kind_of (strategy_of own region) mode }
-{
-    match region {
-        Region::Local => WhatAmI::Client,
-        Region::South { mode, .. } => mode,
-        Region::North => match own {
-            WhatAmI::Client => mode,
-            other => other,
-        },
-    }
-}
-
 // Adds the tokens of a face. The only error is want of memory.
 fn add_live<K: Key>(
     alloc: Global,
@@ -90,36 +77,38 @@ fn add_live<K: Key>(
     Ok(())
 }
 
-// Adds the tokens of a face, where it is of the region. The only error is want of memory.
+// Adds the tokens of a face, where it is of the region, which has this hat. The only error is want
+// of memory.
 fn add_face<K: Key>(
     alloc: Global,
-    own: WhatAmI,
+    hat: Hat,
     region: Region,
     f: &FaceState<K>,
     rows: &mut Vec<SourcedToken<K>>,
 ) -> Result<(), Memory>
-    ensures { OnOk result (rows.new.items ≡ rows.old.items ++ face_rows own region f.now) }
+    ensures { OnOk result
+        (rows.new.items ≡ rows.old.items ++ face_rows (strategy hat) region f.now) }
 {
     if f.region() == region {
-        let kind = kind_of(own, region, f.mode());
+        let kind = hat.kind_of(f.mode());
         add_live(alloc, kind, f.zid(), f.live(), rows)?;
     }
     Ok(())
 }
 
-// The tokens of a region's faces. The only error is want of memory.
+// The tokens of the faces of a region that has this hat. The only error is want of memory.
 fn rows_of_faces<K: Key>(
     alloc: Global,
     g: &GatewayState<K>,
+    hat: Hat,
     region: Region,
 ) -> Result<Vec<SourcedToken<K>>, Memory>
     ensures { IfOk result (λ rows. rows.items
-        ≡ rows_sourced_by_faces K.cmp (strategy_of g.now.mode region) g.now region) }
+        ≡ rows_sourced_by_faces K.cmp (strategy hat) g.now region) }
 {
     let mut rows = Vec::new(alloc);
-    let own = g.mode();
     for f in g.faces() {
-        add_face(alloc, own, region, f, &mut rows)?;
+        add_face(alloc, hat, region, f, &mut rows)?;
     }
     Ok(rows)
 }
@@ -163,7 +152,7 @@ fn add_origin<K: Key>(
     Ok(())
 }
 
-// The tokens of a router region but the gateway's own. The only error is want of memory.
+// The tokens of a region of routers but the gateway's own. The only error is want of memory.
 fn rows_of_routers<K: Key>(
     alloc: Global,
     g: &GatewayState<K>,
@@ -188,9 +177,10 @@ pub(crate) fn sourced_rows<K: Key>(
     ensures { IfOk result (λ rows. rows.items
         ≡ rows_sourced K.cmp (strategy_of g.now.mode region) g.now region) }
 {
-    if is_router_region(g.mode(), region) {
+    let hat = hat_of(g.mode(), region);
+    if hat.goes_by_trees() {
         rows_of_routers(alloc, g, region)
     } else {
-        rows_of_faces(alloc, g, region)
+        rows_of_faces(alloc, g, hat, region)
     }
 }

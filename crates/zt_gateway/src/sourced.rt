@@ -6,13 +6,13 @@ ghost use Rattle.zt_model.specs.Lists.{in_key_order};
 ghost use Rattle.zt_model.specs.Sourced.{sourced, zids_of};
 ghost use Rattle.zt_model.specs.Strategy.{is_region_of};
 
-use crate::builder::is_region_of;
 use crate::gateway::Gateway;
 use crate::listing::{SourcedToken, sourced_rows};
 use crate::ordering::{insert_key, insert_zid};
 use std::alloc::Global;
 use zt_keys::{Key, Memory};
 use zt_protocol::{CallError, Refusal};
+use zt_refusals::is_region_of;
 use zt_region::{Region, WhatAmI, Zid};
 use zt_state::GatewayState;
 

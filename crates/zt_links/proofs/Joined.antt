@@ -10,9 +10,9 @@ use Rattle.zt_protocol.specs.declared.entries.Sent.{Sent}
 use Rattle.zt_protocol.specs.declared.errors.Refusal.{Refusal}
 use Rattle.zt_protocol.specs.declared.errors.Refusal.TheVariants as refusal
 use Rattle.zt_model.specs.Fabric.{CallAt, Fabric, Node, after_opening, call_at, fabric_after, is_unknown_gateway, opened_at, opening_at, said_at, said_by_line, said_opening, sorted_by_face}
+use Rattle.zt_model.specs.Hat.{hat_of}
 use Rattle.zt_model.specs.Linking.{LinkEnd, end_call, end_region, is_end, is_refused_end, link_ends, with_link}
 use Rattle.zt_model.specs.Lists.{nth}
-use Rattle.zt_model.specs.Strategy.{fits}
 use Rattle.zt_model.specs.Transcript.{Each}
 use Rattle.zt_laws.specs.Order.{FabricIsInOrder}
 use Rattle.zt_laws.specs.Sound.{opens_face}
@@ -88,7 +88,7 @@ module _ {K : Type 0} where
         → (opening_call (nth one s.gateways) (nth two s.gateways) first ≡ None → ⊥) × (opening_call (nth two s.gateways) (nth one s.gateways) back ≡ None → ⊥)
     accepted_calls one two first back s accepted =
         let ends = link_ends s one two first back in
-        let misfit = list_any (is_end (λ end region bound. not (fits end.node.rows.mode region end.other.rows.mode bound))) ends in
+        let misfit = list_any (is_end (λ end region bound. not ((hat_of end.node.rows.mode region).fits region end.other.rows.mode bound))) ends in
         let all = sym (link_cause cmp matching one two first back s) ∙ accepted in
         let regions = nor_later (is_unknown_gateway s one || is_unknown_gateway s two) refusal.UnknownGateway _ all in
         let conflicts = nor_later _ refusal.NoSuchRegion _ regions in

@@ -8,10 +8,10 @@ use Rattle.zt_protocol.specs.declared.errors.Refusal.{Refusal}
 use Rattle.zt_protocol.specs.declared.errors.Refusal.TheVariants as refusal
 use Rattle.zt_region.specs.Tables.{RegionAnswer}
 use Rattle.zt_model.specs.Fabric.{CallAt, Fabric, Node, after_opening, call_at, is_full, is_region_of, is_unknown_gateway, line_spends_ids, opening_at, opening_calls}
+use Rattle.zt_model.specs.Hat.{hat_of}
 use Rattle.zt_model.specs.Linking.{LinkEnd, closes_loop, end_call, end_region, is_end, is_refused_end, link_ends}
 use Rattle.zt_model.specs.Lists.{is_some_and, nth}
 use Rattle.zt_model.specs.Refusals.{GREATEST_NUMBER, is_north_taken, spends_ids}
-use Rattle.zt_model.specs.Strategy.{fits}
 use Rattle.zt_links.specs.Lines.{cause_if, cause_of_line, later_cause, opened_by_call, call_to_open, or_cause, regions_cause}
 use Rattle.zt_links.proofs.Refusing.{link_cause}
 
@@ -108,7 +108,7 @@ module _ {K : Type 0} (cmp : K → K → Ordering) (matching : K → K → Bool)
       let y : LinkEnd K = record { gateway = two; node = b; beyond = one; other = a; first = back } in
       let ends = x ∷ y ∷ [] in
       let lacks : LinkEnd K → Bool = is_end (λ end region bound. not (is_region_of end.node.rows.regions region)) in
-      let unfit : LinkEnd K → Bool = is_end (λ end region bound. not (fits end.node.rows.mode region end.other.rows.mode bound)) in
+      let unfit : LinkEnd K → Bool = is_end (λ end region bound. not ((hat_of end.node.rows.mode region).fits region end.other.rows.mode bound)) in
       let taken : LinkEnd K → Bool = is_end (λ end region bound. is_north_taken region end.node.rows) in
       let loops : LinkEnd K → Bool = is_end (closes_loop s) in
       let spent = or_cause (cause_if (line_spends_ids cmp matching (LinkLine one two first back) s) refusal.IdsSpent) (cause_if (nat_le GREATEST_NUMBER (length s.faces + 1) || is_full s.links) refusal.NumbersSpent) in

@@ -5,19 +5,18 @@ use Rattle.std.specs.declared.cmp.Ordering.{Ordering}
 use Rattle.zt_region.specs.declared.region.Bound.{Bound}
 use Rattle.zt_region.specs.declared.region.Region.{Region}
 use Rattle.zt_region.specs.declared.region.WhatAmI.{WhatAmI}
-use Rattle.zt_region.specs.declared.region.WhatAmI.TheVariants.{Router}
 use Rattle.zt_region.specs.declared.region.Zid.{Zid}
-use Rattle.zt_region.specs.Region.{whatami_eq}
 use Rattle.zt_region.specs.South.{PlainSouth}
 use Rattle.zt_protocol.specs.Plain.{PlainCall, PlainLine, Trees, Gateway, Session, Face as FaceLine, Link as LinkLine, Unlink, Step, Speak, Moment, SetTreesAt}
 use Rattle.zt_protocol.specs.declared.errors.Refusal.{Refusal}
 use Rattle.zt_protocol.specs.declared.errors.Refusal.TheVariants as refusal
-use Rattle.zt_model.specs.Fabric.{CallAt, Fabric, line_causes, call_face, call_of, causes_of_call, is_full, is_linked_face, is_open_link, is_region_of, is_south_router, is_unknown_gateway, line_spends_ids}
+use Rattle.zt_model.specs.Fabric.{CallAt, Fabric, line_causes, call_face, call_of, causes_of_call, is_full, is_linked_face, is_open_link, is_region_of, is_unknown_gateway, line_spends_ids}
+use Rattle.zt_model.specs.Hat.{hat_of}
 use Rattle.zt_model.specs.Journal.{cause_of}
 use Rattle.zt_model.specs.Linking.{closes_loop, is_end, is_refused_end, link_ends, oldest}
-use Rattle.zt_model.specs.Strategy.{fits}
 use Rattle.zt_model.specs.Lists.{is_some_and, nth}
 use Rattle.zt_model.specs.Refusals.{Causes, GREATEST_NUMBER, first_cause, is_north_taken, spends_ids}
+use Rattle.zt_refusals.specs.Making.{making_causes}
 use Rattle.zt_links.specs.Lines.{cause_at, cause_if, cause_of_line, or_cause}
 
 one_cause : (b : Bool) (r : Refusal) (later : Causes) → first_cause ((b, r) ∷ later) ≡ or_cause (cause_if b r) (first_cause later)
@@ -44,11 +43,11 @@ module _ {K : Type 0} (cmp : K → K → Ordering) (matching : K → K → Bool)
 
   pub gateway_cause : (mode : WhatAmI) (zid : Zid) (regions : List Region) (south : PlainSouth) (name : Option (List ℕ)) (timeout : ℕ) (refused : List (Region × Region)) (s : Fabric K)
       → cause_of_line cmp matching (Gateway mode zid regions south name timeout refused) s
-      ≡ or_cause (cause_if (list_any (λ pair. not (is_region_of regions pair.0) || not (is_region_of regions pair.1)) refused) refusal.NoSuchRegion)
-      (or_cause (cause_if (list_any is_south_router regions && not (whatami_eq mode Router)) refusal.RegionConflict) (cause_if (is_full s.gateways) refusal.NumbersSpent))
+      ≡ or_cause (first_cause (making_causes mode regions refused)) (cause_if (is_full s.gateways) refusal.NumbersSpent)
   unfolding cause_of_line line_causes
   gateway_cause mode zid regions south name timeout refused s =
-      one_cause _ _ _ ∙ ap (or_cause _) (one_cause _ _ _ ∙ ap (or_cause _) (last_cause _ _))
+      causes-append (making_causes mode regions refused) ((is_full s.gateways, refusal.NumbersSpent) ∷ [])
+      ∙ ap (or_cause (first_cause (making_causes mode regions refused))) (last_cause (is_full s.gateways) refusal.NumbersSpent)
 
   pub session_cause : (gateway first : ℕ) (s : Fabric K)
       → cause_of_line cmp matching (Session gateway first) s ≡ or_cause (cause_if (is_unknown_gateway s gateway) refusal.UnknownGateway) (cause_if (is_full s.faces) refusal.NumbersSpent)
@@ -105,7 +104,7 @@ module _ {K : Type 0} (cmp : K → K → Ordering) (matching : K → K → Bool)
       cause_of_line cmp matching line s
       ≡ or_cause (cause_if (is_unknown_gateway s one || is_unknown_gateway s two) refusal.UnknownGateway)
       (or_cause (cause_if (list_any (is_end (λ end region bound. not (is_region_of end.node.rows.regions region))) ends) refusal.NoSuchRegion)
-      (or_cause (cause_if (list_any is_refused_end ends || list_any (is_end (λ end region bound. not (fits end.node.rows.mode region end.other.rows.mode bound))) ends) refusal.RegionConflict)
+      (or_cause (cause_if (list_any is_refused_end ends || list_any (is_end (λ end region bound. not ((hat_of end.node.rows.mode region).fits region end.other.rows.mode bound))) ends) refusal.RegionConflict)
       (or_cause (cause_if (list_any (is_end (λ end region bound. is_north_taken region end.node.rows)) ends) refusal.NorthTaken)
       (or_cause (cause_if (list_any (is_end (closes_loop s)) ends) refusal.WouldLoop)
       (or_cause (cause_if (line_spends_ids cmp matching line s) refusal.IdsSpent)

@@ -3,8 +3,7 @@ use Rattle.std.specs.Prelude.{ℕ, Bool, true, false, ◌==◌, ◌+◌, ◌&&�
 use Rattle.std.specs.List.{list_any}
 use Rattle.std.specs.declared.cmp.Ordering.{Ordering}
 use Rattle.zt_region.specs.declared.region.WhatAmI.{WhatAmI}
-use Rattle.zt_region.specs.declared.region.WhatAmI.TheVariants.{Client}
-use Rattle.zt_region.specs.Region.{is_north, whatami_eq}
+use Rattle.zt_region.specs.Region.{is_north}
 use Rattle.zt_region.specs.South.{PlainPeer, PlainSouth, transient_bound}
 use Rattle.zt_region.specs.Tables.{RegionAnswer, region_of}
 use Rattle.zt_protocol.specs.Plain.{PlainCall, PlainLine, NewTransport, Session, Face as FaceLine, Link as LinkLine}
@@ -12,11 +11,11 @@ use Rattle.zt_protocol.specs.declared.entries.Sent.{Sent}
 use Rattle.zt_protocol.specs.declared.errors.Refusal.{Refusal}
 use Rattle.zt_protocol.specs.declared.errors.Refusal.TheVariants as refusal
 use Rattle.zt_model.specs.Fabric.{CallAt, Fabric, Node, after_opening, at_nth, line_causes, call_at, is_full, is_region_of, line_spends_ids, opened_at, said_at}
+use Rattle.zt_model.specs.Hat.{hat_of, north_hat}
 use Rattle.zt_model.specs.Journal.{cause_of}
 use Rattle.zt_model.specs.Linking.{climbs_to, end_region, is_answer}
 use Rattle.zt_model.specs.Lists.{without_id}
 use Rattle.zt_model.specs.Refusals.{GREATEST_NUMBER, first_cause, is_north_taken}
-use Rattle.zt_model.specs.Strategy.{fits}
 use Rattle.zt_link_queues.specs.Waiting.{with_printed}
 
 -- a call by the number of its gateway, where there is one
@@ -100,13 +99,13 @@ is_refused_answer answer = elim answer [ Ok given ↦ false | Err e ↦ true ]
 abbrev pub regions_cause : {K : Type 0} → Node K → RegionAnswer → Node K → RegionAnswer → Option Refusal
 regions_cause a near b far =
     or_cause (cause_if (is_answer near (λ region bound. not (is_region_of a.rows.regions region)) || is_answer far (λ region bound. not (is_region_of b.rows.regions region))) refusal.NoSuchRegion)
-    (or_cause (cause_if ((is_refused_answer near || is_refused_answer far) || (is_answer near (λ region bound. not (fits a.rows.mode region b.rows.mode bound)) || is_answer far (λ region bound. not (fits b.rows.mode region a.rows.mode bound)))) refusal.RegionConflict)
+    (or_cause (cause_if ((is_refused_answer near || is_refused_answer far) || (is_answer near (λ region bound. not ((hat_of a.rows.mode region).fits region b.rows.mode bound)) || is_answer far (λ region bound. not ((hat_of b.rows.mode region).fits region a.rows.mode bound)))) refusal.RegionConflict)
     (cause_if (is_answer near (λ region bound. is_north_taken region a.rows) || is_answer far (λ region bound. is_north_taken region b.rows)) refusal.NorthTaken))
 
--- an end closes a loop of client gateways
+-- an end closes a loop of gateways that have one face each to the north
 abbrev pub closes_loop_at : {K : Type 0} → Fabric K → Node K → RegionAnswer → ℕ → ℕ → Bool
 closes_loop_at s node answer beyond gateway =
-    is_answer answer (λ region bound. whatami_eq node.rows.mode Client && (is_north region && climbs_to (length s.gateways) s beyond gateway))
+    is_answer answer (λ region bound. (north_hat node.rows.mode).has_one_face && (is_north region && climbs_to (length s.gateways) s beyond gateway))
 
 module _ {K : Type 0} (cmp : K → K → Ordering) (matching : K → K → Bool) where
   -- why a link isn't made, where the regions of its ends refuse nothing

@@ -1,15 +1,13 @@
 // Why lines are refused: the first cause that holds.
-ghost use Rattle.std.specs.Prelude.{◌≡◌, ◌&&◌, ◌||◌, not, nat_le, is_some, IfOk, Some};
-ghost use Rattle.std.specs.List.{list_any};
-ghost use Rattle.zt_region.specs.Region.{whatami_eq};
-ghost use Rattle.zt_region.specs.declared.region.WhatAmI.TheVariants.{Router};
+ghost use Rattle.std.specs.Prelude.{◌≡◌, not, nat_le, is_some, IfOk, Some};
 ghost use Rattle.zt_protocol.specs.Plain.{plain_call, plain_line};
 ghost use Rattle.zt_protocol.specs.declared.errors.Refusal.TheVariants as refusal;
 ghost use Rattle.zt_model.specs.Fabric.{call_face, call_of, is_full, is_linked_face, is_open_link};
-ghost use Rattle.zt_model.specs.Fabric.{is_region_of, is_south_router, is_unknown_gateway};
+ghost use Rattle.zt_model.specs.Fabric.{is_unknown_gateway};
 ghost use Rattle.zt_model.specs.Linking.{oldest};
 ghost use Rattle.zt_model.specs.Lists.{is_some_and, nth};
-ghost use Rattle.zt_model.specs.Refusals.{GREATEST_NUMBER};
+ghost use Rattle.zt_model.specs.Refusals.{GREATEST_NUMBER, first_cause};
+ghost use Rattle.zt_refusals.specs.Making.{making_causes};
 ghost use Rattle.zt_links.specs.Lines.{cause_at, cause_if, cause_of_line, made_at, or_cause};
 
 use crate::calls::{CallMade, face_of};
@@ -17,7 +15,7 @@ use std::alloc::Global;
 use zt_fabric_state::{FabricState, is_linked_face, is_open_link, member_at, oldest};
 use zt_keys::{Key, Memory};
 use zt_protocol::{Call, Line, Refusal};
-use zt_refusals::cause_of;
+use zt_refusals::{cause_of, cause_of_making};
 use zt_region::{Admission, Region, WhatAmI};
 
 /// Whether all numbers are given out.
@@ -182,40 +180,6 @@ pub(crate) fn step_cause<K: Key>(
     cause_of_made(alloc, s, made)
 }
 
-/// Whether a gateway with these south regions has the region.
-pub(crate) fn has_region(regions: &[Region], region: Region) -> bool
-    ensures { result ≡ is_region_of regions.now region }
-{
-    match region {
-        Region::South { .. } => regions.iter().any(|listed| region == *listed),
-        _ => true,
-    }
-}
-
-fn is_south_router(region: &Region) -> bool
-    ensures { result ≡ is_south_router region.now }
-{
-    match region {
-        Region::South { mode, .. } => *mode == WhatAmI::Router,
-        _ => false,
-    }
-}
-
-/// Whether the refused pairs name a region that isn't one of these.
-fn names_others(regions: &[Region], refused: &[(Region, Region)]) -> bool
-    ensures { result
-        ≡ list_any (λ pair. not (is_region_of regions.now pair.0)
-        || not (is_region_of regions.now pair.1)) refused.now }
-{
-    refused.iter().any(|pair| !has_region(regions, pair.0) || !has_region(regions, pair.1))
-}
-
-fn has_south_router(regions: &[Region]) -> bool
-    ensures { result ≡ list_any is_south_router regions.now }
-{
-    regions.iter().any(|region| is_south_router(region))
-}
-
 /// Whether all numbers of gateways are given out.
 fn has_every_number<K: Key>(s: &FabricState<K>) -> bool
     ensures { result ≡ is_full s.now.gateways }
@@ -231,18 +195,11 @@ pub(crate) fn gateway_cause<K: Key>(
     refuse: &Admission,
 ) -> Option<Refusal>
     ensures { result
-        ≡ or_cause (cause_if (list_any
-        (λ pair. not (is_region_of regions.now pair.0) || not (is_region_of regions.now pair.1))
-        refuse.now.refused.items) refusal.NoSuchRegion)
-        (or_cause (cause_if (list_any is_south_router regions.now && not (whatami_eq mode Router))
-        refusal.RegionConflict)
-        (cause_if (is_full s.now.gateways) refusal.NumbersSpent)) }
+        ≡ or_cause (first_cause (making_causes mode regions.now refuse.now.refused.items))
+        (cause_if (is_full s.now.gateways) refusal.NumbersSpent) }
 {
-    if names_others(regions, refuse.refused.as_slice()) {
-        return Some(Refusal::NoSuchRegion);
-    }
-    if has_south_router(regions) && mode != WhatAmI::Router {
-        return Some(Refusal::RegionConflict);
+    if let Some(cause) = cause_of_making(mode, regions, refuse.refused.as_slice()) {
+        return Some(cause);
     }
     if has_every_number(s) {
         return Some(Refusal::NumbersSpent);

@@ -11,6 +11,7 @@ ghost use Rattle.zt_link_queues.specs.Found.{AreBelow};
 ghost use Rattle.zt_fabric_state.specs.Changes.{IsAfter, row_after, undone, without_last_place};
 ghost use Rattle.zt_links.specs.Lines.{agreed, joined, opened_by_call, opened_end};
 ghost use Rattle.zt_links.specs.Lines.{said_by_opening};
+ghost use Rattle.zt_model.specs.Hat.{north_hat};
 ghost use Rattle.zt_model.specs.Linking.{climbs_to, with_link, end_region, gateway_above};
 ghost use Rattle.zt_model.specs.Linking.{gateway_beyond};
 ghost use Rattle.zt_model.specs.Lists.{first_where, is_some_and, nth};
@@ -22,6 +23,7 @@ use zt_fabric_state::{
     FabricState, NodeState, Turned, hear_call, member_at, member_place, next_face, peer_of, settle,
     settle_apart, sort_by_face, undo_opening,
 };
+use zt_hats::north_hat;
 use zt_keys::{Key, Memory};
 use zt_protocol::{Call, Sent};
 use zt_refusals::spends_ids;
@@ -132,7 +134,15 @@ fn north_face<K: Key>(rows: &GatewayState<K>) -> Option<u32>
     rows.north().first().copied()
 }
 
-/// The gateway above a client gateway, by its north link. The only error is want of memory.
+/// Whether the gateway has one face at most to the north. By these faces others climb.
+pub(crate) fn has_one_north<K: Key>(rows: &GatewayState<K>) -> bool
+    ensures { result ≡ (north_hat rows.now.mode).has_one_face }
+{
+    north_hat(rows.mode()).has_one_face()
+}
+
+/// The gateway above one that has one face to the north, by its link. The only error is want of
+/// memory.
 fn gateway_above<K: Key>(s: &FabricState<K>, gateway: u32) -> Result<Option<u32>, Memory>
     ensures { IfOk result (λ above. above ≡ gateway_above s.now gateway) }
 {
@@ -140,7 +150,7 @@ fn gateway_above<K: Key>(s: &FabricState<K>, gateway: u32) -> Result<Option<u32>
         return Ok(None);
     };
     let rows = node.rows()?;
-    if rows.mode() != WhatAmI::Client {
+    if !has_one_north(rows) {
         return Ok(None);
     }
     match north_face(rows) {

@@ -12,8 +12,9 @@ use Rattle.zt_protocol.specs.declared.interests.InterestOptions.{InterestOptions
 use Rattle.zt_model.specs.Lists.{first_where, is_some_and}
 use Rattle.zt_model.specs.Parts.{find_face, is_routed}
 use Rattle.zt_model.specs.Refusals.{ids_for_interest, ids_for_target, left_ids}
-use Rattle.zt_model.specs.Routing.{is_target}
+use Rattle.zt_model.specs.Routing.{is_asked, is_target}
 use Rattle.zt_model.specs.Rows.{Face, Rows}
+use Rattle.zt_model.proofs.Hats.{asked_north}
 use Rattle.zt_faces.specs.Rising.{IsRising}
 use Rattle.zt_state.proofs.Sought.{number-found}
 use Rattle.zt_tokens.proofs.Chosen.{all-found}
@@ -36,9 +37,12 @@ any_of_found p q (y ∷ ys) x is t =
     (λ not_here. let rest = any_of_found p q ys x (rw not_here at is) t in by_test (q y) (λ u. rw u refl) (λ u. rw u rest))
 
 module _ {K : Type 0} where
+  south-unasked : (g : Rows K) (mode : InterestMode) (f : Face K) → is_north f.region ≡ false → is_asked g mode f ≡ false
+  south-unasked g mode f h = by_test (is_asked g mode f) (λ t. let north = asked_north g mode f t in cc) (λ t. t)
+
   south-untargeted : (g : Rows K) (asker : Region) (mode : InterestMode) (f : Face K) → is_north f.region ≡ false → is_target g asker mode f ≡ false
   unfolding is_target
-  south-untargeted g asker mode f h = by_test (is_north asker) (λ t. rw t refl) (λ t. rw (t, h) refl)
+  south-untargeted g asker mode f h = let unasked = south-unasked g mode f h in by_test (is_north asker) (λ t. rw t refl) (λ t. rw (t, unasked) refl)
 
   -- no face is sent an interest of its own
   own-untargeted : (g : Rows K) (mode : InterestMode) (f : Face K) → is_target g f.region mode f ≡ false

@@ -2,5 +2,4 @@ mod Askers
 pub mod LeftIds
 mod Listing
 pub mod Numbering
-mod Passing
 mod Seekers

@@ -48,13 +48,13 @@ module _ {K : Type 0} where
     any_same (f ∷ fs) are = let rest = any_same fs are.1 in λ i. lacks_same f are.0 i || rest i
 
   module _ (cmp : K → K → Ordering) (matching : K → K → Bool) (n : ℕ) (e : K) (from : Face K) (g : Rows K) (is : find_face n g ≡ Some from) (pairs : List (ℕ × ℕ)) where
-    no_ids : (f : Face K) → seeks matching f e ≡ false → ids_among cmp matching n None e g pairs f ≡ 0
+    no_ids : (f : Face K) → seeks matching g.mode f e ≡ false → ids_among cmp matching n None e g pairs f ≡ 0
     no_ids f h =
         let untold = unsought matching g from.region e f h (id_of f.number pairs) in
         rw (is, ids_among) (rw untold refl)
 
     pub seekers_lack : IsRising (λ f. f.number) g.faces → AllByRecursion (λ f. id_of f.number pairs ≡ told_id cmp e f.told) g.faces
-        → list_any (λ m. is_some_and (find_face m g) (lacks_among cmp matching n None e g pairs)) (map (λ f. f.number) (filter (λ f. seeks matching f e) g.faces)) ≡ list_any (lacks_for_token cmp matching n None e g) g.faces
+        → list_any (λ m. is_some_and (find_face m g) (lacks_among cmp matching n None e g pairs)) (map (λ f. f.number) (filter (λ f. seeks matching g.mode f e) g.faces)) ≡ list_any (lacks_for_token cmp matching n None e g) g.faces
     seekers_lack rising are =
-        any_chosen g.faces g.faces (λ f. seeks matching f e) (lacks_among cmp matching n None e g pairs) (λ f h. needs_none g (ids_among cmp matching n None e g pairs) f (no_ids f h)) (all-found g.faces rising)
+        any_chosen g.faces g.faces (λ f. seeks matching g.mode f e) (lacks_among cmp matching n None e g pairs) (λ f h. needs_none g (ids_among cmp matching n None e g pairs) f (no_ids f h)) (all-found g.faces rising)
         ∙ any_same cmp matching n None e g pairs g.faces are

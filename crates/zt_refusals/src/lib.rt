@@ -4,6 +4,7 @@
 mod asking;
 mod declaring;
 mod dictionary;
+mod making;
 mod opening;
 mod questions;
 mod refusing;
@@ -12,4 +13,6 @@ mod spending;
 mod tables;
 mod undeclaring;
 
+pub use making::cause_of_making;
 pub use refusing::{cause_of, spends_ids};
+pub use regions::{is_north_taken, is_region_of};

@@ -7,9 +7,10 @@ ghost use Rattle.zt_model.specs.Routing.{face_opened, opened};
 ghost use Rattle.zt_protocol.specs.Plain.{NewSession, NewTransport};
 
 use crate::dictionary::are_above;
-use crate::regions::{are_numbers_spent, fits, is_north_taken, is_region_of};
+use crate::regions::{are_numbers_spent, is_north_taken, is_region_of};
 use crate::spending::left_ids;
 use std::alloc::Global;
+use zt_hats::hat_of;
 use zt_interests::{opening_interests, opening_tokens};
 use zt_keys::{Key, Memory};
 use zt_protocol::Refusal;
@@ -89,7 +90,7 @@ pub(crate) fn transport_cause<K: Key>(
     if !is_region_of(g.regions(), region) {
         return Ok(Some(Refusal::NoSuchRegion));
     }
-    if !fits(g.mode(), region, whatami, bound) {
+    if !hat_of(g.mode(), region).fits(region, whatami, bound) {
         return Ok(Some(Refusal::RegionConflict));
     }
     if is_north_taken(g, region) {

@@ -10,10 +10,10 @@ ghost use Rattle.zt_region.specs.Region.{is_north};
 use bitflags::Flags;
 use zt_keys::Key;
 use zt_protocol::{InterestId, InterestMode, InterestOptions, TokenId};
-use zt_region::{NodeId, Region, WhatAmI};
+use zt_region::{NodeId, Region};
 use zt_routers::source_of;
 use zt_state::{FaceState, GatewayState};
-use zt_tokens::is_routed;
+use zt_tokens::{hat_of_face, is_routed};
 
 /// Whether the face leads to the north.
 pub(crate) fn is_north<K: Key>(f: &FaceState<K>) -> bool
@@ -22,11 +22,11 @@ pub(crate) fn is_north<K: Key>(f: &FaceState<K>) -> bool
     f.region() == Region::North
 }
 
-/// Whether a face to the north asks that may not: only a peer asks a peer so.
+/// Whether a face to the north asks, and its hat takes no interests from such a remote.
 pub(crate) fn asks_from_north<K: Key>(g: &GatewayState<K>, f: &FaceState<K>) -> bool
     ensures { result ≡ asks_from_north g.now f.now }
 {
-    is_north(f) && !(f.mode() == WhatAmI::Peer && g.mode() == WhatAmI::Peer)
+    is_north(f) && !hat_of_face(g, f).takes_interests(f.mode())
 }
 
 /// Whether what is there now alone is asked for, and not of tokens alone.

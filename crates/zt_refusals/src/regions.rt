@@ -1,13 +1,14 @@
-// Which regions a gateway has, and which faces fit them.
+// Which regions a gateway has, and which of them has its one face.
 ghost use Rattle.std.specs.Prelude.{◌≡◌};
 ghost use Rattle.std.specs.List.{list_any};
 ghost use Rattle.zt_model.specs.Refusals.{are_numbers_spent, is_north_taken};
-ghost use Rattle.zt_model.specs.Strategy.{fits, is_region_of};
-ghost use Rattle.zt_region.specs.Region.{is_north, region_eq};
+ghost use Rattle.zt_model.specs.Strategy.{is_region_of};
+ghost use Rattle.zt_region.specs.Region.{region_eq};
 
+use zt_hats::hat_of;
 use zt_keys::Key;
-use zt_region::{Bound, Region, WhatAmI};
-use zt_state::GatewayState;
+use zt_region::Region;
+use zt_state::{FaceState, GatewayState};
 
 // Whether the region is one of these.
 fn is_listed(listed: &[Region], region: Region) -> bool
@@ -17,7 +18,7 @@ fn is_listed(listed: &[Region], region: Region) -> bool
 }
 
 /// Whether a gateway that lists these south regions has the region.
-pub(crate) fn is_region_of(listed: &[Region], region: Region) -> bool
+pub fn is_region_of(listed: &[Region], region: Region) -> bool
     ensures { result ≡ is_region_of listed.now region }
 {
     match region {
@@ -26,33 +27,25 @@ pub(crate) fn is_region_of(listed: &[Region], region: Region) -> bool
     }
 }
 
-/// Whether a face fits: its region, the gateway's mode, the remote's mode and the remote's bound.
-pub(crate) fn fits(own: WhatAmI, region: Region, remote: WhatAmI, bound: Bound) -> bool
-    ensures { result ≡ fits own region remote bound }
+// Whether the face is of the region.
+fn is_in<K: Key>(f: &FaceState<K>, region: Region) -> bool
+    ensures { result ≡ region_eq f.now.region region }
 {
-    match region {
-        Region::Local => false,
-        Region::South { mode, .. } => remote == mode && bound == Bound::North,
-        Region::North => match own {
-            WhatAmI::Client => bound == Bound::South,
-            WhatAmI::Peer => bound == Bound::South || remote == WhatAmI::Peer,
-            WhatAmI::Router => remote == WhatAmI::Router,
-        },
-    }
+    f.region() == region
 }
 
-// Whether a face of the gateway leads to the north.
-fn has_north<K: Key>(g: &GatewayState<K>) -> bool
-    ensures { result ≡ list_any (λ f. is_north f.region) g.now.faces }
+// Whether a face of the gateway is of the region.
+fn has_face<K: Key>(g: &GatewayState<K>, region: Region) -> bool
+    ensures { result ≡ list_any (λ f. region_eq f.region region) g.now.faces }
 {
-    !g.north().is_empty()
+    g.faces().iter().any(|f| is_in(f, region))
 }
 
-/// Whether the gateway has its one face to the north already.
-pub(crate) fn is_north_taken<K: Key>(g: &GatewayState<K>, region: Region) -> bool
+/// Whether the region has one face at most, and has it already.
+pub fn is_north_taken<K: Key>(g: &GatewayState<K>, region: Region) -> bool
     ensures { result ≡ is_north_taken region g.now }
 {
-    g.mode() == WhatAmI::Client && region == Region::North && has_north(g)
+    hat_of(g.mode(), region).has_one_face() && has_face(g, region)
 }
 
 /// Whether a new face would get a number above the greatest.

@@ -1,9 +1,10 @@
 // Why the trees of a router region, a face's entities or a moment are refused.
 ghost use Rattle.std.specs.Prelude.{◌≡◌, ◌||◌, [], not, IfOk};
 ghost use Rattle.std.specs.List.{list_any};
+ghost use Rattle.zt_model.specs.Hat.{hat_of};
 ghost use Rattle.zt_model.specs.Journal.{cause_of};
 ghost use Rattle.zt_model.specs.Refusals.{is_unknown_face, names_unlisted};
-ghost use Rattle.zt_model.specs.Strategy.{is_region_of, is_router_hat, strategy_of};
+ghost use Rattle.zt_model.specs.Strategy.{is_region_of};
 ghost use Rattle.zt_model.specs.Trees.{counted_beside, counted_table, is_same_link};
 ghost use Rattle.zt_protocol.specs.Plain.{Expire, SetEntities, SetTrees, trees_of};
 ghost use Rattle.zt_refusals.specs.Unlisted.{names_others};
@@ -13,12 +14,13 @@ use crate::dictionary::is_filled_by_entities;
 use crate::regions::is_region_of;
 use std::alloc::Global;
 use std::collections::HashMap;
+use zt_hats::hat_of;
 use zt_keys::{Key, Memory};
 use zt_link_state::{counted_links, counted_routers, is_listed};
 use zt_protocol::{QueryableInfo, Refusal, TreeTable};
 use zt_region::{NodeId, Region, Zid};
 use zt_state::GatewayState;
-use zt_tokens::{find_face, is_router_region};
+use zt_tokens::find_face;
 
 // Whether links name a router that isn't listed.
 fn links_unlisted(links: &[(u32, NodeId, Zid)], listed: &HashMap<Zid, NodeId>) -> bool
@@ -79,13 +81,13 @@ fn names_unlisted<K: Key>(
     Ok(names_others(g, &counted.links, &table.children, &listed.nodes))
 }
 
-// Whether the gateway has no such region of routers.
+// Whether the gateway has no such region that goes by trees.
 fn lacks_region<K: Key>(g: &GatewayState<K>, region: Region) -> bool
     ensures { result
         ≡ (not (is_region_of g.now.regions region)
-        || not (is_router_hat (strategy_of g.now.mode region))) }
+        || not (hat_of g.now.mode region).goes_by_trees) }
 {
-    !is_region_of(g.regions(), region) || !is_router_region(g.mode(), region)
+    !is_region_of(g.regions(), region) || !hat_of(g.mode(), region).goes_by_trees()
 }
 
 // Whether no open face has the number.

@@ -1,8 +1,9 @@
 use Rattle.std.proofs.Common.{ap, option_map, sym, ◌∙◌}
 use Rattle.zt_protocol.specs.declared.errors.CallError.TheVariants.{Refused}
 use Rattle.zt_model.specs.Refusals.{first_cause}
+use Rattle.zt_refusals.specs.Making.{making_causes}
 use Rattle.zt_gateway.proofs.Making.{causes_alone}
-use Rattle.zt_gateway.specs.Settings.{Settings, making_causes}
+use Rattle.zt_gateway.specs.Settings.{Settings}
 use Rattle.zt_gateway.proofs.builder.GatewayBuilder.build.Goals as goal
 
 pub returns-in-Some-clause-refused : goal.returns-in-Some-clause-refused

@@ -3,6 +3,7 @@ use Rattle.zt_theorem_soundness.specs.Sound.{IsSound}
 use Rattle.zt_model.specs.Rows.{Rows}
 use Rattle.zt_model.specs.Says.{Sends}
 use Rattle.zt_gateway.specs.Running.{Planned, Running, without_closed}
+use Rattle.zt_gateway.proofs.Accepted.{sound_as_promised}
 use Rattle.zt_gateway.proofs.gateway.Gateway.commit.Goals as goal
 
 pub enqueue-requires-clause-fits : goal.enqueue-requires-clause-fits
@@ -13,6 +14,10 @@ enqueue-requires-clause-fits g c =
 
 pub invariant_of-self : goal.invariant_of-self
 invariant_of-self g c = subst (IsSound g.K.Ord.cmp g.K.Key.matching) (sym c.put.ensures) c.prepared.invariant.sound
+
+pub returns-clause-sound : goal.returns-clause-sound
+returns-clause-sound g c =
+    sound_as_promised g.K.Ord.cmp g.K.Key.matching _ (subst (IsSound g.K.Ord.cmp g.K.Key.matching) (sym c.put.ensures) c.prepared.invariant.sound)
 
 pub returns-clause-done : goal.returns-clause-done
 returns-clause-done g c =

@@ -5,7 +5,7 @@ use Rattle.zt_laws.specs.Sound.{rows_after_call}
 use Rattle.zt_model.specs.Rows.{Rows}
 use Rattle.zt_model.specs.Says.{Sends}
 use Rattle.zt_gateway.specs.Running.{Planned, Running, without_closed}
-use Rattle.zt_gateway.proofs.Accepted.{rows_of_accepted}
+use Rattle.zt_gateway.proofs.Accepted.{rows_of_accepted, sound_as_promised}
 use Rattle.zt_gateway.proofs.gateway.Gateway.commit_call.Goals as goal
 
 pub enqueue-requires-clause-fits : goal.enqueue-requires-clause-fits
@@ -26,6 +26,10 @@ commit-requires g c =
 
 pub invariant_of-self : goal.invariant_of-self
 invariant_of-self g c = subst (IsSound g.K.Ord.cmp g.K.Key.matching) (sym c.commit.ensures) c.prepared.invariant.sound
+
+pub returns-clause-sound : goal.returns-clause-sound
+returns-clause-sound g c =
+    sound_as_promised g.K.Ord.cmp g.K.Key.matching _ (subst (IsSound g.K.Ord.cmp g.K.Key.matching) (sym c.commit.ensures) c.prepared.invariant.sound)
 
 pub returns-clause-done : goal.returns-clause-done
 returns-clause-done g c =
