@@ -11,13 +11,13 @@ use Rattle.zt_region.specs.Region.{is_north}
 use Rattle.zt_protocol.specs.declared.messages.Message.{Message}
 use Rattle.zt_protocol.specs.declared.messages.Message.TheVariants as message
 use Rattle.zt_model.specs.Closing.{leaving, without_asks}
+use Rattle.zt_model.specs.Hat.{hat_of_face}
 use Rattle.zt_model.specs.Hearing.{messages_for, rows_heard, told_pair}
 use Rattle.zt_model.specs.Lists.{has_id, in_key_order, same, without_id}
 use Rattle.zt_model.specs.Parts.{unsaid_to}
 use Rattle.zt_model.specs.Routing.{asks_same, end_upstream_to, ended, ending, finalising, final_of_both, finish_to, is_held_south, tokens_from, unheld, untell_to}
 use Rattle.zt_model.specs.Rows.{ById, Face, InterestRow, Rows}
 use Rattle.zt_model.specs.Says.{Alter, Part, Say, Sends, altered_by, answering, declaring, declaring_of, find_face, forget_to, forget_untold, hiding_undeclared, is_routed, is_told, registered, said_by, tell_to, to_each, to_face, told_id, undeclared, undeclaring, undeclaring_of, unregistered, with_face}
-use Rattle.zt_model.specs.Strategy.{is_client_hat, strategy_of}
 use Rattle.zt_model.specs.Telling.{answer_to}
 use Rattle.zt_model.specs.Transcript.{Each}
 use Rattle.zt_model.specs.Trees.{forgetting, hide_to, hiding, is_newly_shown, pass_to, router_regions, show_to, showing, unpass_to, with_routed, without_own_rows, without_routed}
@@ -96,16 +96,16 @@ module _ {K : Type 0} (cmp : K → K → Ordering) (matching : K → K → Bool)
     where
       unkept : is_told cmp matching g source e f ≡ true → not (keeps cmp f e) ≡ true
       unkept told =
-          let outside = and_parts (not (is_routed g f)) (admits g.refused source f.region && shows f.region source && not (keeps cmp f e) && seeks matching f e) told in
-          let sought = and_parts (admits g.refused source f.region && shows f.region source && not (keeps cmp f e)) (seeks matching f e) outside.1 in
-          (and_parts (admits g.refused source f.region && shows f.region source) (not (keeps cmp f e)) sought.0).1
+          let outside = and_parts (not (is_routed g f)) (admits g.refused source f.region && shows g.mode f.region source && not (keeps cmp f e) && seeks matching g.mode f e) told in
+          let sought = and_parts (admits g.refused source f.region && shows g.mode f.region source && not (keeps cmp f e)) (seeks matching g.mode f e) outside.1 in
+          (and_parts (admits g.refused source f.region && shows g.mode f.region source) (not (keeps cmp f e)) sought.0).1
 
   names_forget : (g : Rows K) (source : Region) (e : K) (f : Face K) → Names (forget_to cmp matching g source e f) f
   unfolding forget_to
   names_forget g source e f = by_test (is_routed g f || is_visible cmp g f.region e) (λ here. rw here tt) (λ here. rw here (cases (told_id cmp e f.told) refl))
     where
       cases : (o : Option ℕ) → told_id cmp e f.told ≡ o → (let ms : List (Message K) = elim o [ None ↦ forget_untold cmp matching g source e f | Some id ↦ message.UndeclareToken id None 0 ∷ [] ] in Names ms f)
-      cases None found = of_cond (λ ms. Names ms f) (wants matching f e && not (is_client_hat (strategy_of g.mode f.region)) && shows f.region source) (message.UndeclareToken 0 (Some e) 0 ∷ []) [] (λ _. (refl, tt)) (λ _. tt)
+      cases None found = of_cond (λ ms. Names ms f) (wants matching f e && (hat_of_face g f).undeclares_untold && shows g.mode f.region source) (message.UndeclareToken 0 (Some e) 0 ∷ []) [] (λ _. (refl, tt)) (λ _. tt)
       cases (Some id) found = (told_there cmp e f.told id found, tt)
 
   -- the id under which each expression was told is undeclared
@@ -132,12 +132,12 @@ module _ {K : Type 0} (cmp : K → K → Ordering) (matching : K → K → Bool)
             has_still k id v.told miss (still k k_is)) es (each_fails (same cmp e) es once.0) there.1),
       )
 
-  names_untell : (total : IsTotalOrder cmp) (f : Face K) → IsToldInOrder cmp f.told f.next → Names (untell_to cmp matching f) f
+  names_untell : (total : IsTotalOrder cmp) (g : Rows K) (f : Face K) → IsToldInOrder cmp f.told f.next → Names (untell_to cmp matching g f) f
   unfolding untell_to
-  names_untell total f ordered =
+  names_untell total g f ordered =
       let es = in_key_order cmp (map (λ row. row.1) f.told) in
       let gone = filter (λ e. not (wants matching f e)) es in
-      of_cond (λ ms. Names ms f) (is_north f.region) [] (untells f.told gone) (λ _. tt)
+      of_cond (λ ms. Names ms f) ((hat_of_face g f).is_told_unasked f.region) [] (untells f.told gone) (λ _. tt)
       (λ _. names_untells total f.told gone (standing_of f) ordered.rises (once_in_order cmp gone (in_order_filter cmp (λ e. not (wants matching f e)) es (in_key_order_is cmp total (map (λ row. row.1) f.told))))
       (each_always (StillTold f.told f.told) (λ e id found. told_there cmp e f.told id found) gone))
 
@@ -325,7 +325,7 @@ module _ {K : Type 0} (cmp : K → K → Ordering) (matching : K → K → Bool)
   finalising_names total n id interest = (
     at_face n (unheld id) (λ k. refl),
     (
-      (λ g lists ordered. all_at n (untell_to cmp matching) g lists (each_weaker (λ f. IsToldInOrder cmp f.told f.next) (λ f. (n == f.number) ≡ true → Names (untell_to cmp matching f) f) (λ f told _. names_untell total f told) g.faces (each_of_map (λ t. IsToldInOrder cmp t.rows t.next) told_of g.faces ordered))),
+      (λ g lists ordered. all_at n (untell_to cmp matching g) g lists (each_weaker (λ f. IsToldInOrder cmp f.told f.next) (λ f. (n == f.number) ≡ true → Names (untell_to cmp matching g f) f) (λ f told _. names_untell total g f told) g.faces (each_of_map (λ t. IsToldInOrder cmp t.rows t.next) told_of g.faces ordered))),
       (
         says_nothing (to_face n (final_of_both id interest)) (λ g. each_ruled_one (NamesNothing cmp) n (final_of_both id interest) g (final_of_both_says cmp matching (NamesNothing cmp) (λ i. tt) id interest)),
         (says_each (λ g. end_upstream_to cmp matching g interest) (λ g f rows told. names_end_upstream g interest f rows), tt),

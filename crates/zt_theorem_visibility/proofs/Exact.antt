@@ -38,11 +38,11 @@ module _ {K : Type 0} (cmp : K → K → Ordering) (matching : K → K → Bool)
 
   pub visible_shown : (g : Rows K) (own : Region) (e : K) → is_visible cmp (without_own g) own e ≡ is_visible cmp g own e
   unfolding is_visible
-  visible_shown g own e = ap (list_any (λ row. same cmp e row.1 && shows own row.0)) (live_shown g)
+  visible_shown g own e = ap (list_any (λ row. same cmp e row.1 && shows g.mode own row.0)) (live_shown g)
 
   pub admitted_shown : (g : Rows K) (own : Region) (e : K) → is_admitted cmp (without_own g) own e ≡ is_admitted cmp g own e
   unfolding is_admitted
-  admitted_shown g own e = ap (list_any (λ row. same cmp e row.1 && (shows own row.0 && admits g.refused row.0 own))) (live_shown g)
+  admitted_shown g own e = ap (list_any (λ row. same cmp e row.1 && (shows g.mode own row.0 && admits g.refused row.0 own))) (live_shown g)
 
   keeps_shown : (g : Rows K) (f : Face K) → KeepsRight cmp matching g f → KeepsRight cmp matching (without_own g) f
   keeps_shown g f right = record {
@@ -73,7 +73,7 @@ module _ {K : Type 0} (cmp : K → K → Ordering) (matching : K → K → Bool)
         each_weaker (λ f. is_routed node.rows f ≡ false → KeepsRight cmp matching node.rows f)
         (λ f. is_routed node.rows f ≡ false → node.rows.refused ≡ [] → (e : K) → is_owed matching f e ≡ true → keeps cmp f e ≡ is_seen cmp node.rows f.region e)
         (λ f one plain none_ e owed.
-        keeps_exactly cmp matching total equal_is_same node.rows f e (one plain) none_ (sym (owed_is matching f e) ∙ owed) ∙ sym (seen_is cmp node.rows f.region e))
+        keeps_exactly cmp matching total equal_is_same node.rows f e (one plain) none_ (sym (owed_is matching node.rows.mode f e) ∙ owed) ∙ sym (seen_is cmp node.rows f.region e))
         node.rows.faces right)
         1 t.after.gateways all
 

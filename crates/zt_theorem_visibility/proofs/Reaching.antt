@@ -7,8 +7,8 @@ use Rattle.zt_region.specs.declared.region.Region.{Region}
 use Rattle.zt_region.specs.declared.region.WhatAmI.{WhatAmI}
 use Rattle.zt_region.specs.declared.region.Zid.{Zid}
 use Rattle.zt_region.specs.Admission.{admits}
-use Rattle.zt_region.specs.Region.{is_north}
 use Rattle.zt_protocol.specs.Plain.{DeclareToken}
+use Rattle.zt_model.specs.Hat.{hat_of}
 use Rattle.zt_model.specs.Hearing.{heard_all, messages_for, rows_heard}
 use Rattle.zt_model.specs.Lists.{has_id, same}
 use Rattle.zt_model.specs.Promises.{TellsWhoWants}
@@ -16,7 +16,6 @@ use Rattle.zt_model.specs.Refusals.{call_causes, first_cause, is_unknown_router}
 use Rattle.zt_model.specs.Rows.{Face, Rows}
 use Rattle.zt_model.specs.Says.{Part, Say, Sends, answering, declaring, declaring_of, find_face, is_routed, is_told, parts_of, registered, registers, tell_to, to_each, with_face}
 use Rattle.zt_model.specs.Seen.{is_interested, sees}
-use Rattle.zt_model.specs.Strategy.{is_router_hat, strategy_of}
 use Rattle.zt_model.specs.Telling.{answer_to}
 use Rattle.zt_model.specs.Transcript.{Each}
 use Rattle.zt_model.specs.Trees.{is_newly_shown, pass_to, router_regions, show_to, showing, source_of, with_own_rows, with_routed}
@@ -45,7 +44,7 @@ use Rattle.zt_theorem_soundness.proofs.Running.{ran-append}
 module _ {K : Type 0} (cmp : K → K → Ordering) (matching : K → K → Bool) where
   -- the face keeps the expression, if it wants it and may be told
   abbrev Reached : Region → K → WhatAmI → List (Region × Region) → Face K → Type 0
-  Reached source e mode refused f = is_router_hat (strategy_of mode f.region) ≡ false → wants matching f e ≡ true → admits refused source f.region ≡ true → shows f.region source ≡ true → keeps cmp f e ≡ true
+  Reached source e mode refused f = (hat_of mode f.region).goes_by_trees ≡ false → wants matching f e ≡ true → admits refused source f.region ≡ true → sees f.region source ≡ true → keeps cmp f e ≡ true
 
   -- each face of a gateway does
   abbrev Reaches : Region → K → Rows K → Type 0
@@ -56,7 +55,7 @@ module _ {K : Type 0} (cmp : K → K → Ordering) (matching : K → K → Bool)
   as_promised source e g all =
       each_weaker (Reached source e g.mode g.refused)
       (λ f. is_routed g f ≡ false → is_interested matching f e ≡ true → admits g.refused source f.region ≡ true → sees f.region source ≡ true → keeps cmp f e ≡ true)
-      (λ f one plain interested admitted seen. one plain (sym (interested_is matching f e) ∙ interested) admitted (sym (sees_is f.region source) ∙ seen)) g.faces all
+      (λ f one plain interested admitted seen. one plain (sym (interested_is matching f e) ∙ interested) admitted seen) g.faces all
 
   -- a change that leaves faces alone
   reached_rows : (source : Region) (e : K) (g h : Rows K) → h.faces ≡ g.faces → h.mode ≡ g.mode → h.refused ≡ g.refused → Reaches source e g → Reaches source e h
@@ -73,7 +72,7 @@ module _ {K : Type 0} (cmp : K → K → Ordering) (matching : K → K → Bool)
       each_map (Reached source e g.mode g.refused) hears g.faces
       (each_both (λ f. is_routed g f ≡ false → messages_for f.number ss ≡ []) (Reached source e g.mode g.refused) (λ f. Reached source e g.mode g.refused (hears f))
       (λ f none reached plain.
-      let plain_ : is_routed g f ≡ false = ap (λ (r : Region). is_router_hat (strategy_of g.mode r)) (sym (heard_all-region cmp g.moment (messages_for f.number ss) f)) ∙ plain in
+      let plain_ : is_routed g f ≡ false = ap (λ (r : Region). (hat_of g.mode r).goes_by_trees) (sym (heard_all-region cmp g.moment (messages_for f.number ss) f)) ∙ plain in
       let same_ : hears f ≡ f = ap (λ ms. heard_all cmp g.moment ms f) (none plain_) in
       subst (Reached source e g.mode g.refused) (sym same_) reached plain)
       g.faces none_ all)
@@ -93,16 +92,16 @@ module _ {K : Type 0} (cmp : K → K → Ordering) (matching : K → K → Bool)
       (λ tells_not plain wants_ admits_ shows_.
       by_test (keeps cmp f e) (λ kept. kept)
       (λ unkept.
-      let sought : seeks matching f e ≡ true = or_right (is_north f.region) (wants matching f e) wants_ in
-      never (tells f plain admits_ shows_ unkept sought) tells_not))))
+      let sought : seeks matching g.mode f e ≡ true = or_right ((hat_of g.mode f.region).is_told_unasked f.region) (wants matching f e) wants_ in
+      never (tells f plain admits_ (sym (sees_is g.mode f.region source) ∙ shows_) unkept sought) tells_not))))
       g.faces (speaks_each cmp matching nobody (tell_to cmp matching g source e) g ordered) ordered.told)
     where
-      tells : (f : Face K) → is_routed g f ≡ false → admits g.refused source f.region ≡ true → shows f.region source ≡ true → keeps cmp f e ≡ false → seeks matching f e ≡ true → is_told cmp matching g source e f ≡ true
+      tells : (f : Face K) → is_routed g f ≡ false → admits g.refused source f.region ≡ true → shows g.mode f.region source ≡ true → keeps cmp f e ≡ false → seeks matching g.mode f e ≡ true → is_told cmp matching g source e f ≡ true
       tells f plain admits_ shows_ unkept sought =
-          ap (λ a. not a && (admits g.refused source f.region && shows f.region source && not (keeps cmp f e) && seeks matching f e)) plain
-          ∙ ap (λ a. a && shows f.region source && not (keeps cmp f e) && seeks matching f e) admits_
-          ∙ ap (λ a. true && a && not (keeps cmp f e) && seeks matching f e) shows_
-          ∙ ap (λ a. true && true && not a && seeks matching f e) unkept
+          ap (λ a. not a && (admits g.refused source f.region && shows g.mode f.region source && not (keeps cmp f e) && seeks matching g.mode f e)) plain
+          ∙ ap (λ a. a && shows g.mode f.region source && not (keeps cmp f e) && seeks matching g.mode f e) admits_
+          ∙ ap (λ a. true && a && not (keeps cmp f e) && seeks matching g.mode f e) shows_
+          ∙ ap (λ a. true && true && not a && seeks matching g.mode f e) unkept
           ∙ ap (λ a. true && true && not false && a) sought
 
   -- outside router regions nothing is shown

@@ -18,6 +18,7 @@ use Rattle.zt_protocol.specs.declared.messages.QueryableInfo.{QueryableInfo}
 use Rattle.zt_model.specs.Closing.{closing, expiring, is_expired, leaving, without_asks, without_face}
 use Rattle.zt_model.specs.Entities.{entities_for}
 use Rattle.zt_model.specs.Fabric.{CallAt, Fabric, after_closing, after_opening, call_at, closing_call, opened_at, opening_at, printed_for, said_at, said_closing, said_opening, sorted_by_face, with_place}
+use Rattle.zt_model.specs.Hat.{hat_of_face}
 use Rattle.zt_model.specs.Hearing.{rows_heard}
 use Rattle.zt_model.specs.Linking.{LinkEnd}
 use Rattle.zt_model.specs.Lists.{at_id, has_id, in_key_order, is_some_and}
@@ -25,7 +26,6 @@ use Rattle.zt_model.specs.Parts.{unsaid_to}
 use Rattle.zt_model.specs.Routing.{asks_same, end_upstream_to, ending, final_of_both, finalising, finish_to, finishing, interests_from, is_finished_by, is_held_south, is_target, opening, opening_final, opening_interests, opening_tokens, route_to, tokens_from, untell_to}
 use Rattle.zt_model.specs.Rows.{Ask, ById, Face, InterestRow, Rows}
 use Rattle.zt_model.specs.Says.{Alter, Part, Say, answered_expressions, answering, answers_from, answers_of, asking, declaring, declaring_of, final_of, finalising_held, find_face, forget_to, forget_untold, hiding_undeclared, is_routed, is_told, parts_of, registers, row_of, said, said_by, tell_to, to_each, told_id, undeclared, undeclaring, undeclaring_of, unregistered, with_face}
-use Rattle.zt_model.specs.Strategy.{is_client_hat, strategy_of}
 use Rattle.zt_model.specs.Telling.{answer_to, is_answered_by}
 use Rattle.zt_model.specs.Transcript.{Each}
 use Rattle.zt_model.specs.Trees.{changing_table, counted_table, forgetting, greet_to, hide_to, hiding, is_child, is_hidden, is_newly_shown, left_out, node_of, pass_to, routed_expressions, routers_in_order, show_to, showing, source_of, table_of, unpass_to}
@@ -140,13 +140,13 @@ module _ {K : Type 0} (cmp : K → K → Ordering) (matching : K → K → Bool)
       by_test (is_routed g f || is_visible cmp g f.region e) (λ here. rw here tt) (λ here. rw here (cases (told_id cmp e f.told)))
     where
       cases : (o : Option ℕ) → (let ms : List (Message K) = elim o [ None ↦ forget_untold cmp matching g source e f | Some id ↦ message.UndeclareToken id None 0 ∷ [] ] in Each P ms)
-      cases None = of_cond (Each P) (wants matching f e && not (is_client_hat (strategy_of g.mode f.region)) && shows f.region source) (message.UndeclareToken 0 (Some e) 0 ∷ []) [] (λ _. (forgets e 0, tt)) (λ _. tt)
+      cases None = of_cond (Each P) (wants matching f e && (hat_of_face g f).undeclares_untold && shows g.mode f.region source) (message.UndeclareToken 0 (Some e) 0 ∷ []) [] (λ _. (forgets e 0, tt)) (λ _. tt)
       cases (Some id) = (undeclares id, tt)
 
-  pub untell_says : Undeclares → (f : Face K) → Each P (untell_to cmp matching f)
+  pub untell_says : Undeclares → (g : Rows K) (f : Face K) → Each P (untell_to cmp matching g f)
   unfolding untell_to
-  untell_says undeclares f =
-      of_cond (Each P) (is_north f.region) []
+  untell_says undeclares g f =
+      of_cond (Each P) ((hat_of_face g f).is_told_unasked f.region) []
       (flat_map (λ e. elim (told_id cmp e f.told) [ None ↦ [] | Some id ↦ message.UndeclareToken id None 0 ∷ [] ]) (filter (λ e. not (wants matching f e)) (in_key_order cmp (map (λ row. row.1) f.told))))
       (λ _. tt)
       (λ _. each_flat_map P (λ e. elim (told_id cmp e f.told) [ None ↦ [] | Some id ↦ message.UndeclareToken id None 0 ∷ [] ]) (filter (λ e. not (wants matching f e)) (in_key_order cmp (map (λ row. row.1) f.told))) (λ e. one (told_id cmp e f.told)))
@@ -273,7 +273,7 @@ module _ {K : Type 0} (cmp : K → K → Ordering) (matching : K → K → Bool)
   finalising_says undeclares finals ends n id interest = (
     tt,
     (
-      (λ g. each_ruled_one P n (untell_to cmp matching) g (untell_says undeclares)),
+      (λ g. each_ruled_one P n (untell_to cmp matching g) g (untell_says undeclares g)),
       ((λ g. each_ruled_one P n (final_of_both id interest) g (final_of_both_says finals id interest)), ((λ g. each_ruled P (end_upstream_to cmp matching g interest) g.faces (end_upstream_says ends g interest)), tt)),
     ),
   )
