@@ -1,5 +1,5 @@
 -- A face that is found by its number, beside what is looked up of it.
-use Rattle.std.proofs.Common.{◌≡◌, ◌<◌, ℕ, ◌==◌, true, false, not, if◌then◌else◌, List, [], ◌∷◌, Option, Some, ap, arith, filter, map, refl, subst, sym, ◌∙◌}
+use Rattle.std.proofs.Common.{◌≡◌, ◌<◌, ℕ, Bool, ◌==◌, true, false, not, if◌then◌else◌, List, [], ◌∷◌, Option, Some, ap, arith, filter, map, refl, subst, sym, ◌∙◌}
 use Rattle.std.proofs.lemmas.Bool.{eqb-true}
 use Rattle.std.proofs.lemmas.Bool.Decides.{nat_tests}
 use Rattle.std.proofs.lemmas.Option.{same_Some}
@@ -15,7 +15,10 @@ use Rattle.zt_model.specs.Rows.{Face}
 use Rattle.zt_protocol.specs.declared.messages.Message.{Message}
 use Rattle.zt_face.specs.Told.{heard_known}
 use Rattle.zt_model.specs.Hearing.{heard}
-use Rattle.zt_token_index.specs.Seekers.{AreSeekers, IsKnown, IsOnlyOne, Leaves, Reseeks, Seeking}
+use Rattle.zt_model.specs.Wants.{seeks}
+use Rattle.zt_model.proofs.Hats.{seeks_is}
+use Rattle.zt_region.specs.declared.region.WhatAmI.{WhatAmI}
+use Rattle.zt_token_index.specs.Seekers.{AreSeekers, IsKnown, IsOnlyOne, Leaves, Reseeks, Seeking, may_seek}
 use Rattle.zt_faces.specs.Rising.{IsRising}
 use Rattle.zt_faces.proofs.Rising.{all-weaker, none-above}
 
@@ -33,6 +36,11 @@ numbers-sorted number (x ∷ xs) rising = (each xs rising.0, numbers-sorted numb
     each (y ∷ ys) h = (below (number x) (number y) h.0, each ys h.1)
 
 module _ {K : Type 0} where
+  -- faces to the north, and those that want the expression, are those that seek it
+  pub sought-same : (matching : K → K → Bool) (mode : WhatAmI) (e : K) (fs : List (Face K))
+      → map (λ f. f.number) (filter (λ f. may_seek matching f e) fs) ≡ map (λ f. f.number) (filter (λ f. seeks matching mode f e) fs)
+  sought-same matching mode e fs = λ i. map (λ (f : Face K). f.number) (filter (λ f. sym (seeks_is matching mode f e) i) fs)
+
   pub number-found : (n : ℕ) (f : Face K) (fs : List (Face K)) → first_where (λ x. n == x.number) fs ≡ Some f → n ≡ f.number
   number-found n f [] is = cc
   number-found n f (x ∷ xs) is =
