@@ -112,12 +112,12 @@ module _ {K : Type 0} (cmp : K → K → Ordering) (matching : K → K → Bool)
         subst (λ xs. 1 ≤ length xs) (filter_true es) (le_trans (subst (λ xs. 1 ≤ length xs) (sym (filter_true (filter (same cmp e) es))) some) less)
 
     -- a face that is told an expression from a region, once that is visible where the region is shown
-    pub told_could : (source : Region) (e : K) (g after : Rows K) (f : Face K) → (shows f.region source ≡ true → is_visible cmp after f.region e ≡ true) → is_told cmp matching g source e f ≡ true → 1 ≤ could_from after f
+    pub told_could : (source : Region) (e : K) (g after : Rows K) (f : Face K) → (shows g.mode f.region source ≡ true → is_visible cmp after f.region e ≡ true) → is_told cmp matching g source e f ≡ true → 1 ≤ could_from after f
     told_could source e g after f seen told =
-        let whole = and_parts (not (is_routed g f)) (admits g.refused source f.region && shows f.region source && not (keeps cmp f e) && seeks matching f e) told in
-        let sought = and_parts (admits g.refused source f.region && shows f.region source && not (keeps cmp f e)) (seeks matching f e) whole.1 in
-        let new_ = and_parts (admits g.refused source f.region && shows f.region source) (not (keeps cmp f e)) sought.0 in
-        let shown = (and_parts (admits g.refused source f.region) (shows f.region source) new_.0).1 in
+        let whole = and_parts (not (is_routed g f)) (admits g.refused source f.region && shows g.mode f.region source && not (keeps cmp f e) && seeks matching g.mode f e) told in
+        let sought = and_parts (admits g.refused source f.region && shows g.mode f.region source && not (keeps cmp f e)) (seeks matching g.mode f e) whole.1 in
+        let new_ = and_parts (admits g.refused source f.region && shows g.mode f.region source) (not (keeps cmp f e)) sought.0 in
+        let shown = (and_parts (admits g.refused source f.region) (shows g.mode f.region source) new_.0).1 in
         let one = one_could after f e (seen shown) (not-true (keeps cmp f e) new_.1) in
         omega arith
 

@@ -11,12 +11,12 @@ use Rattle.zt_protocol.specs.Interest.{is_future}
 use Rattle.zt_protocol.specs.declared.interests.InterestMode.{InterestMode}
 use Rattle.zt_protocol.specs.declared.messages.Message.{Message}
 use Rattle.zt_protocol.specs.declared.messages.Message.TheVariants as message
+use Rattle.zt_model.specs.Hat.{hat_of}
 use Rattle.zt_model.specs.Hearing.{heard, heard_all, messages_for, rows_heard, told_pair}
 use Rattle.zt_model.specs.Lists.{at_id, has_id, same}
 use Rattle.zt_model.specs.Refusals.{is_answered_anew}
 use Rattle.zt_model.specs.Rows.{Ask, ById, Face, Pending, Rows}
 use Rattle.zt_model.specs.Says.{Alter, Part, Say, Sends, answering, answers_from, declaring, find_face, is_routed, is_told, registered, registers, tell_to, to_each, told_id, with_face}
-use Rattle.zt_model.specs.Strategy.{is_router_hat, strategy_of}
 use Rattle.zt_model.specs.Telling.{answer_to, is_answered_by, was_sent_as}
 use Rattle.zt_model.specs.Transcript.{Each}
 use Rattle.zt_model.specs.Trees.{is_newly_shown, router_regions, show_to, showing}
@@ -238,16 +238,16 @@ module _ {K : Type 0} (cmp : K → K → Ordering) (matching : K → K → Bool)
     answered_joined n i source e g ss f next_ kept_ =
         let h = hears cmp matching ss g f in
         let later = list_any (is_answered_later cmp matching n i e) f.asks in
-        let x = λ (r : Region). admits g.refused source r && shows r source in
+        let x = λ (r : Region). admits g.refused source r && shows g.mode r source in
         let region_ = heard_all-region cmp g.moment (messages_for f.number ss) f in
-        let told_ : is_told cmp matching g source e h ≡ (not (is_routed g f) && ((x f.region && not (keeps cmp f e || later)) && seeks matching f e)) =
-        ap (λ (r : Region). not (is_router_hat (strategy_of g.mode r)) && ((x r && not (keeps cmp h e)) && seeks matching h e)) region_
-        ∙ ap (λ b. not (is_routed g f) && ((x f.region && not b) && seeks matching h e)) kept_
-        ∙ ap (λ b. not (is_routed g f) && ((x f.region && not (keeps cmp f e || later)) && b)) (seeks_alike matching h f e region_ (heard_all-held cmp g.moment (messages_for f.number ss) f)) in
+        let told_ : is_told cmp matching g source e h ≡ (not (is_routed g f) && ((x f.region && not (keeps cmp f e || later)) && seeks matching g.mode f e)) =
+        ap (λ (r : Region). not (hat_of g.mode r).goes_by_trees && ((x r && not (keeps cmp h e)) && seeks matching g.mode h e)) region_
+        ∙ ap (λ b. not (is_routed g f) && ((x f.region && not b) && seeks matching g.mode h e)) kept_
+        ∙ ap (λ b. not (is_routed g f) && ((x f.region && not (keeps cmp f e || later)) && b)) (seeks_alike matching g.mode h f e region_ (heard_all-held cmp g.moment (messages_for f.number ss) f)) in
         ap (λ k. k + told_count g source e h) next_
         ∙ ap (λ b. (f.next + (if later && not (keeps cmp f e) then 1 else 0)) + (if b then 1 else 0)) told_
-        ∙ add_assoc f.next (if later && not (keeps cmp f e) then 1 else 0) (if not (is_routed g f) && ((x f.region && not (keeps cmp f e || later)) && seeks matching f e) then 1 else 0)
-        ∙ ap (λ k. f.next + k) (counts (is_routed g f) (x f.region) (keeps cmp f e) later (seeks matching f e))
+        ∙ add_assoc f.next (if later && not (keeps cmp f e) then 1 else 0) (if not (is_routed g f) && ((x f.region && not (keeps cmp f e || later)) && seeks matching g.mode f e) then 1 else 0)
+        ∙ ap (λ k. f.next + k) (counts (is_routed g f) (x f.region) (keeps cmp f e) later (seeks matching g.mode f e))
 
     -- the count at a face whose declaration is known to register, or not to
     abbrev pub token_count : ℕ → Option ℕ → K → Rows K → Face K → Face K → ℕ

@@ -5,12 +5,10 @@ use Rattle.std.specs.Cmp.{IsTotalOrder}
 use Rattle.std.specs.List.{flat_map}
 use Rattle.std.specs.declared.cmp.Ordering.{Ordering}
 use Rattle.zt_region.specs.declared.region.Bound.{Bound}
-use Rattle.zt_region.specs.declared.region.Bound.TheVariants.{South as SouthBound}
 use Rattle.zt_region.specs.declared.region.Region.{Region}
 use Rattle.zt_region.specs.declared.region.WhatAmI.{WhatAmI}
-use Rattle.zt_region.specs.declared.region.WhatAmI.TheVariants.{Router, Peer, Client}
 use Rattle.zt_region.specs.declared.region.Zid.{Zid}
-use Rattle.zt_region.specs.Region.{bound_eq, is_north, whatami_eq}
+use Rattle.zt_region.specs.Region.{is_north}
 use Rattle.zt_protocol.specs.Interest.{is_current, is_future, has_tokens}
 use Rattle.zt_protocol.specs.Plain.{PlainCall, NewSession, NewTransport, DeclareToken, UndeclareToken, Interest, InterestFinal, DeclareFinal, CloseFace, Expire, SetTrees, SetEntities}
 use Rattle.zt_protocol.specs.declared.interests.InterestMode.{InterestMode}
@@ -19,12 +17,14 @@ use Rattle.zt_protocol.specs.declared.interests.InterestOptions.{InterestOptions
 use Rattle.zt_protocol.specs.declared.messages.Message.{Message}
 use Rattle.zt_protocol.specs.declared.messages.Message.TheVariants as message
 use Rattle.zt_model.specs.Entities.{entities_for, numbered_by, with_numbers}
+use Rattle.zt_model.specs.Hat.{hat_of}
 use Rattle.zt_model.specs.Hearing.{heard, heard_all, messages_for, rows_heard}
 use Rattle.zt_model.specs.Lists.{in_key_order}
 use Rattle.zt_model.specs.Refusals.{answers_nothing, call_causes, can_draw, faces_with, first_cause, ids_for_interest, ids_for_opening, is_unknown_ask, is_unknown_router, need}
-use Rattle.zt_model.specs.Routing.{asked_as, face_opened, held_south, interest_order, is_greeted, final_of, is_target, is_target_of, interests_from, opened, opening, opening_final, opening_interests, opening_tokens, route_to, sent_as, tokens_from}
+use Rattle.zt_model.specs.Routing.{asked_as, face_opened, held_south, interest_order, is_greeted, final_of, is_target, interests_from, leads_up, opened, opening, opening_final, opening_interests, opening_tokens, route_to, sent_as, tokens_from}
 use Rattle.zt_model.specs.Rows.{ById, Face, InterestRow, Rows}
 use Rattle.zt_model.specs.Says.{Alter, Say, answered_expressions, answering, answers_of, asking, declaring, declaring_of, find_face, is_routed, is_told, parts_of, registers, row_of, tell_to, to_each, to_face, with_face}
+use Rattle.zt_model.specs.Seen.{sees}
 use Rattle.zt_model.specs.Transcript.{Each}
 use Rattle.zt_model.specs.Trees.{pass_to, showing, source_of, with_routed}
 use Rattle.zt_model.specs.Visible.{keeps, live_rows, shows, visible_expressions}
@@ -37,8 +37,9 @@ use Rattle.zt_laws.proofs.CallsOrder.{quiet_numbers, quiet_with_routed, transpor
 use Rattle.zt_laws.proofs.Faces.{is_told_alike}
 use Rattle.zt_laws.proofs.Hearing.{each_ruled, each_ruled_one, find_only, heard_all-held, heard_all-number, heard_all-region}
 use Rattle.zt_laws.proofs.Interests.{heard_answers, heard_final}
-use Rattle.zt_laws.proofs.Lists.{by_test, each_both, each_filter, each_map, each_weaker, map-map, never, of_cond}
+use Rattle.zt_laws.proofs.Lists.{by_test, each_always, each_both, each_filter, each_map, each_weaker, filter_alike, map-map, never, of_cond}
 use Rattle.zt_laws.proofs.PartsOrder.{each_message_for, each_of_map, heard_in_order, in_order_by, lists_heard, nothing_told, orderly_each, tolds, tolds_in_order}
+use Rattle.zt_laws.proofs.Seen.{sees_is}
 use Rattle.zt_laws.proofs.Silent.{silent_opening_final, silent_route}
 use Rattle.zt_laws.proofs.ToldOrder.{DrawsNothing, TellsNothing, in_order_nothings, interests_tell_nothing}
 use Rattle.zt_laws.specs.Kept.{told_of}
@@ -80,7 +81,17 @@ module _ {K : Type 0} (cmp : K → K → Ordering) where
 
     pub visible_as : (g h : Rows K) (own : Region) → live_rows h ≡ live_rows g → visible_expressions cmp h own ≡ visible_expressions cmp g own
     unfolding visible_expressions
-    visible_as g h own live_ = ap (λ (rows : List (Region × K)). in_key_order cmp (map (λ row. row.1) (filter (λ row. shows own row.0) rows))) live_
+    visible_as g h own live_ =
+        seen h
+        ∙ ap (λ (rows : List (Region × K)). in_key_order cmp (map (λ row. row.1) (filter (λ row. sees own row.0) rows))) live_
+        ∙ sym (seen g)
+      where
+        -- who sees a region goes by the region alone
+        seen : (k : Rows K) → in_key_order cmp (map (λ row. row.1) (filter (λ row. shows k.mode own row.0) (live_rows k))) ≡ in_key_order cmp (map (λ row. row.1) (filter (λ row. sees own row.0) (live_rows k)))
+        seen k =
+            ap (λ (rows : List (Region × K)). in_key_order cmp (map (λ row. row.1) rows))
+            (filter_alike (λ row. shows k.mode own row.0) (λ row. sees own row.0) (live_rows k)
+            (each_always (λ row. shows k.mode own row.0 ≡ sees own row.0) (λ row. sym (sees_is k.mode own row.0)) (live_rows k)))
 
     answered_as : (g h : Rows K) (interest : InterestRow K) (f k : Face K) → live_rows h ≡ live_rows g → k.region ≡ f.region → answered_expressions cmp matching h interest k ≡ answered_expressions cmp matching g interest f
     unfolding answered_expressions
@@ -91,12 +102,7 @@ module _ {K : Type 0} (cmp : K → K → Ordering) where
     -- the dictionary says nothing of targets
     target_numbered : (es : List K) (g : Rows K) (asker : Region) (mode : InterestMode) (f : Face K) → is_target (with_numbers cmp es g) asker mode f ≡ is_target g asker mode f
     unfolding is_target
-    target_numbered es g asker mode f = ap (λ b. not (is_north asker) && (is_north f.region && b)) (by_mode g.mode)
-      where
-        by_mode : (w : WhatAmI) → is_target_of w (with_numbers cmp es g) mode f ≡ is_target_of w g mode f
-        by_mode Client = refl
-        by_mode Peer = refl
-        by_mode Router = refl
+    target_numbered es g asker mode f = refl
 
     route_next : (g : Rows K) (asker : Region) (interest : InterestRow K) (f : Face K) → (heard_all cmp g.moment (route_to g asker interest f) f).next ≡ f.next + (if is_target g asker interest.mode f then 1 else 0)
     unfolding route_to heard_all
@@ -268,10 +274,10 @@ module _ {K : Type 0} (cmp : K → K → Ordering) where
           (λ here.
           let there : (n == (h1 k).number) ≡ true = ap (λ j. n == j) number_ ∙ here in
           let back : (k.number == n) ≡ true = eq-eqb k.number n (sym (eqb-true n k.number here)) in
-          let first_ : c1 k ≡ length (opening_interests cmp matching g k) = ap (λ b. if b then length (opening_interests cmp matching one k) else 0) here ∙ ap (λ is_. length (if is_greeted cmp matching g k && bound_eq k.bound SouthBound then is_ else [])) (held_opened f g refl) in
+          let first_ : c1 k ≡ length (opening_interests cmp matching g k) = ap (λ b. if b then length (opening_interests cmp matching one k) else 0) here ∙ ap (λ is_. length (if leads_up g.mode k then is_ else [])) (held_opened f g refl) in
           let second_ : c2 (h1 k) ≡ length (opening_tokens cmp matching g k) =
           ap (λ b. if b then length (opening_tokens cmp matching two (h1 k)) else 0) there
-          ∙ ap (λ (r : Region). length (if is_north r && not (whatami_eq g.mode Router) then visible_expressions cmp two r else [])) region_
+          ∙ ap (λ (r : Region). length (if not (hat_of g.mode r).goes_by_trees && (hat_of g.mode r).is_told_unasked r then visible_expressions cmp two r else [])) region_
           ∙ ap (λ es. length (if is_greeted cmp matching g k then es else [])) (visible_as g two k.region live_two) in
           let sum : ids_for_opening cmp matching g k ≡ length (opening_interests cmp matching g k) + length (opening_tokens cmp matching g k) = ap (λ b. if b then length (opening_interests cmp matching g k) + length (opening_tokens cmp matching g k) else 0) back in
           omega arith)

@@ -6,12 +6,11 @@ use Rattle.std.specs.List.{list_any}
 use Rattle.std.specs.declared.cmp.Ordering.{Ordering}
 use Rattle.std.specs.declared.cmp.Ordering.TheVariants.{Equal}
 use Rattle.zt_region.specs.declared.region.Bound.{Bound}
-use Rattle.zt_region.specs.declared.region.Bound.TheVariants.{South as SouthBound}
 use Rattle.zt_region.specs.declared.region.Region.{Region}
 use Rattle.zt_region.specs.declared.region.Region.TheVariants.{North, Local, South}
 use Rattle.zt_region.specs.declared.region.WhatAmI.{WhatAmI}
 use Rattle.zt_region.specs.declared.region.Zid.{Zid}
-use Rattle.zt_region.specs.Region.{bound_eq, is_north, region_eq, region_eq-same}
+use Rattle.zt_region.specs.Region.{is_north, region_eq-same}
 use Rattle.zt_protocol.specs.Interest.{is_future}
 use Rattle.zt_protocol.specs.Plain.{PlainCall, NewSession, NewTransport, DeclareToken, UndeclareToken, Interest, InterestFinal, DeclareFinal, CloseFace, Expire, SetTrees, SetEntities}
 use Rattle.zt_protocol.specs.declared.errors.Refusal.{Refusal}
@@ -21,18 +20,21 @@ use Rattle.zt_protocol.specs.declared.interests.InterestOptions.{InterestOptions
 use Rattle.zt_model.specs.Entities.{numbered_by, with_numbers}
 use Rattle.zt_model.specs.Lists.{has_id, same}
 use Rattle.zt_model.specs.Refusals.{Causes, adds_row, answers_nothing, asks_upstream, call_causes, can_draw, could, could_spend_ids, faces_with, first_cause, ids_for_interest, ids_for_opening, is_answered_anew, is_token_id_in_use, is_unknown_ask, is_unknown_router, left_ids, need, spends_ids}
-use Rattle.zt_model.specs.Routing.{asked_as, face_opened, held_south, is_greeted, is_target, opened, opening_interests, opening_tokens, sent_as}
+use Rattle.zt_model.specs.Routing.{asked_as, face_opened, held_south, is_greeted, is_target, leads_up, opened, opening_interests, opening_tokens, sent_as}
 use Rattle.zt_model.specs.Rows.{Ask, ById, Face, InterestRow, Rows}
 use Rattle.zt_model.specs.Says.{find_face, is_routed, is_told, registered, registers, row_of, with_face}
-use Rattle.zt_model.specs.Shown.{interest_kept, rows_shown, with_declared, with_interest, with_source}
-use Rattle.zt_model.specs.Strategy.{is_broker}
+use Rattle.zt_model.specs.Seen.{sees}
+use Rattle.zt_model.specs.Shown.{interest_kept, rows_shown, with_declared, with_interest, with_new_transport, with_source}
 use Rattle.zt_model.specs.Telling.{is_answered_by, was_sent_as}
 use Rattle.zt_model.specs.Transcript.{Each}
 use Rattle.zt_model.specs.Trees.{source_of, with_routed}
 use Rattle.zt_model.specs.Visible.{is_visible, keeps, shows, visible_expressions}
+use Rattle.zt_model.proofs.Hats.{shows_others}
 use Rattle.zt_laws.proofs.Calls.{not_on_face}
 use Rattle.zt_laws.proofs.Keys.{same_itself}
 use Rattle.zt_laws.proofs.Lists.{by_test, each_always, each_append, each_weaker, never, of_cond}
+use Rattle.zt_laws.proofs.Seen.{sees_is}
+use Rattle.zt_laws.proofs.ShownRows.{opened_is_made}
 use Rattle.zt_theorem_soundness.specs.Sound.{AskIsHeld, IsSound, shown_from}
 use Rattle.zt_theorem_soundness.proofs.Answered.{is_answered_later}
 use Rattle.zt_theorem_soundness.proofs.Ends.{with_face_same}
@@ -49,10 +51,10 @@ unfolding first_cause
 not_yet true r cs apart h = absurd (apart h)
 not_yet false r cs apart h = (refl, h)
 
-shows_north : (own : Region) → is_north own ≡ false → shows own North ≡ true
-shows_north North south = never refl south
-shows_north Local south = refl
-shows_north (South id mode) south = or_right (is_broker (South id mode)) (not (region_eq North (South id mode))) refl
+shows_north : (mode : WhatAmI) (own : Region) → is_north own ≡ false → shows mode own North ≡ true
+shows_north mode North south = never refl south
+shows_north mode Local south = shows_others mode Local North refl
+shows_north mode (South id m) south = shows_others mode (South id m) North refl
 
 any_weaker_of : {A : Type 0} (P : A → Type 0) (p q : A → Bool) → ((x : A) → P x → p x ≡ true → q x ≡ true) → (xs : List A) → Each P xs → list_any p xs ≡ true → list_any q xs ≡ true
 any_weaker_of P p q h [] all some = some
@@ -75,11 +77,11 @@ module _ {K : Type 0} (cmp : K → K → Ordering) (matching : K → K → Bool)
     -- ---- tokens
 
     -- once a row of the expression is shown from a region, what is needed for it is within what could be drawn
-    shown_could : (source : Region) (e : K) (g after : Rows K) (f : Face K) → ShowsMore source e g after → (anew : Bool) → (anew ≡ true → (shows f.region source ≡ true) × (keeps cmp f e ≡ false))
+    shown_could : (source : Region) (e : K) (g after : Rows K) (f : Face K) → ShowsMore source e g after → (anew : Bool) → (anew ≡ true → (shows g.mode f.region source ≡ true) × (keeps cmp f e ≡ false))
         → (if is_told cmp matching g source e f || anew then 1 else 0) ≤ could_from cmp matching after f
     shown_could source e g after f more anew fresh =
-        let seen : shows f.region source ≡ true → is_visible cmp after f.region e ≡ true =
-        λ shown. visible_more cmp source e g after f.region e more ∙ or_right (is_visible cmp g f.region e) (shown_from cmp source e f.region e) (and_from (same cmp e e) (shows f.region source) (same_itself cmp total e) shown) in
+        let seen : shows g.mode f.region source ≡ true → is_visible cmp after f.region e ≡ true =
+        λ shown. visible_more cmp source e g after f.region e more ∙ or_right (is_visible cmp g f.region e) (shown_from cmp source e f.region e) (and_from (same cmp e e) (sees f.region source) (same_itself cmp total e) (sees_is g.mode f.region source ∙ shown)) in
         by_test (is_told cmp matching g source e f)
         (λ told. let one = told_could cmp matching total equal_is_same source e g after f seen told in rw told one)
         (λ told.
@@ -99,13 +101,13 @@ module _ {K : Type 0} (cmp : K → K → Ordering) (matching : K → K → Bool)
         within : Rows K → Type 0
         within after = Each (λ f. need_of f ≤ could_from cmp matching after f) g.faces
 
-        anew_is : (f : Face K) → Each (AskIsHeld f) f.asks → (o : Option ℕ) → interest ≡ o → is_answered_anew cmp matching n o e from f ≡ true → (shows f.region from.region ≡ true) × (keeps cmp f e ≡ false)
+        anew_is : (f : Face K) → Each (AskIsHeld f) f.asks → (o : Option ℕ) → interest ≡ o → is_answered_anew cmp matching n o e from f ≡ true → (shows g.mode f.region from.region ≡ true) × (keeps cmp f e ≡ false)
         anew_is f held None is anew = never anew refl
         anew_is f held (Some i) is anew =
             let parts = and_parts (has_id i from.pendings) (not (keeps cmp f e) && list_any (is_answered_later cmp matching n i e) f.asks) anew in
             let both = and_parts (not (keeps cmp f e)) (list_any (is_answered_later cmp matching n i e) f.asks) parts.1 in
             let source_ : from.region ≡ North = region_eq-same from.region North (north i is) in
-            (ap (shows f.region) source_ ∙ shows_north f.region (later_south n i e f f.asks held both.1), not-true (keeps cmp f e) both.0)
+            (ap (shows g.mode f.region) source_ ∙ shows_north g.mode f.region (later_south n i e f f.asks held both.1), not-true (keeps cmp f e) both.0)
 
         under : (after : Rows K) → ShowsMore from.region e g after → registers from interest ≡ true → within after
         under after more registers_ =
@@ -179,10 +181,18 @@ module _ {K : Type 0} (cmp : K → K → Ordering) (matching : K → K → Bool)
               let lacks = nothing_kept cmp matching after new_ refl in
               let seen : length (visible_expressions cmp after new_.region) ≡ length (visible_expressions cmp g new_.region) = ap length (visible_as cmp matching g after new_.region (new_same new_ g refl refl refl).live) in
               let tokens : length (opening_tokens cmp matching g new_) ≤ length (visible_expressions cmp g new_.region) = of_cond (λ (es : List K). length es ≤ length (visible_expressions cmp g new_.region)) (is_greeted cmp matching g new_) (visible_expressions cmp g new_.region) [] (λ _. omega arith) (λ _. omega arith) in
-              let asked_ : length (opening_interests cmp matching g new_) ≤ length (held_south cmp matching g) = of_cond (λ (is : List (InterestRow K)). length is ≤ length (held_south cmp matching g)) (is_greeted cmp matching g new_ && bound_eq new_.bound SouthBound) (held_south cmp matching g) [] (λ _. omega arith) (λ _. omega arith) in
+              let asked_ : length (opening_interests cmp matching g new_) ≤ length (held_south cmp matching g) = of_cond (λ (is : List (InterestRow K)). length is ≤ length (held_south cmp matching g)) (leads_up g.mode new_) (held_south cmp matching g) [] (λ _. omega arith) (λ _. omega arith) in
               omega arith,
           tt,
         )
+
+    -- and so once the face is made as a transcript shows it
+    opening_within : (zid : Zid) (whatami : WhatAmI) (region : Region) (bound : Bound) (first : ℕ) (g : Rows K) → Each (λ f. f.number ≤ g.made) g.faces
+        → Each (λ f. ids_for_opening cmp matching g f ≤ could_from cmp matching (with_new_transport zid whatami region bound first g) f) (opened zid whatami region bound first g).faces
+    opening_within zid whatami region bound first g made =
+        subst (λ (after : Rows K). Each (λ f. ids_for_opening cmp matching g f ≤ could_from cmp matching after f) (opened zid whatami region bound first g).faces)
+        (opened_is_made zid whatami region bound first g)
+        (opening_could zid whatami region bound first g made)
 
     -- ---- calls
 
@@ -191,7 +201,7 @@ module _ {K : Type 0} (cmp : K → K → Ordering) (matching : K → K → Bool)
 
     pub need_within_could : (c : PlainCall K) (g : Rows K) → first_cause (call_causes cmp matching true c g) ≡ Some refusal.IdsSpent → IsSound cmp matching g → Within c g
     unfolding need could rows_shown call_causes
-    need_within_could (NewTransport zid whatami region bound first) g spent sound = opening_could zid whatami region bound first g sound.ordered.lists.faces_made
+    need_within_could (NewTransport zid whatami region bound first) g spent sound = opening_within zid whatami region bound first g sound.ordered.lists.faces_made
     need_within_could (DeclareToken n id e node interest) g spent sound =
         let one = not_yet _ _ _ (λ h. cc) spent in
         let two = not_yet _ _ _ (λ h. cc) one.1 in
@@ -236,7 +246,7 @@ module _ {K : Type 0} (cmp : K → K → Ordering) (matching : K → K → Bool)
 
     pub opening_within_could : (zid : Zid) (whatami : WhatAmI) (region : Region) (bound : Bound) (first : ℕ) (g : Rows K) → Each (λ f. f.number ≤ g.made) g.faces → Within (NewTransport zid whatami region bound first) g
     unfolding need could rows_shown
-    opening_within_could zid whatami region bound first g made = opening_could zid whatami region bound first g made
+    opening_within_could zid whatami region bound first g made = opening_within zid whatami region bound first g made
 
     -- where the ids needed aren't left, those that could be drawn aren't
     pub spends_could : (c : PlainCall K) (g : Rows K) → can_draw cmp matching c ≡ true → Within c g → spends_ids cmp matching c g ≡ true → could_spend_ids cmp matching c g ≡ true

@@ -3,17 +3,17 @@ use Rattle.std.proofs.Common.{◌≡◌, ℕ, ◌+◌, zero, suc, Bool, true, co
 use Rattle.std.proofs.lemmas.List.{length-map}
 use Rattle.std.specs.List.{list_any}
 use Rattle.std.specs.declared.cmp.Ordering.{Ordering}
-use Rattle.zt_region.specs.declared.region.WhatAmI.TheVariants.{Client, Router}
 use Rattle.zt_region.specs.Tables.{RegionAnswer}
-use Rattle.zt_region.specs.Region.{is_north, whatami_eq}
+use Rattle.zt_region.specs.Region.{is_north}
 use Rattle.zt_protocol.specs.Plain.{PlainCall, NewSession, NewTransport, DeclareToken, UndeclareToken, Interest, InterestFinal, DeclareFinal, CloseFace, Expire, SetTrees, SetEntities, PlainLine, Gateway, Session, Face as FaceLine, Link as LinkLine, Unlink, Step, Speak, Moment, SetTreesAt}
 use Rattle.zt_protocol.specs.declared.errors.Refusal.TheVariants as refusal
-use Rattle.zt_model.specs.Fabric.{CallAt, Fabric, Node, line_causes, call_at, call_face, call_of, call_of_face, call_of_step, causes_of_call, is_linked_face, is_full, is_open_link, is_south_router, is_unknown_gateway, number_of_place, table_at}
+use Rattle.zt_model.specs.Fabric.{CallAt, Fabric, Node, line_causes, call_at, call_face, call_of, call_of_face, call_of_step, causes_of_call, is_linked_face, is_full, is_open_link, is_unknown_gateway, is_without_trees_above, number_of_place, table_at}
+use Rattle.zt_model.specs.Hat.{hat_of, north_hat}
 use Rattle.zt_model.specs.Linking.{LinkEnd, climbs_to, closes_loop, end_region, gateway_above, gateway_beyond, is_answer, is_end, is_refused_end, link_ends, oldest}
 use Rattle.zt_model.specs.Lists.{first_where, is_some_and, nth}
 use Rattle.zt_model.specs.Refusals.{Causes, call_causes, is_north_taken, GREATEST_NUMBER}
 use Rattle.zt_model.specs.Rows.{Rows}
-use Rattle.zt_model.specs.Strategy.{fits, is_region_of}
+use Rattle.zt_model.specs.Strategy.{is_region_of}
 use Rattle.zt_model.specs.Trees.{source_of, table_of}
 use Rattle.zt_laws.specs.Shown.{as_shown, call_shown, node_shown, without_own}
 use Rattle.zt_laws.proofs.Lists.{any-map, any_alike}
@@ -63,7 +63,7 @@ module _ {K : Type 0} where
           elim o [
             | None ↦ None
             | Some node ↦
-                cond (whatami_eq node.rows.mode Client) (elim (first_where (λ f. is_north f.region) node.rows.faces) [ None ↦ None | Some f ↦ gateway_beyond s (number_of_place s n f.number) ]) None
+                cond (north_hat node.rows.mode).has_one_face (elim (first_where (λ f. is_north f.region) node.rows.faces) [ None ↦ None | Some f ↦ gateway_beyond s (number_of_place s n f.number) ]) None
           ]
 
       cases : (o : Option (Node K)) → found (elim o [ None ↦ None | Some x ↦ Some (node_shown x) ]) ≡ found o
@@ -124,7 +124,7 @@ module _ {K : Type 0} (cmp : K → K → Ordering) (matching : K → K → Bool)
       ap
       (λ (b : Bool).
       (list_any (λ pair. not (is_region_of regions pair.0) || not (is_region_of regions pair.1)) refused, refusal.NoSuchRegion)
-      ∷ (list_any is_south_router regions && not (whatami_eq mode Router), refusal.RegionConflict)
+      ∷ (list_any (is_without_trees_above mode) regions, refusal.RegionConflict)
       ∷ (b, refusal.NumbersSpent)
       ∷ []) (full_shown s)
   causes_shown spent (Session n first) s = ap (λ b. (b, refusal.UnknownGateway) ∷ (is_full s.faces, refusal.NumbersSpent) ∷ []) (unknown_shown s n)
@@ -137,7 +137,7 @@ module _ {K : Type 0} (cmp : K → K → Ordering) (matching : K → K → Bool)
       let ends_ = link_ends (as_shown s) one two first back in
       let ends = link_ends s one two first back in
       let region_ = is_end {K = K} (λ end region bound. not (is_region_of end.node.rows.regions region)) in
-      let fits_ = is_end {K = K} (λ end region bound. not (fits end.node.rows.mode region end.other.rows.mode bound)) in
+      let fits_ = is_end {K = K} (λ end region bound. not ((hat_of end.node.rows.mode region).fits region end.other.rows.mode bound)) in
       let taken_ = is_end {K = K} (λ end region bound. is_north_taken region end.node.rows) in
       ap (λ x. tests x (is_unknown_gateway (as_shown s) two) (list_any region_ ends_) (list_any is_refused_end ends_) (list_any fits_ ends_) (list_any taken_ ends_) (loops (list_any (is_end (closes_loop (as_shown s))) ends_))) (unknown_shown s one)
       ∙ ap (λ x. tests (is_unknown_gateway s one) x (list_any region_ ends_) (list_any is_refused_end ends_) (list_any fits_ ends_) (list_any taken_ ends_) (loops (list_any (is_end (closes_loop (as_shown s))) ends_))) (unknown_shown s two)
@@ -149,7 +149,7 @@ module _ {K : Type 0} (cmp : K → K → Ordering) (matching : K → K → Bool)
     where
       loop_at : (end : LinkEnd K) (o : RegionAnswer) → is_answer o (closes_loop (as_shown s) (end_shown end)) ≡ is_answer o (closes_loop s end)
       loop_at end (Ok given) =
-          ap (λ b. whatami_eq end.node.rows.mode Client && (is_north given.0 && b))
+          ap (λ b. (north_hat end.node.rows.mode).has_one_face && (is_north given.0 && b))
           (ap (λ fuel. climbs_to fuel (as_shown s) end.beyond end.gateway) (length-map s.gateways node_shown) ∙ climbs_shown (length s.gateways) s end.beyond end.gateway)
       loop_at end (Err e) = refl
   causes_shown spent (Unlink link) s = refl

@@ -23,10 +23,11 @@ use Rattle.zt_model.specs.Promises.{turns_from}
 use Rattle.zt_model.specs.Refusals.{could_spend_ids, first_cause, left_ids, spends_ids}
 use Rattle.zt_model.specs.Routing.{face_opened, opened}
 use Rattle.zt_model.specs.Rows.{ById, Face, Rows}
-use Rattle.zt_model.specs.Shown.{rows_shown}
+use Rattle.zt_model.specs.Shown.{rows_shown, with_new_transport}
 use Rattle.zt_model.specs.Transcript.{Each, IsRefusedByCause, LacksIdsByCall, comes_to_ids, fabric_with, line_could_spend_ids, line_may_lack_ids, most_ids, openings, pendings_printed, with_call, with_opening, with_openings}
 use Rattle.zt_model.specs.Visible.{keeps, visible_expressions}
 use Rattle.zt_laws.specs.Shown.{as_shown}
+use Rattle.zt_laws.proofs.ShownRows.{opened_is_made}
 use Rattle.zt_laws.specs.Sound.{HasFirstIds}
 use Rattle.zt_laws.proofs.AllLines.{starts_real, without_message_is}
 use Rattle.zt_laws.proofs.Ends.{by_end}
@@ -142,6 +143,11 @@ module _ {K : Type 0} (cmp : K → K → Ordering) (matching : K → K → Bool)
       let low : left_ids f < most_ids cmp matching g f = ltb-true (left_ids f) (most_ids cmp matching g f) less in
       lt-ltb (left_ids f) (most_ids cmp matching h f) (omega (arith, up, low))) g.faces lacks)
 
+  -- and so as a transcript shows it
+  made_lacks : (zid : Zid) (whatami : WhatAmI) (region : Region) (bound : Bound) (first : ℕ) (x : Node K) → LacksAt x ≡ true → LacksAt (record x { rows = with_new_transport zid whatami region bound first x.rows }) ≡ true
+  made_lacks zid whatami region bound first x lacks =
+      subst (λ (after : Rows K). LacksAt (record x { rows = after }) ≡ true) (opened_is_made zid whatami region bound first x.rows) (opened_lacks zid whatami region bound first x lacks)
+
   -- a call that is made
   abbrev Lacks : (Option (CallAt K) → Fabric K) → Option (CallAt K) → Type 0
   Lacks made at = is_some_and at (λ at. could_spend_ids cmp matching at.call at.rows) ≡ true → MayLack (made at)
@@ -164,7 +170,7 @@ module _ {K : Type 0} (cmp : K → K → Ordering) (matching : K → K → Bool)
       (λ zid whatami region bound.
       let c : PlainCall K = NewTransport zid whatami region bound end.first in
       called_at (λ at. MayLack (with_opening cmp matching at t)) t end.gateway c lacks
-      (λ node at_. lacks_still end.gateway (λ (x : Node K). record x { rows = opened zid whatami region bound end.first x.rows }) t.gateways (opened_lacks zid whatami region bound end.first) lacks))
+      (λ node at_. lacks_still end.gateway (λ (x : Node K). record x { rows = with_new_transport zid whatami region bound end.first x.rows }) t.gateways (made_lacks zid whatami region bound end.first) lacks))
 
   all_still_lack : (ends : List (LinkEnd K)) (t : Fabric K) → MayLack t → MayLack (with_openings cmp matching ends t)
   unfolding with_openings

@@ -7,11 +7,10 @@ use Rattle.std.specs.Option.{option_to_list}
 use Rattle.std.specs.declared.cmp.Ordering.{Ordering}
 use Rattle.std.specs.declared.cmp.Ordering.TheVariants.{Equal}
 use Rattle.zt_region.specs.declared.region.Bound.{Bound}
-use Rattle.zt_region.specs.declared.region.Bound.TheVariants.{South as SouthBound}
 use Rattle.zt_region.specs.declared.region.Region.{Region}
 use Rattle.zt_region.specs.declared.region.WhatAmI.{WhatAmI}
 use Rattle.zt_region.specs.declared.region.Zid.{Zid}
-use Rattle.zt_region.specs.Region.{bound_eq, is_north}
+use Rattle.zt_region.specs.Region.{is_north}
 use Rattle.zt_protocol.specs.Plain.{PlainCall, NewTransport}
 use Rattle.zt_protocol.specs.declared.entries.Sent.{Sent}
 use Rattle.zt_protocol.specs.declared.interests.InterestMode.TheVariants.{CurrentFuture}
@@ -20,14 +19,15 @@ use Rattle.zt_model.specs.Hearing.{heard_all}
 use Rattle.zt_model.specs.Linking.{LinkEnd, end_call, end_region}
 use Rattle.zt_model.specs.Lists.{in_key_order, nth}
 use Rattle.zt_model.specs.Refusals.{could_spend_ids, ids_for_opening, left_ids, need, spends_ids}
-use Rattle.zt_model.specs.Routing.{face_opened, held_south, interest_order, is_greeted, opened, opening_interests, opening_tokens}
+use Rattle.zt_model.specs.Routing.{face_opened, held_south, interest_order, is_greeted, leads_up, opened, opening_interests, opening_tokens}
 use Rattle.zt_model.specs.Rows.{ById, Face, InterestRow, Rows}
 use Rattle.zt_model.specs.Says.{altered_by, is_routed, parts_of}
-use Rattle.zt_model.specs.Shown.{rows_shown}
+use Rattle.zt_model.specs.Shown.{rows_shown, with_new_transport}
 use Rattle.zt_model.specs.Transcript.{Each, openings, with_opening}
 use Rattle.zt_model.specs.Visible.{live_rows, rows_of_face, routed_rows}
 use Rattle.zt_laws.specs.Order.{FabricIsInOrder}
 use Rattle.zt_laws.specs.Shown.{as_shown, call_shown, node_shown, without_own}
+use Rattle.zt_laws.proofs.ShownRows.{opened_is_made}
 use Rattle.zt_laws.proofs.Ends.{after_hearing-append, by_end, end_alone, ends_commute, nth_heard_none, said_within}
 use Rattle.zt_laws.proofs.Hearing.{heard_all-held, heard_all-live, heard_all-number, heard_all-region}
 use Rattle.zt_laws.proofs.Lists.{any-append, any_none, by_test, each_append, each_map, each_weaker, never}
@@ -85,7 +85,7 @@ module _ {K : Type 0} (cmp : K → K → Ordering) (matching : K → K → Bool)
   -- and as many, whatever was heard before
   ids_heard : (s : Fabric K) (ms : List (Sent K)) (n : ℕ) (g : Rows K) (f : Face K) → ids_for_opening cmp matching (rows_after_hearing cmp s ms n g) f ≡ ids_for_opening cmp matching g f
   ids_heard s ms n g f =
-      ap (λ (is : List (InterestRow K)). if f.number == g.made + 1 then length (if is_greeted cmp matching g f && bound_eq f.bound SouthBound then is else []) + length (opening_tokens cmp matching (rows_after_hearing cmp s ms n g) f) else 0) (heard_south s ms n g)
+      ap (λ (is : List (InterestRow K)). if f.number == g.made + 1 then length (if leads_up g.mode f then is else []) + length (opening_tokens cmp matching (rows_after_hearing cmp s ms n g) f) else 0) (heard_south s ms n g)
       ∙ ap (λ (es : List K). if f.number == g.made + 1 then length (opening_interests cmp matching g f) + length (if is_greeted cmp matching g f then es else []) else 0)
       (visible_as cmp matching g (rows_after_hearing cmp s ms n g) f.region (heard_live s ms n g))
 
@@ -147,8 +147,9 @@ module _ {K : Type 0} (cmp : K → K → Ordering) (matching : K → K → Bool)
       let c : PlainCall K = NewTransport zid whatami region bound first in
       called_at (λ at. with_opening cmp matching (call_shown at) (as_shown t) ≡ as_shown (opened_at cmp matching at t)) t n c refl
       (λ node at_.
-      ap (λ k. with_rows n (opened zid whatami region bound first) (record (as_shown t) { faces = t.faces ++ record { gateway = n; face = k } ∷ [] })) (next_shown t n)
-      ∙ ap (λ (gs : List (Node K)). record (with_place n t) { gateways = gs }) (changed_shown n (opened zid whatami region bound first) (opened zid whatami region bound first) t.gateways (λ g. refl)))
+      ap (λ k. with_rows n (with_new_transport zid whatami region bound first) (record (as_shown t) { faces = t.faces ++ record { gateway = n; face = k } ∷ [] })) (next_shown t n)
+      ∙ ap (λ (gs : List (Node K)). record (with_place n t) { gateways = gs })
+      (changed_shown n (with_new_transport zid whatami region bound first) (opened zid whatami region bound first) t.gateways (λ g. sym (ap without_own (opened_is_made zid whatami region bound first g)))))
 
   end_opened_shown : (end : LinkEnd K) (t : Fabric K) → with_opening cmp matching (opening_at cmp matching (as_shown t) (end_shown end)) (as_shown t) ≡ as_shown (opened_at cmp matching (opening_at cmp matching t end) t)
   end_opened_shown end t =

@@ -1,17 +1,16 @@
 -- What interests are printed, held and waiting carry named options alone, where the lines do.
-use Rattle.std.proofs.Common.{◌≡◌, ℕ, ◌+◌, ◌<◌, Bool, true, not, ◌==◌, ◌&&◌, ◌||◌, if◌then◌else◌, List, [], ◌∷◌, ◌++◌, map, Option, Some, None, refl, sym, subst, arith, lt-ltb}
+use Rattle.std.proofs.Common.{◌≡◌, ℕ, ◌+◌, ◌<◌, Bool, true, not, ◌==◌, ◌||◌, if◌then◌else◌, List, [], ◌∷◌, ◌++◌, map, Option, Some, None, refl, sym, subst, arith, lt-ltb}
 use Rattle.std.proofs.lemmas.Nat.{and_le_l}
 use Rattle.std.specs.List.{flat_map}
 use Rattle.std.specs.declared.cmp.Ordering.{Ordering}
 use Rattle.std.specs.declared.cmp.Ordering.TheVariants.{Less, Equal, Greater}
 use Rattle.std.specs.FinMap.Entries.{by_order}
 use Rattle.zt_region.specs.declared.region.Bound.{Bound}
-use Rattle.zt_region.specs.declared.region.Bound.TheVariants.{South as SouthBound}
 use Rattle.zt_region.specs.declared.region.Region.{Region}
 use Rattle.zt_region.specs.declared.region.WhatAmI.{WhatAmI}
 use Rattle.zt_region.specs.declared.region.WhatAmI.TheVariants.{Peer}
 use Rattle.zt_region.specs.declared.region.Zid.{Zid}
-use Rattle.zt_region.specs.Region.{bound_eq, is_north, whatami_eq}
+use Rattle.zt_region.specs.Region.{is_north, whatami_eq}
 use Rattle.zt_protocol.specs.Interest.{has_tokens, is_future, without_aggregate}
 use Rattle.zt_protocol.specs.Plain.{PlainCall, NewSession, NewTransport, DeclareToken, UndeclareToken, Interest, InterestFinal, DeclareFinal, CloseFace, Expire, SetTrees, SetEntities}
 use Rattle.zt_protocol.specs.declared.interests.InterestMode.{InterestMode}
@@ -23,7 +22,7 @@ use Rattle.zt_model.specs.Entities.{entities_for, numbered_by, with_numbers}
 use Rattle.zt_model.specs.Hearing.{heard_all, rows_heard}
 use Rattle.zt_model.specs.Lists.{in_key_order, with_key}
 use Rattle.zt_model.specs.Refusals.{would_send}
-use Rattle.zt_model.specs.Routing.{asked_as, ended, face_opened, held_south, initial_finalised, interest_order, interests_from, is_greeted, is_target, opened, opening_final, opening_interests, opening_tokens, route_to, tokens_from, unheld}
+use Rattle.zt_model.specs.Routing.{asked_as, ended, face_opened, held_south, initial_finalised, interest_order, interests_from, is_target, leads_up, opened, opening_final, opening_interests, opening_tokens, route_to, tokens_from, unheld}
 use Rattle.zt_model.specs.Rows.{ById, Face, InterestRow, Rows}
 use Rattle.zt_model.specs.Says.{altered, answered_expressions, answers_of, asking, final_of, find_face, is_routed, parts_of, registered, registers, row_of, said, said_by, to_face, unregistered, with_face}
 use Rattle.zt_model.specs.Shown.{interest_kept, rows_shown, with_declared, with_interest, with_source, without_declared, without_expired, without_source}
@@ -187,7 +186,7 @@ module _ {K : Type 0} (cmp : K → K → Ordering) (matching : K → K → Bool)
       (each_ruled_one Named n asks one
       (λ f.
       interests_named f.next (opening_interests cmp matching one f)
-      (of_cond (Each (λ (i : InterestRow K). i.options.0 < 32)) (is_greeted cmp matching one f && bound_eq f.bound SouthBound) (held_south cmp matching one) [] (λ _. south) (λ _. tt))))
+      (of_cond (Each (λ (i : InterestRow K). i.options.0 < 32)) (leads_up one.mode f) (held_south cmp matching one) [] (λ _. south) (λ _. tt))))
       (each_append (λ s. Named s.1) (to_face n tells two) (to_face n (opening_final cmp matching) three ++ []) (each_ruled_one Named n tells two (λ f. tokens_say cmp matching Named (λ i x. refl) f.next (opening_tokens cmp matching two f)))
       (each_append (λ s. Named s.1) (to_face n (opening_final cmp matching) three) [] (each_ruled_one Named n (opening_final cmp matching) three (opening_final_says cmp matching Named (λ i. refl))) tt))
 

@@ -151,7 +151,7 @@ module _ {K : Type 0} (cmp : K → K → Ordering) (matching : K → K → Bool)
   undeclaring_of_open n (Some zid) (Some e) f = (tt, (but_one_said n (λ g. unpass_to cmp g f.region zid e), (each_said (λ g. forget_to cmp matching g f.region e), hiding_open f.region e)))
 
   finalising_open : (n id : ℕ) (interest : InterestRow K) → Each SaysOpen (finalising cmp matching n id interest)
-  finalising_open n id interest = (tt, (one_said n (λ g. untell_to cmp matching), (one_said n (λ g. final_of_both id interest), (each_said (λ g. end_upstream_to cmp matching g interest), tt))))
+  finalising_open n id interest = (tt, (one_said n (λ g. untell_to cmp matching g), (one_said n (λ g. final_of_both id interest), (each_said (λ g. end_upstream_to cmp matching g interest), tt))))
 
   ending_open : (n id : ℕ) → Each SaysOpen (ending {K = K} n id)
   ending_open n id = (tt, (each_said (λ g. finish_to g n id), tt))

@@ -5,16 +5,13 @@ use Rattle.std.specs.List.{flat_map, list_any}
 use Rattle.std.specs.declared.cmp.Ordering.{Ordering}
 use Rattle.std.specs.declared.cmp.Ordering.TheVariants.{Equal}
 use Rattle.zt_region.specs.declared.region.Region.{Region}
-use Rattle.zt_region.specs.declared.region.WhatAmI.{WhatAmI}
-use Rattle.zt_region.specs.declared.region.WhatAmI.TheVariants.{Router, Peer, Client}
-use Rattle.zt_region.specs.Region.{is_north}
 use Rattle.zt_protocol.specs.Plain.{PlainCall, NewSession, NewTransport, DeclareToken, UndeclareToken, Interest, InterestFinal, DeclareFinal, CloseFace, Expire, SetTrees, SetEntities}
 use Rattle.zt_protocol.specs.declared.errors.Refusal.TheVariants as refusal
 use Rattle.zt_protocol.specs.declared.interests.InterestMode.{InterestMode}
 use Rattle.zt_model.specs.Fabric.{CallAt, Fabric, Node, causes_of_call}
 use Rattle.zt_model.specs.Lists.{is_some_and, nth}
 use Rattle.zt_model.specs.Refusals.{asks_upstream, call_causes, can_draw, could, could_spend_ids, faces_with, first_cause, left_ids, spends_ids, would_send}
-use Rattle.zt_model.specs.Routing.{is_target, is_target_of, sent_as}
+use Rattle.zt_model.specs.Routing.{is_target, sent_as}
 use Rattle.zt_model.specs.Rows.{Face, RoutedRow, Rows}
 use Rattle.zt_model.specs.Says.{find_face, is_routed}
 use Rattle.zt_model.specs.Shown.{rows_shown}
@@ -50,12 +47,7 @@ module _ {K : Type 0} (cmp : K → K → Ordering) (matching : K → K → Bool)
 
   target_shown : (g : Rows K) (asker : Region) (mode : InterestMode) (f : Face K) → is_target (without_own g) asker mode f ≡ is_target g asker mode f
   unfolding is_target
-  target_shown g asker mode f = ap (λ b. not (is_north asker) && (is_north f.region && b)) (by_mode g.mode)
-    where
-      by_mode : (w : WhatAmI) → is_target_of w (without_own g) mode f ≡ is_target_of w g mode f
-      by_mode Client = refl
-      by_mode Peer = refl
-      by_mode Router = refl
+  target_shown g asker mode f = refl
 
   sent_shown : (g : Rows K) (asker : Region) (mode : InterestMode) → sent_as (without_own g) asker mode ≡ sent_as g asker mode
   unfolding sent_as

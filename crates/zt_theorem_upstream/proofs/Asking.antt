@@ -3,8 +3,7 @@ use Rattle.std.proofs.Common.{◌≡◌, ℕ, ◌+◌, ◌≤◌, Bool, true, fa
 use Rattle.std.proofs.lemmas.Bool.{and_parts}
 use Rattle.std.specs.List.{list_any}
 use Rattle.std.specs.declared.cmp.Ordering.{Ordering}
-use Rattle.zt_region.specs.declared.region.WhatAmI.{WhatAmI}
-use Rattle.zt_region.specs.declared.region.WhatAmI.TheVariants.{Router, Peer, Client}
+use Rattle.zt_region.specs.declared.region.WhatAmI.TheVariants.{Router}
 use Rattle.zt_region.specs.Region.{is_north, whatami_eq}
 use Rattle.zt_protocol.specs.Interest.{is_current, is_future}
 use Rattle.zt_protocol.specs.Plain.{Interest}
@@ -17,7 +16,7 @@ use Rattle.zt_model.specs.Hearing.{heard_all, messages_for, put_if, rows_heard}
 use Rattle.zt_model.specs.Lists.{first_where, has_id}
 use Rattle.zt_model.specs.Promises.{is_sent_all}
 use Rattle.zt_model.specs.Refusals.{is_interest_id_in_use}
-use Rattle.zt_model.specs.Routing.{asked_as, asks_same, is_held_south, is_target, is_target_of, route_to, sent_as}
+use Rattle.zt_model.specs.Routing.{asked_as, asks_same, is_asked, is_held_south, is_target, route_to, sent_as}
 use Rattle.zt_model.specs.Rows.{Face, InterestRow, Rows}
 use Rattle.zt_model.specs.Says.{Part, Say, Sends, answered_expressions, answers_of, asking, final_of, find_face, is_routed, parts_of, row_of, to_each, to_face, with_face}
 use Rattle.zt_model.specs.Transcript.{Each}
@@ -33,7 +32,7 @@ use Rattle.zt_theorem_soundness.proofs.Parts.{nobody}
 use Rattle.zt_theorem_visibility.proofs.Saying.{answers_say, final_says}
 use Rattle.zt_theorem_upstream.proofs.Calls.{Quiet, Stays, leaves_same, ran_quiet}
 use Rattle.zt_theorem_upstream.proofs.Ending.{each_three}
-use Rattle.zt_theorem_upstream.proofs.Locals.{IsUpstream, LocalsBelow, Stands, any_put, fresh_next, heard_all_mode, held_heard, local_any, sent_all_north, sent_all_same, south_any, stands_alike, stands_heard, stands_leaves, stands_quiet}
+use Rattle.zt_theorem_upstream.proofs.Locals.{IsUpstream, LocalsBelow, Stands, any_put, fresh_next, heard_all_mode, held_heard, local_any, sent_all_same, sent_leads_up, south_any, stands_alike, stands_heard, stands_leaves, stands_quiet}
 
 -- a test of faces, where one of them grows
 any_one_grown : {K : Type 0} (q : Face K → Bool) (change : Face K → Face K) (n : ℕ) (b : Bool) (from : Face K) (low : ℕ) (fs : List (Face K)) → RiseFrom (λ f. f.number) low fs → first_where (λ f. n == f.number) fs ≡ Some from → q (change from) ≡ (q from || b)
@@ -71,10 +70,9 @@ or_none true = refl
 or_none false = refl
 
 module _ {K : Type 0} (cmp : K → K → Ordering) (matching : K → K → Bool) where
-  sent_is_target : (w : WhatAmI) (g : Rows K) (mode : InterestMode) (f : Face K) → is_future mode ≡ true → is_sent_all cmp matching w f ≡ true → is_target_of w g mode f ≡ true
-  sent_is_target Client g mode f future sent = refl
-  sent_is_target Peer g mode f future sent = rw future sent
-  sent_is_target Router g mode f future sent = never sent refl
+  -- a face that is sent all interests in what comes later is asked for it
+  sent_is_asked : (g : Rows K) (mode : InterestMode) (f : Face K) → is_future mode ≡ true → is_sent_all cmp matching g.mode f ≡ true → is_asked g mode f ≡ true
+  sent_is_asked g mode f future sent = rw future (sent_leads_up cmp matching g.mode f sent)
 
   -- the face of a number is no router's
   abbrev NoRouter : ℕ → Rows K → Type 0
@@ -136,7 +134,7 @@ module _ {K : Type 0} (cmp : K → K → Ordering) (matching : K → K → Bool)
 
             target : is_target g1 from.region mode f ≡ true → after g1 (route_to g1 from.region interest f) f i ≡ U i
             target here =
-                let south : not (is_north from.region) ≡ true = (and_parts (not (is_north from.region)) (is_north f.region && is_target_of g.mode g1 mode f) here).0 in
+                let south : not (is_north from.region) ≡ true = (and_parts (not (is_north from.region)) (is_asked g1 mode f) here).0 in
                 ap (λ b. after g1 (if b then sends f else []) f i) here
                 ∙ by_test (is_future mode)
                 (λ future. ap told future ∙ any_put (λ row. asks_same cmp matching i row.1) f.next interest f.locals (fresh_next cmp matching f below) ∙ ap (λ b. asks_same cmp matching i interest || b) (own i) ∙ or_back (asks_same cmp matching i interest) (T i) ∙ ap (λ b. T i || b) (sym (rw (future, south) refl)))
@@ -150,9 +148,8 @@ module _ {K : Type 0} (cmp : K → K → Ordering) (matching : K → K → Bool)
                     by_test (is_north from.region)
                     (λ up_. rw (future, up_) refl)
                     (λ south.
-                    let north = sent_all_north cmp matching g.mode f sent in
-                    let target_ = sent_is_target g.mode g1 mode f future sent in
-                    let is : is_target g1 from.region mode f ≡ true = rw (south, north) target_ in
+                    let asked_ = sent_is_asked g1 mode f future sent in
+                    let is : is_target g1 from.region mode f ≡ true = rw south asked_ in
                     never is here)
 
     -- the interest is held

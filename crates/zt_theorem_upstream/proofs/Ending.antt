@@ -256,16 +256,16 @@ module _ {K : Type 0} (cmp : K → K → Ordering) (matching : K → K → Bool)
     -- A held interest of a face is finalised: what is sent upstream is held still.
     pub finalising_stands : (but : ℕ → Bool) (spare : Sends K → Sends K) (n id : ℕ) (interest : InterestRow K) (from : Face K) (g : Rows K) → Spares but spare → find_face n g ≡ Some from → at_id id from.held ≡ Some interest → IsUpstream cmp matching but g
         → (let g1 = with_face n (unheld id) g in
-        let g2 = rows_heard cmp (spare (to_face n (untell_to cmp matching) g1)) g1 in
+        let g2 = rows_heard cmp (spare (to_face n (untell_to cmp matching g1) g1)) g1 in
         let g3 = rows_heard cmp (spare (to_face n (final_of_both id interest) g2)) g2 in
         IsUpstream cmp matching but (rows_heard cmp (spare (to_each (end_upstream_to cmp matching g3 interest) g3.faces)) g3))
     finalising_stands but spare n id interest from g spares found held stands =
         let T = is_held_south cmp matching g in
         let g1 = with_face n (unheld id) g in
         let s1 = stands_unheld but T n id g stands in
-        let untells = to_face n (untell_to cmp matching) g1 in
+        let untells = to_face n (untell_to cmp matching g1) g1 in
         let g2 = rows_heard cmp (spare untells) g1 in
-        let s2 = stands_spared but spare T untells g1 spares s1 (each_ruled_one (IsQuiet cmp matching) n (untell_to cmp matching) g1 (untell_says cmp matching (IsQuiet cmp matching) (λ k. tt))) in
+        let s2 = stands_spared but spare T untells g1 spares s1 (each_ruled_one (IsQuiet cmp matching) n (untell_to cmp matching g1) g1 (untell_says cmp matching (IsQuiet cmp matching) (λ k. tt) g1)) in
         let finals = to_face n (final_of_both id interest) g2 in
         let g3 = rows_heard cmp (spare finals) g2 in
         let s3 = stands_spared but spare T finals g2 spares s2 (each_ruled_one (IsQuiet cmp matching) n (final_of_both id interest) g2 (final_of_both_says cmp matching (IsQuiet cmp matching) (λ k. tt) id interest)) in

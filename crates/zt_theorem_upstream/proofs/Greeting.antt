@@ -1,31 +1,30 @@
 -- A new face to the north is sent what south-bound faces hold.
 use Rattle.std.proofs.Common.{◌≡◌, ℕ, ◌+◌, ◌≤◌, Bool, true, false, not, max, ◌&&◌, ◌||◌, ◌==◌, if◌then◌else◌, List, [], ◌∷◌, ◌++◌, map, refl, sym, ap, ◌∙◌, subst, arith, eqb-true, eq-eqb}
-use Rattle.std.proofs.lemmas.Bool.{and_parts}
 use Rattle.std.specs.Cmp.{IsTotalOrder}
 use Rattle.std.specs.FinMap.Entries.{by_order}
 use Rattle.std.specs.List.{flat_map, list_any}
 use Rattle.std.specs.declared.cmp.Ordering.{Ordering}
 use Rattle.std.specs.declared.cmp.Ordering.TheVariants.{Less, Equal, Greater}
 use Rattle.zt_region.specs.declared.region.Bound.{Bound}
-use Rattle.zt_region.specs.declared.region.Bound.TheVariants.{North as NorthBound, South as SouthBound}
+use Rattle.zt_region.specs.declared.region.Bound.TheVariants.{North as NorthBound}
 use Rattle.zt_region.specs.declared.region.Region.{Region}
 use Rattle.zt_region.specs.declared.region.Region.TheVariants.{North, Local, South}
 use Rattle.zt_region.specs.declared.region.WhatAmI.{WhatAmI}
 use Rattle.zt_region.specs.declared.region.WhatAmI.TheVariants.{Router, Peer, Client}
 use Rattle.zt_region.specs.declared.region.Zid.{Zid}
-use Rattle.zt_region.specs.Region.{bound_eq, is_north, whatami_eq}
+use Rattle.zt_region.specs.Region.{is_north}
 use Rattle.zt_protocol.specs.Interest.{is_future}
 use Rattle.zt_protocol.specs.Plain.{NewSession, NewTransport}
 use Rattle.zt_protocol.specs.declared.interests.InterestMode.TheVariants.{CurrentFuture}
 use Rattle.zt_protocol.specs.declared.messages.Message.{Message}
 use Rattle.zt_protocol.specs.declared.messages.Message.TheVariants as message
+use Rattle.zt_model.specs.Hat.{hat_of}
 use Rattle.zt_model.specs.Hearing.{heard, heard_all, messages_for, put_if, rows_heard}
 use Rattle.zt_model.specs.Lists.{in_key_order, with_key}
 use Rattle.zt_model.specs.Promises.{is_sent_all}
 use Rattle.zt_model.specs.Routing.{asks_same, face_opened, held_south, interest_order, interests_from, is_held_south, opened, opening_final, opening_interests, opening_tokens, tokens_from}
 use Rattle.zt_model.specs.Rows.{ById, Face, InterestRow, Rows}
 use Rattle.zt_model.specs.Says.{Part, Say, Sends, is_routed, new_face, opened_session, parts_of, to_face}
-use Rattle.zt_model.specs.Strategy.{fits, is_router_hat, strategy_of}
 use Rattle.zt_model.specs.Transcript.{Each}
 use Rattle.zt_laws.specs.Order.{RowsAreInOrder}
 use Rattle.zt_laws.proofs.CallsOrder.{session_in_order, transport_in_order}
@@ -40,7 +39,7 @@ use Rattle.zt_theorem_soundness.proofs.Opening.{speaks_one}
 use Rattle.zt_theorem_soundness.proofs.Parts.{nobody, only}
 use Rattle.zt_theorem_visibility.proofs.Saying.{opening_final_says, tokens_say}
 use Rattle.zt_theorem_upstream.proofs.Calls.{Quiet, Stays, ran_quiet}
-use Rattle.zt_theorem_upstream.proofs.Locals.{IsUpstream, LocalsBelow, Stands, any_put, below_heard_all, fresh_next, held_heard, interest_total, local_any, sent_all_north, south_any, stands_alike, stands_heard}
+use Rattle.zt_theorem_upstream.proofs.Locals.{IsUpstream, LocalsBelow, Stands, any_put, below_heard_all, fresh_next, held_heard, interest_total, local_any, sent_all_north, sent_leads_up, south_any, stands_alike, stands_heard}
 
 and_none : (b : Bool) → (b && false) ≡ false
 and_none true = refl
@@ -110,7 +109,7 @@ module _ {K : Type 0} (cmp : K → K → Ordering) (matching : K → K → Bool)
   -- ---- new faces
 
   -- a face of a router region is a router's
-  fits_router : (w : WhatAmI) (region : Region) (remote : WhatAmI) (bound : Bound) → fits w region remote bound ≡ true → is_router_hat (strategy_of w region) ≡ true → remote ≡ Router
+  fits_router : (w : WhatAmI) (region : Region) (remote : WhatAmI) (bound : Bound) → (hat_of w region).fits region remote bound ≡ true → (hat_of w region).goes_by_trees ≡ true → remote ≡ Router
   fits_router w Local remote bound fit routed = never fit refl
   fits_router w (South id Router) Router bound fit routed = refl
   fits_router w (South id Router) Peer bound fit routed = never fit refl
@@ -122,14 +121,6 @@ module _ {K : Type 0} (cmp : K → K → Ordering) (matching : K → K → Bool)
   fits_router Router North Client bound fit routed = never fit refl
   fits_router Peer North remote bound fit routed = never routed refl
   fits_router Client North remote bound fit routed = never routed refl
-
-  -- a face that is sent all interests is sent what is held when it opens
-  fits_upstream : (w : WhatAmI) (region : Region) (remote : WhatAmI) (bound : Bound) (f : Face K) → f.region ≡ region → f.bound ≡ bound → fits w region remote bound ≡ true → is_sent_all cmp matching w f ≡ true → ((is_north f.region && not (whatami_eq w Router)) && bound_eq f.bound SouthBound) ≡ true
-  fits_upstream Client North remote bound f region_ bound_ fit sent = rw (region_, bound_) fit
-  fits_upstream Client Local remote bound f region_ bound_ fit sent = never fit refl
-  fits_upstream Client (South id mode) remote bound f region_ bound_ fit sent = never (ap is_north (sym region_) ∙ sent) refl
-  fits_upstream Peer region remote bound f region_ bound_ fit sent = let parts = and_parts (is_north f.region) (bound_eq f.bound SouthBound) sent in rw (parts.0, parts.1) refl
-  fits_upstream Router region remote bound f region_ bound_ fit sent = never sent refl
 
   held_with_new : (f : Face K) (g : Rows K) (made : ℕ) → f.held ≡ [] → (i : InterestRow K) → is_held_south cmp matching (record g { made = made; faces = g.faces ++ f ∷ [] }) i ≡ is_held_south cmp matching g i
   unfolding is_held_south
@@ -157,7 +148,7 @@ module _ {K : Type 0} (cmp : K → K → Ordering) (matching : K → K → Bool)
           routed = each_append (λ f. is_routed g f ≡ true → (f.mode ≡ Router) × (f.held ≡ [])) g.faces (new_ ∷ []) up.routed ((λ routed. never routed refl), tt);
         }))
 
-    pub transport_stays : (zid : Zid) (whatami : WhatAmI) (region : Region) (bound : Bound) (first : ℕ) (g : Rows K) → 1 ≤ first → fits g.mode region whatami bound ≡ true → RowsAreInOrder cmp matching g → Stays cmp matching (NewTransport zid whatami region bound first) g
+    pub transport_stays : (zid : Zid) (whatami : WhatAmI) (region : Region) (bound : Bound) (first : ℕ) (g : Rows K) → 1 ≤ first → (hat_of g.mode region).fits region whatami bound ≡ true → RowsAreInOrder cmp matching g → Stays cmp matching (NewTransport zid whatami region bound first) g
     unfolding parts_of ran heard_all
     transport_stays zid whatami region bound first g real fit ordered up =
         subst (IsUpstream cmp matching nobody) (sym (call_runs cmp matching (NewTransport zid whatami region bound first) g))
@@ -223,8 +214,8 @@ module _ {K : Type 0} (cmp : K → K → Ordering) (matching : K → K → Bool)
             own : (f : Face K) → (n == f.number) ≡ true → f ≡ new_ → is_sent_all cmp matching g.mode f ≡ true → (i : InterestRow K) → local_any cmp matching (heard_all cmp one.moment (if n == f.number then rule f else []) f) i ≡ T i
             own f here is sent_ i =
                 let own_sent : is_sent_all cmp matching g.mode new_ ≡ true = ap (is_sent_all cmp matching g.mode) (sym is) ∙ sent_ in
-                let greeted = fits_upstream g.mode region whatami bound new_ refl refl fit own_sent in
-                let rule_is : rule new_ ≡ interests_from first (held_south cmp matching one) = ap (λ b. interests_from first (if b then held_south cmp matching one else [])) greeted in
+                let up_ = sent_leads_up cmp matching g.mode new_ own_sent in
+                let rule_is : rule new_ ≡ interests_from first (held_south cmp matching one) = ap (λ b. interests_from first (if b then held_south cmp matching one else [])) up_ in
                 ap (λ b. local_any cmp matching (heard_all cmp one.moment (if b then rule f else []) f) i) here
                 ∙ ap (λ (k : Face K). local_any cmp matching (heard_all cmp one.moment (rule k) k) i) is
                 ∙ ap (λ ms. local_any cmp matching (heard_all cmp one.moment ms new_) i) rule_is

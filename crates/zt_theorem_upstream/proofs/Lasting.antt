@@ -14,6 +14,7 @@ use Rattle.zt_region.specs.Tables.{RegionAnswer}
 use Rattle.zt_protocol.specs.Plain.{PlainCall, NewSession, NewTransport, DeclareToken, UndeclareToken, Interest, InterestFinal, DeclareFinal, CloseFace, Expire, SetTrees, SetEntities, PlainLine, Link as LinkLine}
 use Rattle.zt_protocol.specs.declared.entries.Sent.{Sent}
 use Rattle.zt_model.specs.Fabric.{CallAt, Fabric, Node, Place, after_hearing, after_opening, at_nth, both_ends, line_causes, call_at, closed_ends, entries_from, entry_of, fabric_after, next_face, opened_at, opened_ends, opening_at, said_at, said_closing, said_opening, sorted_by_face, with_place}
+use Rattle.zt_model.specs.Hat.{hat_of}
 use Rattle.zt_model.specs.Hearing.{rows_heard}
 use Rattle.zt_model.specs.Linking.{LinkEnd, end_region, is_answer, is_end, is_refused_end, link_ends}
 use Rattle.zt_model.specs.Lists.{nth}
@@ -22,7 +23,6 @@ use Rattle.zt_model.specs.Refusals.{call_causes, first_cause, is_interest_id_in_
 use Rattle.zt_model.specs.Routing.{is_held_south}
 use Rattle.zt_model.specs.Rows.{Face, InterestRow, Rows}
 use Rattle.zt_model.specs.Says.{altered_by, find_face, is_routed, parts_of, said}
-use Rattle.zt_model.specs.Strategy.{fits}
 use Rattle.zt_model.specs.Transcript.{Each}
 use Rattle.zt_laws.specs.Order.{FabricIsInOrder, HasRowsInOrder}
 use Rattle.zt_laws.specs.Shown.{as_shown, node_shown, without_own}
@@ -96,9 +96,9 @@ module _ {K : Type 0} (cmp : K → K → Ordering) (matching : K → K → Bool)
     call_stays spent (SetTrees region t) g still accepted = table_stays cmp matching region t g
     call_stays spent (SetEntities n subscribers queryables) g still accepted = entities_stay cmp matching n subscribers queryables g
 
-    transport_accepted : (spent : Bool) (zid : Zid) (whatami : WhatAmI) (region : Region) (bound : Bound) (first : ℕ) (g : Rows K) → first_cause (call_causes cmp matching spent (NewTransport zid whatami region bound first) g) ≡ None → fits g.mode region whatami bound ≡ true
+    transport_accepted : (spent : Bool) (zid : Zid) (whatami : WhatAmI) (region : Region) (bound : Bound) (first : ℕ) (g : Rows K) → first_cause (call_causes cmp matching spent (NewTransport zid whatami region bound first) g) ≡ None → (hat_of g.mode region).fits region whatami bound ≡ true
     unfolding call_causes
-    transport_accepted spent zid whatami region bound first g accepted = let two = no_cause _ _ _ (no_cause _ _ _ accepted).1 in not-false (fits g.mode region whatami bound) two.0
+    transport_accepted spent zid whatami region bound first g accepted = let two = no_cause _ _ _ (no_cause _ _ _ accepted).1 in not-false ((hat_of g.mode region).fits region whatami bound) two.0
 
     -- ---- links
 
@@ -108,7 +108,7 @@ module _ {K : Type 0} (cmp : K → K → Ordering) (matching : K → K → Bool)
     -- the face at an end fits its gateway
     record EndFits (X : Fabric K) (end : LinkEnd K) : Type 0 where
       mode : (node : Node K) → nth end.gateway X.gateways ≡ Some node → node.rows.mode ≡ end.node.rows.mode
-      fit : (given : Region × Bound) → end_region end.node end.other ≡ Ok given → fits end.node.rows.mode given.0 end.other.rows.mode given.1 ≡ true
+      fit : (given : Region × Bound) → end_region end.node end.other ≡ Ok given → (hat_of end.node.rows.mode given.0).fits given.0 end.other.rows.mode given.1 ≡ true
 
     end_upheld : (end : LinkEnd K) (X : Fabric K) → 1 ≤ end.first → FabricIsInOrder cmp matching X → EndFits X end → Gateways X.gateways → Gateways (after_opening cmp matching (opening_at cmp matching X end) X).gateways × (modes (after_opening cmp matching (opening_at cmp matching X end) X) ≡ modes X)
     unfolding modes rows_heard parts_of altered_by
@@ -133,7 +133,7 @@ module _ {K : Type 0} (cmp : K → K → Ordering) (matching : K → K → Bool)
             let p_face : p.face ≡ g.made + 1 = ap next_face at_ in
             let new_ : is_placed n (g.made + 1) places ≡ true = subst (λ k. is_placed n k places ≡ true) p_face (placed_new n p.face X.faces) in
             let placed = opened_faces cmp matching total (λ k. is_placed n k places ≡ true) c g refl new_ (each_weaker (λ f. is_placed n f.number X.faces ≡ true) (λ f. is_placed n f.number places ≡ true) (λ f there. placed_still n f.number X.faces p there) g.faces gateway.placed) in
-            let fit_ : fits g.mode given.0 end.other.rows.mode given.1 ≡ true = ap (λ w. fits w given.0 end.other.rows.mode given.1) (fit.mode node at_) ∙ fit.fit given is in
+            let fit_ : (hat_of g.mode given.0).fits given.0 end.other.rows.mode given.1 ≡ true = ap (λ w. (hat_of w given.0).fits given.0 end.other.rows.mode given.1) (fit.mode node at_) ∙ fit.fit given is in
             subst (λ (t : Fabric K). Gateways t.gateways × (modes t ≡ modes X)) (sym (after_prints cmp matching n node c (with_place n X) (map (printed_at places n) ss) (prints_map places n ss) at_ placed.0 (faces_still_placed cmp matching p X fine)))
             (each_changed n (rows_after_call cmp matching c) X.gateways node at_ (transport_stays cmp matching total end.other.rows.zid end.other.rows.mode given.0 given.1 end.first g real fit_ gateway.rows) all, modes_same c end.other.rows.zid end.other.rows.mode given.0 given.1 end.first n X.gateways)
           where
@@ -183,7 +183,7 @@ module _ {K : Type 0} (cmp : K → K → Ordering) (matching : K → K → Bool)
         ends = link_ends s one two first back
 
         unfit : LinkEnd K → Region → Bound → Bool
-        unfit end region bound = not (fits end.node.rows.mode region end.other.rows.mode bound)
+        unfit end region bound = not ((hat_of end.node.rows.mode region).fits region end.other.rows.mode bound)
 
         conflict : (list_any is_refused_end ends || list_any (is_end unfit) ends) ≡ false
         conflict = let two_ = no_cause _ _ _ (no_cause _ _ _ accepted).1 in (no_cause _ _ _ two_.1).0
@@ -192,8 +192,8 @@ module _ {K : Type 0} (cmp : K → K → Ordering) (matching : K → K → Bool)
         or_none true b none_ = never refl none_
         or_none false b none_ = (refl, none_)
 
-        fit_of : (end : LinkEnd K) → is_end unfit end ≡ false → (given : Region × Bound) → end_region end.node end.other ≡ Ok given → fits end.node.rows.mode given.0 end.other.rows.mode given.1 ≡ true
-        fit_of end fit_ given is = not-false (fits end.node.rows.mode given.0 end.other.rows.mode given.1) (ap (λ o. is_answer o (unfit end)) (sym is) ∙ fit_)
+        fit_of : (end : LinkEnd K) → is_end unfit end ≡ false → (given : Region × Bound) → end_region end.node end.other ≡ Ok given → (hat_of end.node.rows.mode given.0).fits given.0 end.other.rows.mode given.1 ≡ true
+        fit_of end fit_ given is = not-false ((hat_of end.node.rows.mode given.0).fits given.0 end.other.rows.mode given.1) (ap (λ o. is_answer o (unfit end)) (sym is) ∙ fit_)
 
         cases : (a : Option (Node K)) → nth one s.gateways ≡ a → (b : Option (Node K)) → nth two s.gateways ≡ b
             → list_any (is_end unfit) (let es : List (LinkEnd K) = elim a [

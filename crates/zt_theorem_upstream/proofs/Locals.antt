@@ -16,12 +16,12 @@ use Rattle.zt_region.specs.Region.{bound_eq, is_north}
 use Rattle.zt_protocol.specs.Interest.{is_future}
 use Rattle.zt_protocol.specs.declared.messages.Message.{Message}
 use Rattle.zt_protocol.specs.declared.messages.Message.TheVariants as message
+use Rattle.zt_model.specs.Hat.{hat_of}
 use Rattle.zt_model.specs.Hearing.{heard, heard_all, messages_for, rows_heard}
 use Rattle.zt_model.specs.Promises.{is_sent_all}
-use Rattle.zt_model.specs.Routing.{asks_same, expression_order, interest_order, is_held_south}
+use Rattle.zt_model.specs.Routing.{asks_same, expression_order, interest_order, is_held_south, leads_up}
 use Rattle.zt_model.specs.Rows.{ById, Face, InterestRow, Rows}
 use Rattle.zt_model.specs.Says.{Sends, is_routed}
-use Rattle.zt_model.specs.Strategy.{is_router_hat, strategy_of}
 use Rattle.zt_model.specs.Transcript.{Each}
 use Rattle.zt_laws.specs.Order.{HasRowsInOrder}
 use Rattle.zt_laws.specs.Sound.{RiseFrom}
@@ -145,6 +145,12 @@ module _ {K : Type 0} (cmp : K → K → Ordering) (matching : K → K → Bool)
   sent_all_north Peer f sent = (and_parts (is_north f.region) (bound_eq f.bound SouthBound) sent).0
   sent_all_north Router f sent = never sent refl
 
+  -- such a face leads to a gateway above
+  pub sent_leads_up : (w : WhatAmI) (f : Face K) → is_sent_all cmp matching w f ≡ true → leads_up w f ≡ true
+  sent_leads_up Client f sent = rw sent refl
+  sent_leads_up Peer f sent = sent
+  sent_leads_up Router f sent = never sent refl
+
   -- faces of router regions hold nothing
   abbrev pub RoutedHoldNothing : Rows K → Type 0
   RoutedHoldNothing g = Each (λ f. is_routed g f ≡ true → (f.mode ≡ Router) × (f.held ≡ [])) g.faces
@@ -182,7 +188,7 @@ module _ {K : Type 0} (cmp : K → K → Ordering) (matching : K → K → Bool)
         ∙ own (sym (ap but (leaves.number f)) ∙ counts) (sym (sent_all_same g.mode f (leaves.change f) (leaves.region f) (leaves.bound f)) ∙ ap (λ w. is_sent_all cmp matching w (leaves.change f)) (sym leaves.mode) ∙ sent) i) stands.locals;
     routed = over (λ f. is_routed g f ≡ true → (f.mode ≡ Router) × (f.held ≡ [])) (λ f. is_routed h f ≡ true → (f.mode ≡ Router) × (f.held ≡ []))
         (λ f own routed.
-        let both = own (ap (λ (r : Region). is_router_hat (strategy_of g.mode r)) (sym (leaves.region f)) ∙ ap (λ (w : WhatAmI). is_router_hat (strategy_of w (leaves.change f).region)) (sym leaves.mode) ∙ routed) in
+        let both = own (ap (λ (r : Region). (hat_of g.mode r).goes_by_trees) (sym (leaves.region f)) ∙ ap (λ (w : WhatAmI). (hat_of w (leaves.change f).region).goes_by_trees) (sym leaves.mode) ∙ routed) in
         (leaves.whatami f ∙ both.0, leaves.held f ∙ both.1)) stands.routed;
   }
     where
@@ -249,7 +255,7 @@ module _ {K : Type 0} (cmp : K → K → Ordering) (matching : K → K → Bool)
         each_map (λ f. is_routed g f ≡ true → (f.mode ≡ Router) × (f.held ≡ [])) hears g.faces
         (each_weaker (λ f. is_routed g f ≡ true → (f.mode ≡ Router) × (f.held ≡ [])) (λ f. is_routed g (hears f) ≡ true → ((hears f).mode ≡ Router) × ((hears f).held ≡ []))
         (λ f own routed.
-        let both = own (ap (λ (r : Region). is_router_hat (strategy_of g.mode r)) (sym (heard_all-region cmp g.moment (messages_for f.number ss) f)) ∙ routed) in
+        let both = own (ap (λ (r : Region). (hat_of g.mode r).goes_by_trees) (sym (heard_all-region cmp g.moment (messages_for f.number ss) f)) ∙ routed) in
         (heard_all_mode g.moment (messages_for f.number ss) f ∙ both.0, heard_all-held cmp g.moment (messages_for f.number ss) f ∙ both.1)) g.faces stands.routed);
   }
     where

@@ -1,15 +1,12 @@
 -- The interests that a call sends are those that are due.
-use Rattle.std.proofs.Common.{◌≡◌, ℕ, ◌+◌, ◌≤◌, Bool, true, false, not, if◌then◌else◌, ◌&&◌, ◌==◌, List, [], ◌∷◌, ◌++◌, filter, Option, Some, None, refl, sym, ap, ◌∙◌, append-nil, arith, eqb-true, eq-eqb, ne_eqb}
+use Rattle.std.proofs.Common.{◌≡◌, ℕ, ◌+◌, ◌≤◌, Bool, true, false, not, if◌then◌else◌, ◌==◌, List, [], ◌∷◌, ◌++◌, filter, Option, Some, None, refl, sym, ap, ◌∙◌, append-nil, arith, eqb-true, eq-eqb, ne_eqb}
 use Rattle.std.specs.Cmp.{IsTotalOrder}
 use Rattle.std.specs.declared.cmp.Ordering.{Ordering}
 use Rattle.std.specs.declared.cmp.Ordering.TheVariants.{Equal}
 use Rattle.zt_region.specs.declared.region.Bound.{Bound}
-use Rattle.zt_region.specs.declared.region.Bound.TheVariants.{South as SouthBound}
 use Rattle.zt_region.specs.declared.region.Region.{Region}
 use Rattle.zt_region.specs.declared.region.WhatAmI.{WhatAmI}
-use Rattle.zt_region.specs.declared.region.WhatAmI.TheVariants.{Router, Peer, Client}
 use Rattle.zt_region.specs.declared.region.Zid.{Zid}
-use Rattle.zt_region.specs.Region.{bound_eq, is_north}
 use Rattle.zt_protocol.specs.Plain.{PlainCall, NewSession, NewTransport, DeclareToken, UndeclareToken, Interest, InterestFinal, DeclareFinal, CloseFace, Expire, SetTrees, SetEntities}
 use Rattle.zt_protocol.specs.declared.interests.InterestMode.{InterestMode}
 use Rattle.zt_protocol.specs.declared.messages.Message.{Message}
@@ -19,7 +16,7 @@ use Rattle.zt_model.specs.Hearing.{messages_for, rows_heard}
 use Rattle.zt_model.specs.Lists.{first_where, has_id}
 use Rattle.zt_model.specs.Promises.{interests_due, interests_in}
 use Rattle.zt_model.specs.Refusals.{can_draw}
-use Rattle.zt_model.specs.Routing.{face_opened, interests_from, is_greeted, is_target, is_target_of, opened, opening_final, opening_interests, opening_tokens, route_to, sent_as, tokens_from}
+use Rattle.zt_model.specs.Routing.{face_opened, interests_from, is_target, leads_up, opened, opening_final, opening_interests, opening_tokens, route_to, sent_as, tokens_from}
 use Rattle.zt_model.specs.Rows.{Face, InterestRow, Rows}
 use Rattle.zt_model.specs.Says.{Alter, Part, Say, Sends, answered_expressions, answering, answers_of, asking, declaring, declaring_of, final_of, find_face, interesting_above, is_routed, is_told, parts_of, registers, row_of, said, said_by, tell_to, to_each, to_face}
 use Rattle.zt_model.specs.Telling.{answer_to}
@@ -152,12 +149,7 @@ module _ {K : Type 0} (cmp : K → K → Ordering) (matching : K → K → Bool)
 
     target_numbered : (es : List K) (g : Rows K) (asker : Region) (mode : InterestMode) (f : Face K) → is_target (with_numbers cmp es g) asker mode f ≡ is_target g asker mode f
     unfolding is_target
-    target_numbered es g asker mode f = ap (λ b. not (is_north asker) && (is_north f.region && b)) (by_mode g.mode)
-      where
-        by_mode : (w : WhatAmI) → is_target_of w (with_numbers cmp es g) mode f ≡ is_target_of w g mode f
-        by_mode Client = refl
-        by_mode Peer = refl
-        by_mode Router = refl
+    target_numbered es g asker mode f = refl
 
     routes : (g : Rows K) (asker : Region) (interest : InterestRow K) (f : Face K) → interests_in (route_to g asker interest f) ≡ (if is_target g asker interest.mode f then interest ∷ [] else [])
     unfolding route_to
@@ -272,7 +264,7 @@ module _ {K : Type 0} (cmp : K → K → Ordering) (matching : K → K → Bool)
             let back : (f.number == g.made + 1) ≡ true = eq-eqb f.number (g.made + 1) (sym (eqb-true (g.made + 1) f.number here)) in
             rw (here, back)
             (in_numbered f.next (opening_interests cmp matching one f)
-            ∙ ap (λ (is : List (InterestRow K)). if is_greeted cmp matching g f && bound_eq f.bound SouthBound then is else []) (held_opened cmp matching total (face_opened zid whatami region bound first g) g refl)))
+            ∙ ap (λ (is : List (InterestRow K)). if leads_up g.mode f then is else []) (held_opened cmp matching total (face_opened zid whatami region bound first g) g refl)))
             (λ here.
             let back : (f.number == g.made + 1) ≡ false = ne_eqb f.number (g.made + 1) (λ e. never (eq-eqb (g.made + 1) f.number (sym e)) here) in
             rw (here, back) refl)

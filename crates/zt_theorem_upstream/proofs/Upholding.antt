@@ -108,7 +108,7 @@ module _ {K : Type 0} (cmp : K → K → Ordering) (matching : K → K → Bool)
     all_finalised n (row ∷ rows) g rises holds up =
         let spare = λ (ss : Sends K). filter (λ s. not (n == s.0)) ss in
         let g1 = with_face n (unheld row.0) g in
-        let ss2 = spare (to_face n (untell_to cmp matching) g1) in
+        let ss2 = spare (to_face n (untell_to cmp matching g1) g1) in
         let g2 = rows_heard cmp ss2 g1 in
         let ss3 = spare (to_face n (final_of_both row.0 row.1) g2) in
         let g3 = rows_heard cmp ss3 g2 in

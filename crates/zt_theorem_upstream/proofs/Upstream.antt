@@ -1,17 +1,15 @@
 -- Each turn of a transcript prints the interests that are due to each face.
-use Rattle.std.proofs.Common.{◌≡◌, ◌≢◌, ℕ, ◌+◌, ◌-◌, ◌≤◌, Bool, true, false, not, if◌then◌else◌, ◌&&◌, ◌==◌, List, [], ◌∷◌, ◌++◌, length, map, filter, Option, Some, None, refl, sym, ap, ◌∙◌, subst, append-nil, arith, eqb-true, ne_eqb, le_refl, le_trans}
+use Rattle.std.proofs.Common.{◌≡◌, ◌≢◌, ℕ, ◌+◌, ◌-◌, ◌≤◌, Bool, true, false, not, if◌then◌else◌, ◌==◌, List, [], ◌∷◌, ◌++◌, length, map, filter, Option, Some, None, refl, sym, ap, ◌∙◌, subst, append-nil, arith, eqb-true, ne_eqb, le_refl, le_trans}
 use Rattle.std.specs.Cmp.{IsTotalOrder}
 use Rattle.std.specs.List.{list_any, flat_map}
 use Rattle.std.specs.Option.{option_to_list}
 use Rattle.std.specs.declared.cmp.Ordering.{Ordering}
 use Rattle.std.specs.declared.cmp.Ordering.TheVariants.{Equal}
 use Rattle.zt_region.specs.declared.region.Bound.{Bound}
-use Rattle.zt_region.specs.declared.region.Bound.TheVariants.{South as SouthBound}
 use Rattle.zt_region.specs.declared.region.Region.{Region}
 use Rattle.zt_region.specs.declared.region.WhatAmI.{WhatAmI}
-use Rattle.zt_region.specs.declared.region.WhatAmI.TheVariants.{Router, Peer, Client}
 use Rattle.zt_region.specs.declared.region.Zid.{Zid}
-use Rattle.zt_region.specs.Region.{bound_eq, is_north, whatami_eq}
+use Rattle.zt_region.specs.Region.{is_north}
 use Rattle.zt_protocol.specs.Plain.{PlainCall, NewSession, NewTransport, DeclareToken, UndeclareToken, Interest, InterestFinal, DeclareFinal, CloseFace, Expire, SetTrees, SetEntities, PlainLine}
 use Rattle.zt_protocol.specs.declared.entries.Sent.{Sent}
 use Rattle.zt_protocol.specs.declared.interests.InterestMode.TheVariants.{CurrentFuture}
@@ -22,10 +20,10 @@ use Rattle.zt_model.specs.Hearing.{heard, heard_all, messages_for, rows_heard}
 use Rattle.zt_model.specs.Linking.{LinkEnd, end_call, end_region, link_ends}
 use Rattle.zt_model.specs.Lists.{in_key_order, nth}
 use Rattle.zt_model.specs.Promises.{SendsUpstream, Turn, calls_in, interests_due, interests_in, printed, turns_from}
-use Rattle.zt_model.specs.Routing.{face_opened, held_south, interest_order, is_target, is_target_of, opened}
+use Rattle.zt_model.specs.Routing.{face_opened, held_south, interest_order, is_target, leads_up, opened}
 use Rattle.zt_model.specs.Rows.{ById, Face, InterestRow, Rows}
 use Rattle.zt_model.specs.Says.{altered, altered_by, find_face, parts_of, said}
-use Rattle.zt_model.specs.Shown.{interest_kept, rows_shown}
+use Rattle.zt_model.specs.Shown.{interest_kept, rows_shown, with_new_transport}
 use Rattle.zt_model.specs.Transcript.{Each, openings, with_opening}
 use Rattle.zt_laws.specs.Order.{FabricIsInOrder}
 use Rattle.zt_laws.specs.Shown.{as_shown, call_shown, node_shown, without_own}
@@ -40,6 +38,7 @@ use Rattle.zt_laws.proofs.Lists.{by_test, each_always, each_append, each_both, e
 use Rattle.zt_laws.proofs.Numbered.{each_from_at, each_from_nth, nth_real}
 use Rattle.zt_laws.proofs.PartsOrder.{each_of_map}
 use Rattle.zt_laws.proofs.Places.{placed_new, placed_still}
+use Rattle.zt_laws.proofs.ShownRows.{opened_is_made}
 use Rattle.zt_laws.proofs.Sorting.{printed as printed_at, sorted_each}
 use Rattle.zt_laws.proofs.Unlinking.{closing_case, each_from_always, each_from_both}
 use Rattle.zt_laws.proofs.Visible.{flat_map_map}
@@ -80,11 +79,6 @@ module _ {K : Type 0} (cmp : K → K → Ordering) (matching : K → K → Bool)
   unfolding held_south is_target
   due_shown j f n g (Interest k id mode options e) = ap (λ is. if not (j == n) then [] else is) (cases (find_face k g) (find_face f.number g))
     where
-      target : (w : WhatAmI) (asker : Region) (h : Face K) → is_target_of w (without_own g) mode h ≡ is_target_of w g mode h
-      target Client asker h = refl
-      target Peer asker h = refl
-      target Router asker h = refl
-
       Kept : Face K → InterestRow K
       Kept from = interest_kept from mode options e
 
@@ -93,7 +87,7 @@ module _ {K : Type 0} (cmp : K → K → Ordering) (matching : K → K → Bool)
           ≡ elim o [ None ↦ [] | Some from ↦ elim p [ None ↦ [] | Some h ↦ if is_target g from.region mode h then Kept from ∷ [] else [] ] ]
       cases None p = refl
       cases (Some from) None = refl
-      cases (Some from) (Some h) = ap (λ b. if not (is_north from.region) && (is_north h.region && b) then Kept from ∷ [] else []) (target g.mode from.region h)
+      cases (Some from) (Some h) = refl
   due_shown j f n g (NewSession first) = refl
   due_shown j f n g (NewTransport zid whatami region bound first) = refl
   due_shown j f n g (DeclareToken k id e nd interest) = refl
@@ -163,13 +157,26 @@ module _ {K : Type 0} (cmp : K → K → Ordering) (matching : K → K → Bool)
   view_opened : (total : IsTotalOrder cmp) (zid : Zid) (whatami : WhatAmI) (region : Region) (bound : Bound) (first : ℕ) (node : Node K) → view (record node { rows = opened zid whatami region bound first node.rows }) ≡ with_made (view node)
   view_opened total zid whatami region bound first node = ap (λ is. (node.rows.mode, node.rows.made + 1, is)) (held_opened cmp matching total (face_opened zid whatami region bound first node.rows) node.rows refl)
 
+  -- and so as a transcript shows it
+  view_made : (total : IsTotalOrder cmp) (zid : Zid) (whatami : WhatAmI) (region : Region) (bound : Bound) (first : ℕ) (node : Node K) → view (record node { rows = with_new_transport zid whatami region bound first node.rows }) ≡ with_made (view node)
+  view_made total zid whatami region bound first node =
+      ap (λ (g : Rows K). view (record node { rows = g })) (sym (opened_is_made zid whatami region bound first node.rows)) ∙ view_opened total zid whatami region bound first node
+
+  views_with : (change : Rows K → Rows K) → ((node : Node K) → view (record node { rows = change node.rows }) ≡ with_made (view node)) → (n : ℕ) (gs : List (Node K))
+      → map view (at_nth n (λ (x : Node K). record x { rows = change x.rows }) gs) ≡ at_nth n with_made (map view gs)
+  views_with change makes n [] = refl
+  views_with change makes n (x ∷ gs) =
+      by_test (n == 1)
+      (λ here. rw here (ap (λ v. v ∷ map view gs) (makes x)))
+      (λ here. rw here (ap (λ vs. view x ∷ vs) (views_with change makes (n - 1) gs)))
+
   views_opened : (total : IsTotalOrder cmp) (zid : Zid) (whatami : WhatAmI) (region : Region) (bound : Bound) (first n : ℕ) (gs : List (Node K))
       → map view (at_nth n (λ (x : Node K). record x { rows = opened zid whatami region bound first x.rows }) gs) ≡ at_nth n with_made (map view gs)
-  views_opened total zid whatami region bound first n [] = refl
-  views_opened total zid whatami region bound first n (x ∷ gs) =
-      by_test (n == 1)
-      (λ here. rw here (ap (λ v. v ∷ map view gs) (view_opened total zid whatami region bound first x)))
-      (λ here. rw here (ap (λ vs. view x ∷ vs) (views_opened total zid whatami region bound first (n - 1) gs)))
+  views_opened total zid whatami region bound first n gs = views_with (opened zid whatami region bound first) (view_opened total zid whatami region bound first) n gs
+
+  views_made : (total : IsTotalOrder cmp) (zid : Zid) (whatami : WhatAmI) (region : Region) (bound : Bound) (first n : ℕ) (gs : List (Node K))
+      → map view (at_nth n (λ (x : Node K). record x { rows = with_new_transport zid whatami region bound first x.rows }) gs) ≡ at_nth n with_made (map view gs)
+  views_made total zid whatami region bound first n gs = views_with (with_new_transport zid whatami region bound first) (view_made total zid whatami region bound first) n gs
 
   -- the calls at the ends of links, with their gateways
   calling : LinkEnd K → ℕ × Option (PlainCall K)
@@ -179,7 +186,7 @@ module _ {K : Type 0} (cmp : K → K → Ordering) (matching : K → K → Bool)
   Callings ends = map calling ends
 
   abbrev due_by_view : ℕ → Face K → ℕ → View → List (InterestRow K)
-  due_by_view j f n v = if not (j == n) then [] else (if f.number == v.1 + 1 then (if (is_north f.region && not (whatami_eq v.0 Router)) && bound_eq f.bound SouthBound then v.2 else []) else [])
+  due_by_view j f n v = if not (j == n) then [] else (if f.number == v.1 + 1 then (if leads_up v.0 f then v.2 else []) else [])
 
   abbrev dues : ℕ → Face K → List (CallAt K) → List (InterestRow K)
   dues j f calls = flat_map (interests_due cmp matching j f) calls
@@ -210,7 +217,7 @@ module _ {K : Type 0} (cmp : K → K → Ordering) (matching : K → K → Bool)
       cases (Some x) (Some y) is =
           let same_ : view x ≡ view y = cc in (
             ap (λ v. due_by_view j f n v ++ []) same_,
-            views_opened total zid whatami region bound first n X.gateways ∙ ap (at_nth n with_made) alike ∙ sym (views_opened total zid whatami region bound first n Y.gateways),
+            views_made total zid whatami region bound first n X.gateways ∙ ap (at_nth n with_made) alike ∙ sym (views_made total zid whatami region bound first n Y.gateways),
           )
 
   openings_alike : (total : IsTotalOrder cmp) (j : ℕ) (f : Face K) (ends others : List (LinkEnd K)) (X Y : Fabric K) → Callings ends ≡ Callings others → Views X ≡ Views Y → dues j f (openings cmp matching ends X) ≡ dues j f (openings cmp matching others Y)
@@ -499,7 +506,8 @@ module _ {K : Type 0} (cmp : K → K → Ordering) (matching : K → K → Bool)
     unfolding rows_shown parts_of altered_by
     opened_views end X =
         by_end cmp matching (λ c. (let at : Option (CallAt K) = elim c [ None ↦ None | Some call ↦ call_at X end.gateway call ] in Views (opened_at cmp matching at X) ≡ Views (with_opening cmp matching at X))) end refl
-        (λ zid whatami region bound. called_at (λ at. Views (opened_at cmp matching at X) ≡ Views (with_opening cmp matching at X)) X end.gateway (NewTransport zid whatami region bound end.first) refl (λ node at_. refl))
+        (λ zid whatami region bound. called_at (λ at. Views (opened_at cmp matching at X) ≡ Views (with_opening cmp matching at X)) X end.gateway (NewTransport zid whatami region bound end.first) refl
+        (λ node at_. views_opened total zid whatami region bound end.first end.gateway X.gateways ∙ sym (views_made total zid whatami region bound end.first end.gateway X.gateways)))
 
     -- both ends are opened, and are sent what is due
     ends_due : (ends : List (LinkEnd K)) (X : Fabric K) → Each (λ end. 1 ≤ end.first) ends → FabricIsInOrder cmp matching X
