@@ -14,7 +14,6 @@ use Rattle.zt_protocol.specs.declared.errors.Refusal.TheVariants as refusal
 use Rattle.zt_model.specs.Fabric.{Fabric, entry_by, entry_of, fabric_after, line_causes, line_spends_ids, said_by_line, sorted_by_face}
 use Rattle.zt_model.specs.Refusals.{first_cause}
 use Rattle.zt_laws.specs.Order.{FabricIsInOrder}
-use Rattle.zt_laws.proofs.Calls.{no_cause}
 use Rattle.zt_laws.proofs.Lists.{never}
 use Rattle.zt_theorem_tree_invariant.specs.Facts.{JointAgrees, TreesAgree}
 use Rattle.zt_theorem_tree_invariant.specs.Joints.{EachJoint, changes_no_link}

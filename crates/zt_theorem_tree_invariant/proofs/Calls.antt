@@ -11,12 +11,12 @@ use Rattle.zt_protocol.specs.declared.messages.Message.TheVariants as message
 use Rattle.zt_protocol.specs.declared.messages.QueryableInfo.{QueryableInfo}
 use Rattle.zt_model.specs.Closing.{closing, is_expired, leaving, without_asks, without_face}
 use Rattle.zt_model.specs.Entities.{entity_expressions, with_numbers}
+use Rattle.zt_model.specs.Hat.{hat_of}
 use Rattle.zt_model.specs.Lists.{at_id, first_where, has_id}
 use Rattle.zt_model.specs.Parts.{Alter, Part, Say, find_face, is_routed, to_each, unsaid_to, with_face}
 use Rattle.zt_model.specs.Routing.{ended, ending, finalising, finishing}
 use Rattle.zt_model.specs.Rows.{Face, InterestRow, Pending, Rows}
 use Rattle.zt_model.specs.Says.{declaring_of, finalising_held, forget, hiding_undeclared, parts_of, undeclaring_of}
-use Rattle.zt_model.specs.Strategy.{is_router_hat, strategy_of}
 use Rattle.zt_model.specs.Telling.{answering, declaring, registers, undeclaring}
 use Rattle.zt_model.specs.Transcript.{Each}
 use Rattle.zt_model.specs.Trees.{counted_table, forgetting, greet_to, hiding, is_child, left_out, routed_expressions, routers_in_order, showing, source_of, table_of}
@@ -173,7 +173,7 @@ module _ {K : Type 0} (cmp : K → K → Ordering) (matching : K → K → Bool)
     tt,
   )
 
-  pub trees_fine : (region : Region) (t : Trees) → is_router_hat (strategy_of mode region) ≡ true → (g : Rows K) → Each Fine (parts_of cmp matching (SetTrees region t) g)
+  pub trees_fine : (region : Region) (t : Trees) → (hat_of mode region).goes_by_trees ≡ true → (g : Rows K) → Each Fine (parts_of cmp matching (SetTrees region t) g)
   unfolding parts_of greet_to
   trees_fine region t router g =
       let counted = counted_table t in (
@@ -187,7 +187,7 @@ module _ {K : Type 0} (cmp : K → K → Ordering) (matching : K → K → Bool)
                     let apart : region_eq f.region region ≡ false = by_test (region_eq f.region region)
                     (λ here.
                     let is : f.region ≡ region = region_eq-same f.region region here in
-                    let hat : is_router_hat (strategy_of h.mode f.region) ≡ true = ap (λ m. is_router_hat (strategy_of m f.region)) inside.1 ∙ ap (λ r. is_router_hat (strategy_of mode r)) is ∙ router in
+                    let hat : (hat_of h.mode f.region).goes_by_trees ≡ true = ap (λ m. (hat_of m f.region).goes_by_trees) inside.1 ∙ ap (λ r. (hat_of mode r).goes_by_trees) is ∙ router in
                     never hat (is_no_router h f face))
                     (λ e. e) in
                     subst (λ ms. SaidWell cmp up ms f.told f.asks) (sym (sent_each cmp matching p (greet_to cmp h region (table_of g region)) h f inside.0.rises found ∙ nothing h f apart (routers_in_order cmp (table_of h region)))) tt),

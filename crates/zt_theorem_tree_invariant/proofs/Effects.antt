@@ -19,19 +19,20 @@ use Rattle.zt_protocol.specs.declared.messages.Message.{Message}
 use Rattle.zt_protocol.specs.declared.messages.Message.TheVariants as message
 use Rattle.zt_protocol.specs.declared.messages.QueryableInfo.{QueryableInfo}
 use Rattle.zt_model.specs.Entities.{aggregate_of, all_merged, entities_for, info_of, matching_queryables, matching_subscribers, numbered_by, queryable_of, queryables_for, subscriber_of, subscribers_for, with_numbers}
+use Rattle.zt_model.specs.Hat.{hat_of}
 use Rattle.zt_model.specs.Hearing.{heard_all, messages_for, rows_heard}
 use Rattle.zt_model.specs.Lists.{at_id, first_of, first_where, has_id, in_key_order}
 use Rattle.zt_model.specs.Parts.{Alter, Part, Say, Sends, altered_by, find_face, is_routed, said_by, to_each, to_face, with_face}
-use Rattle.zt_model.specs.Routing.{asked_as, ended, finalising, finishing, initial_finalised, is_target, route_to, sent_as, unheld}
+use Rattle.zt_model.specs.Routing.{asked_as, ended, finalising, finishing, initial_finalised, is_asked, is_target, route_to, sent_as, unheld}
 use Rattle.zt_model.specs.Rows.{Ask, ById, Face, InterestRow, Rows}
 use Rattle.zt_model.specs.Says.{altered, answers_of, asking, forget, declaring_of, finalising_held, final_of, hiding_undeclared, parts_of, row_of, said, undeclaring_of}
-use Rattle.zt_model.specs.Strategy.{is_router_hat, strategy_of}
 use Rattle.zt_model.specs.Telling.{answering, declaring, registered, registers, undeclared, undeclaring, unregistered}
 use Rattle.zt_model.specs.Transcript.{Each}
 use Rattle.zt_model.specs.Trees.{hiding, is_newly_shown, router_regions, showing, source_of, with_own_rows, with_routed, without_own_rows}
 use Rattle.zt_model.specs.Wants.{kept_options}
+use Rattle.zt_model.proofs.Hats.{asked_north}
 use Rattle.zt_laws.proofs.Hearing.{find_each, messages_for-append, messages_for_own}
-use Rattle.zt_laws.proofs.Lists.{by_test, each_always, each_append, each_map, of_cond}
+use Rattle.zt_laws.proofs.Lists.{by_test, each_always, each_append, each_map, never, of_cond}
 use Rattle.zt_laws.proofs.PartsOrder.{each_flat_map}
 use Rattle.zt_theorem_tree_invariant.specs.Facts.{IsTreeFace, tokens_after}
 use Rattle.zt_theorem_tree_invariant.proofs.Calls.{close_fine, declare_fine, entities_fine, expire_fine, final_fine, finish_fine, trees_fine, undeclare_fine}
@@ -120,7 +121,7 @@ module _ {K : Type 0} (cmp : K → K → Ordering) (matching : K → K → Bool)
       hears_by_parts (SetEntities k subscribers queryables) g p (p + 1) f (next_apart p) rows found
       (entities_fine cmp matching p (p + 1) (is_north f.region) Unmoved unmoved_itself unmoved_trans unmoved_ear (λ is f h same_. absurd (next_apart p is)) ended_unmoved g.mode k subscribers queryables (entities_unmoved subscribers queryables) g)
 
-  pub any_trees : (region : Region) (t : Trees) (g : Rows K) (p : ℕ) (f : Face K) → is_router_hat (strategy_of g.mode region) ≡ true → TreeRows cmp g → find_face p g ≡ Some f → Hears (SetTrees region t) g p f
+  pub any_trees : (region : Region) (t : Trees) (g : Rows K) (p : ℕ) (f : Face K) → (hat_of g.mode region).goes_by_trees ≡ true → TreeRows cmp g → find_face p g ≡ Some f → Hears (SetTrees region t) g p f
   any_trees region t g p f router rows found =
       hears_by_parts (SetTrees region t) g p (p + 1) f (next_apart p) rows found
       (trees_fine cmp matching p (p + 1) (is_north f.region) Unmoved unmoved_itself unmoved_trans unmoved_ear (λ is f h same_. absurd (next_apart p is)) ended_unmoved g.mode region t router g)
@@ -348,7 +349,10 @@ module _ {K : Type 0} (cmp : K → K → Ordering) (matching : K → K → Bool)
 
   no_route : (g : Rows K) (asker : Region) (i : InterestRow K) (f : Face K) → is_north f.region ≡ false → route_to g asker i f ≡ []
   unfolding route_to is_target
-  no_route g asker i f down = rw down (nothing (not (is_north asker)))
+  no_route g asker i f down =
+      by_test (is_asked g i.mode f)
+      (λ asked. never (asked_north g i.mode f asked) down)
+      (λ misses. rw misses (nothing (not (is_north asker))))
     where
       nothing : (b : Bool) → (if b && false then message.Interest f.next i.mode i.options i.expr ∷ [] else []) ≡ []
       nothing true = refl

@@ -1,17 +1,16 @@
 -- A link that opens: its two new faces agree once the lower one has heard what is said to it.
-use Rattle.std.proofs.Common.{◌≡◌, ℕ, ◌+◌, ◌≤◌, ◌<◌, Bool, true, false, if◌then◌else◌, ◌&&◌, ◌==◌, List, [], ◌∷◌, ◌++◌, map, Option, Some, None, refl, sym, ap, ◌∙◌, subst, arith, eq-eqb, ne_eqb}
+use Rattle.std.proofs.Common.{◌≡◌, ℕ, ◌+◌, ◌≤◌, ◌<◌, Bool, true, false, if◌then◌else◌, ◌==◌, List, [], ◌∷◌, ◌++◌, map, Option, Some, None, refl, sym, ap, ◌∙◌, subst, arith, eq-eqb, ne_eqb}
 use Rattle.std.specs.Cmp.{IsTotalOrder}
 use Rattle.std.specs.FinMap.Entries.{by_order}
 use Rattle.std.specs.List.{flat_map}
 use Rattle.std.specs.declared.cmp.Ordering.{Ordering}
 use Rattle.std.specs.declared.cmp.Ordering.TheVariants.{Less, Equal, Greater}
 use Rattle.zt_region.specs.declared.region.Bound.{Bound}
-use Rattle.zt_region.specs.declared.region.Bound.TheVariants.{North as NorthBound, South as SouthBound}
 use Rattle.zt_region.specs.declared.region.Region.TheVariants.{North}
 use Rattle.zt_region.specs.declared.region.WhatAmI.{WhatAmI}
-use Rattle.zt_region.specs.declared.region.WhatAmI.TheVariants.{Peer, Client}
+use Rattle.zt_region.specs.declared.region.WhatAmI.TheVariants.{Client}
 use Rattle.zt_region.specs.declared.region.Zid.{Zid}
-use Rattle.zt_region.specs.Region.{bound_eq, is_north, whatami_eq}
+use Rattle.zt_region.specs.Region.{is_north}
 use Rattle.zt_protocol.specs.Plain.{PlainCall, NewTransport}
 use Rattle.zt_protocol.specs.declared.interests.InterestMode.TheVariants.{CurrentFuture}
 use Rattle.zt_protocol.specs.declared.messages.Message.{Message}
@@ -19,7 +18,7 @@ use Rattle.zt_protocol.specs.declared.messages.Message.TheVariants as message
 use Rattle.zt_model.specs.Hearing.{heard, heard_all, messages_for, rows_heard}
 use Rattle.zt_model.specs.Lists.{first_where, in_key_order, with_key}
 use Rattle.zt_model.specs.Parts.{Sends, altered_by, find_face, said_by, to_face}
-use Rattle.zt_model.specs.Routing.{face_opened, held_south, interest_order, interests_from, is_greeted, opened, opening_final, opening_interests, opening_tokens, tokens_from}
+use Rattle.zt_model.specs.Routing.{face_opened, held_south, interest_order, initial_of, interests_from, leads_up, opened, opening_final, opening_interests, opening_tokens, tokens_from}
 use Rattle.zt_model.specs.Rows.{Face, InterestRow, Rows}
 use Rattle.zt_model.specs.Says.{altered, parts_of, said}
 use Rattle.zt_model.specs.Transcript.{Each}
@@ -139,7 +138,7 @@ module _ {K : Type 0} (cmp : K → K → Ordering) (matching : K → K → Bool)
       let f3 = heard_all cmp two.moment (messages_for k tokens) f2 in
       let found3 : find_face k three ≡ Some f3 = find_heard_at cmp tokens two k f2 found2 in
       let finals = to_face k (opening_final cmp matching) three in
-      let none_ : f3.initial ≡ None = initial_still two.moment (messages_for k tokens) f2 ∙ initial_still one.moment (messages_for k interests) f ∙ ap (λ m. (if whatami_eq m Peer && (true && bound_eq bound NorthBound) then Some false else None)) client in
+      let none_ : f3.initial ≡ None = initial_still two.moment (messages_for k tokens) f2 ∙ initial_still one.moment (messages_for k interests) f ∙ ap (λ m. initial_of m North bound) client in
       let is1 = sent_own k (λ f. interests_from f.next (opening_interests cmp matching one f)) one f found1 in
       let is2 = sent_own k (λ f. tokens_from f.next (opening_tokens cmp matching two f)) two f2 found2 in
       let is3 = sent_own k (opening_final cmp matching) three f3 found3 ∙ ap (λ (o : Option Bool). (let ms : List (Message K) = elim o [ None ↦ [] | Some x ↦ message.DeclareFinal 0 ∷ [] ] in ms)) none_ in
@@ -153,7 +152,7 @@ module _ {K : Type 0} (cmp : K → K → Ordering) (matching : K → K → Bool)
         found1,
         subst (Each (IsPlainlyWell cmp true)) (sym all)
             (each_append (IsPlainlyWell cmp true) (interests_from f.next (opening_interests cmp matching one f)) (tokens_from f2.next (opening_tokens cmp matching two f2) ++ ([] ++ messages_for k []))
-            (interests_plain f.next (opening_interests cmp matching one f) (of_cond (Each (λ (i : InterestRow K). kept_options Client i.options ≡ i.options)) (is_greeted cmp matching one f && bound_eq f.bound SouthBound) (held_south cmp matching one) [] (λ _. held_here one) (λ _. tt)))
+            (interests_plain f.next (opening_interests cmp matching one f) (of_cond (Each (λ (i : InterestRow K). kept_options Client i.options ≡ i.options)) (leads_up one.mode f) (held_south cmp matching one) [] (λ _. held_here one) (λ _. tt)))
             (each_append (IsPlainlyWell cmp true) (tokens_from f2.next (opening_tokens cmp matching two f2)) ([] ++ messages_for k []) (tokens_plain f2.next (opening_tokens cmp matching two f2)) (nothing k))),
       )
     where

@@ -7,27 +7,30 @@ use Rattle.std.specs.declared.cmp.Ordering.TheVariants.{Less, Equal, Greater}
 use Rattle.std.specs.Ordering.{is_eq, nat_cmp, ordering_then}
 use Rattle.std.proofs.lemmas.Cmp.{ranked}
 use Rattle.zt_region.specs.declared.region.Region.{Region}
-use Rattle.zt_region.specs.declared.region.Region.TheVariants.{North, Local, South}
+use Rattle.zt_region.specs.declared.region.Region.TheVariants.{North}
 use Rattle.zt_region.specs.declared.region.WhatAmI.{WhatAmI}
-use Rattle.zt_region.specs.declared.region.WhatAmI.TheVariants.{Router, Peer, Client}
-use Rattle.zt_region.specs.Region.{is_north, region_eq-same}
+use Rattle.zt_region.specs.declared.region.WhatAmI.TheVariants.{Client}
+use Rattle.zt_region.specs.Region.{is_north, region_eq, region_eq-same}
 use Rattle.zt_protocol.specs.Interest.{is_current, is_future, has_tokens}
 use Rattle.zt_model.specs.Fabric.{Fabric, Node}
+use Rattle.zt_model.specs.Hat.{hat}
 use Rattle.zt_model.specs.Lists.{is_some_and, nth, same}
 use Rattle.zt_model.specs.Routing.{asks_same, expression_order}
 use Rattle.zt_model.specs.Rows.{ById, Face, InterestRow, Rows}
-use Rattle.zt_model.specs.Strategy.{is_broker, is_router_hat, strategy_of}
+use Rattle.zt_model.specs.Strategy.{Strategy, BrokerHat, ClientHat, PeerHat, RouterHat, strategy_of}
 use Rattle.zt_model.specs.Linking.{is_end_of}
 use Rattle.zt_model.specs.Parts.{find_face, is_routed}
 use Rattle.zt_model.specs.Transcript.{Each, FaceAt, face_numbered}
 use Rattle.zt_model.specs.TreePromises.{IsInTree, Itself, Beyond, IsPlainlyLive, IsTreeFabric, KnowsItsTree, LeadsUpByLink, ServesClients, are_links_empty, is_plain_number}
 use Rattle.zt_model.specs.Visible.{keeps, shows}
 use Rattle.zt_model.specs.Wants.{asks_token, covers, is_about}
+use Rattle.zt_model.proofs.Hats.{covers_is, shares_tokens_by_region, shows_others}
 use Rattle.zt_laws.specs.Keeping.{AllKeepRight, FacesKeepRight, KeepsRight}
 use Rattle.zt_laws.specs.Order.{FabricIsInOrder}
 use Rattle.zt_laws.proofs.Hearing.{find_each}
 use Rattle.zt_laws.proofs.Keys.{is_equal}
 use Rattle.zt_laws.proofs.Lists.{any-filter, any_from_filter, any_member, any_weaker, by_test, never}
+use Rattle.zt_laws.proofs.Seen.{owed_is}
 use Rattle.zt_theorem_tree_invariant.specs.Facts.{AsksAbove, IsTreeFace, IsTreeGateway, TreesAgree, token_interests}
 use Rattle.zt_theorem_tree_invariant.specs.Joints.{are_joined}
 use Rattle.zt_theorem_tree_invariant.proofs.Climbing.{IsUnder, Same, StepUp, Up, any_found, at_gateway, is_at_its, joint_links, meet_at, walk}
@@ -35,26 +38,26 @@ use Rattle.zt_theorem_tree_invariant.proofs.Members.{each_gateway_nth, each_nth,
 use Rattle.zt_theorem_tree_invariant.proofs.Quiet.{IsQuiet, admitted_if_visible, gateway_of, is_live, is_shown_by, joined_back, quiet_joint, visible_by_faces}
 
 -- a north-bound face is shown what stands elsewhere, and any other all
-north_shows : (region own : Region) → is_north own ≡ true → shows own region ≡ true → is_north region ≡ false
-north_shows region own up shown =
+north_shows : (mode : WhatAmI) (region own : Region) → is_north own ≡ true → shows mode own region ≡ true → is_north region ≡ false
+north_shows mode region own up shown =
     let own_is : own ≡ North = region_eq-same own North up in
-    by_test (is_north region) (λ here. never (subst (λ r. shows r region ≡ true) own_is shown) (rw here refl)) (λ h. h)
+    by_test (is_north region) (λ here. never (subst (λ r. shows mode r region ≡ true) own_is shown) (rw (shares_tokens_by_region mode Client North, here) refl)) (λ h. h)
 
-shows_north : (region own : Region) → is_north own ≡ true → is_north region ≡ false → shows own region ≡ true
-shows_north region own up elsewhere = let own_is : own ≡ North = region_eq-same own North up in subst (λ r. shows r region ≡ true) (sym own_is) (rw elsewhere refl)
+shows_north : (mode : WhatAmI) (region own : Region) → is_north own ≡ true → is_north region ≡ false → shows mode own region ≡ true
+shows_north mode region own up elsewhere = shows_others mode own region (ap (region_eq region) (region_eq-same own North up) ∙ elsewhere)
 
 pub is_no_router : {K : Type 0} (g : Rows K) (f : Face K) → IsTreeFace g.mode f → is_routed g f ≡ false
 is_no_router g f face =
     by_test (is_north f.region)
     (λ up. let leads = face.up up in rw (leads.own, region_eq-same f.region North up) refl)
-    (λ down. broker g.mode f.region (face.down down).broker)
+    (λ down. goes_without (strategy_of g.mode f.region) (face.down down).shares)
   where
-    broker : (mode : WhatAmI) (r : Region) → is_broker r ≡ true → is_router_hat (strategy_of mode r) ≡ false
-    broker mode North own = cc
-    broker mode Local own = refl
-    broker mode (South id Client) own = refl
-    broker mode (South id Peer) own = cc
-    broker mode (South id Router) own = cc
+    -- the hat whose faces are shown each other's tokens goes by no trees
+    goes_without : (s : Strategy) → (hat s).shares_tokens ≡ true → (hat s).goes_by_trees ≡ false
+    goes_without BrokerHat shares = refl
+    goes_without ClientHat shares = refl
+    goes_without PeerHat shares = refl
+    goes_without RouterHat shares = cc
 
 -- interests that ask for the same are about the same expressions
 module _ {K : Type 0} (cmp : K → K → Ordering) (matching : K → K → Bool) (equal_is_same : (a b : K) → cmp a b ≡ Equal → a ≡ b) where
@@ -115,7 +118,7 @@ module _ {K : Type 0} (cmp : K → K → Ordering) (matching : K → K → Bool)
   kept_lives k x e found kept =
       let here = known k x found in
       let seen = sym (visible_by_faces cmp x.rows x.face.region e here.gateway.own_rows) ∙ here.keeps_.kept_is_visible e kept in
-      (here.node, here.node_is, any_weaker (is_shown_by cmp x.face.region e) (is_live cmp e) (λ f h. (and_parts (is_live cmp e f) (shows x.face.region f.region) h).0) here.node.rows.faces (rw (here.rows_are) seen))
+      (here.node, here.node_is, any_weaker (is_shown_by cmp x.rows.mode x.face.region e) (is_live cmp e) (λ f h. (and_parts (is_live cmp e f) (shows x.rows.mode x.face.region f.region) h).0) here.node.rows.faces (rw (here.rows_are) seen))
 
   kept_lives_below : (k : ℕ) (x : FaceAt K) (e : K) → face_numbered s k ≡ Some x → is_north x.face.region ≡ true → keeps cmp x.face e ≡ true → LivesBelow x.gateway e
   kept_lives_below k x e found up kept =
@@ -123,8 +126,8 @@ module _ {K : Type 0} (cmp : K → K → Ordering) (matching : K → K → Bool)
       let seen = sym (visible_by_faces cmp x.rows x.face.region e here.gateway.own_rows) ∙ here.keeps_.kept_is_visible e kept in (
         here.node,
         here.node_is,
-        any_weaker (is_shown_by cmp x.face.region e) (λ f. not (is_north f.region) && is_live cmp e f)
-            (λ f h. let parts = and_parts (is_live cmp e f) (shows x.face.region f.region) h in and_from (not (is_north f.region)) (is_live cmp e f) (rw (north_shows f.region x.face.region up parts.1) refl) parts.0)
+        any_weaker (is_shown_by cmp x.rows.mode x.face.region e) (λ f. not (is_north f.region) && is_live cmp e f)
+            (λ f h. let parts = and_parts (is_live cmp e f) (shows x.rows.mode x.face.region f.region) h in and_from (not (is_north f.region)) (is_live cmp e f) (rw (north_shows x.rows.mode f.region x.face.region up parts.1) refl) parts.0)
             here.node.rows.faces (rw (here.rows_are) seen),
       )
 
@@ -231,14 +234,14 @@ module _ {K : Type 0} (cmp : K → K → Ordering) (matching : K → K → Bool)
   quiet_step b c step = quiet_joint cmp matching s step.a step.b step.x step.y agree quiet step.joined step.x_is step.y_is step.up
 
   -- a face keeps what it covers and sees
-  keeps_what_lives : (k : ℕ) (x : FaceAt K) (e : K) → face_numbered s k ≡ Some x → covers matching x.face e ≡ true → list_any (is_shown_by cmp x.face.region e) x.rows.faces ≡ true → keeps cmp x.face e ≡ true
+  keeps_what_lives : (k : ℕ) (x : FaceAt K) (e : K) → face_numbered s k ≡ Some x → covers matching x.rows.mode x.face e ≡ true → list_any (is_shown_by cmp x.rows.mode x.face.region e) x.rows.faces ≡ true → keeps cmp x.face e ≡ true
   keeps_what_lives k x e found covered some =
       let here = known k x found in
       here.keeps_.admitted_is_kept e (admitted_if_visible cmp x.rows x.face.region e here.refused (visible_by_faces cmp x.rows x.face.region e here.gateway.own_rows ∙ some)) covered
 
   -- a face that leads down is shown all
-  shown_all : (k : ℕ) (x : FaceAt K) (region : Region) → face_numbered s k ≡ Some x → is_north x.face.region ≡ false → shows x.face.region region ≡ true
-  shown_all k x region found down = rw (((known k x found).face.down down).broker) refl
+  shown_all : (k : ℕ) (x : FaceAt K) (region : Region) → face_numbered s k ≡ Some x → is_north x.face.region ≡ false → shows x.rows.mode x.face.region region ≡ true
+  shown_all k x region found down = rw (((known k x found).face.down down).shares) refl
 
   same_node : (n : ℕ) (one two : Node K) → nth n s.gateways ≡ Some one → nth n s.gateways ≡ Some two → one ≡ two
   same_node n one two one_is two_is = let e : Some one ≡ Some two = sym one_is ∙ two_is in cc
@@ -259,13 +262,12 @@ module _ {K : Type 0} (cmp : K → K → Ordering) (matching : K → K → Bool)
 
   -- what is live below stays so on the way up
   step_lives : (b c : ℕ) (e : K) → StepUp s b c → LivesBelow b e → LivesBelow c e
-  unfolding covers
   step_lives b c e step lives_ =
-      let some : list_any (is_shown_by cmp step.x.face.region e) step.x.rows.faces ≡ true =
-      any_weaker (λ f. not (is_north f.region) && is_live cmp e f) (is_shown_by cmp step.x.face.region e)
-      (λ f h. let parts = and_parts (not (is_north f.region)) (is_live cmp e f) h in and_from (is_live cmp e f) (shows step.x.face.region f.region) parts.1 (shows_north f.region step.x.face.region step.up (not_true parts.0)))
+      let some : list_any (is_shown_by cmp step.x.rows.mode step.x.face.region e) step.x.rows.faces ≡ true =
+      any_weaker (λ f. not (is_north f.region) && is_live cmp e f) (is_shown_by cmp step.x.rows.mode step.x.face.region e)
+      (λ f h. let parts = and_parts (not (is_north f.region)) (is_live cmp e f) h in and_from (is_live cmp e f) (shows step.x.rows.mode step.x.face.region f.region) parts.1 (shows_north step.x.rows.mode f.region step.x.face.region step.up (not_true parts.0)))
       step.x.rows.faces (sym (faces_of step.a step.x (λ f. not (is_north f.region) && is_live cmp e f) b lives_.0 step.x_is step.start lives_.1) ∙ lives_.2) in
-      let kept = keeps_what_lives step.a step.x e step.x_is (or_left (is_north step.x.face.region) _ step.up) some in
+      let kept = keeps_what_lives step.a step.x e step.x_is (covers_is matching step.x.rows.mode step.x.face e ∙ or_left (is_north step.x.face.region) _ step.up) some in
       let live : is_live cmp e step.y.face ≡ true = ap (λ (rows : ById K). list_any (λ row. same cmp e row.1) rows) (quiet_step b c step).live_above ∙ kept in
       passes_at step.b step.y (λ f. not (is_north f.region) && is_live cmp e f) c step.y_is step.end_ (and_from (not (is_north step.y.face.region)) (is_live cmp e step.y.face) (ap not (upper_leads_down b c step)) live)
     where
@@ -327,10 +329,9 @@ module _ {K : Type 0} (cmp : K → K → Ordering) (matching : K → K → Bool)
 
     -- what is live at a gateway above reaches a face that covers it
     sinks : (g a : ℕ) (e : K) (k : ℕ) (z : FaceAt K) → face_numbered s k ≡ Some z → z.gateway ≡ g → is_north z.face.region ≡ false → list_any (asks_now e) z.face.held ≡ true → IsUnder s g a → LivesAt a e → keeps cmp z.face e ≡ true
-    unfolding covers
     sinks g a e k z found at_g down holds (Same h) lives_ =
-        keeps_what_lives k z e found (or_right (is_north z.face.region) _ holds)
-        (any_weaker (is_live cmp e) (is_shown_by cmp z.face.region e) (λ f h. and_from (is_live cmp e f) (shows z.face.region f.region) h (shown_all k z f.region found down)) z.rows.faces
+        keeps_what_lives k z e found (covers_is matching z.rows.mode z.face e ∙ or_right (is_north z.face.region) _ holds)
+        (any_weaker (is_live cmp e) (is_shown_by cmp z.rows.mode z.face.region e) (λ f h. and_from (is_live cmp e f) (shows z.rows.mode z.face.region f.region) h (shown_all k z f.region found down)) z.rows.faces
         (sym (faces_of k z (is_live cmp e) h lives_.0 found at_g lives_.1) ∙ lives_.2))
     sinks g a e k z found at_g down holds (Up h b c under step) lives_ =
         let y = step.y in
@@ -338,8 +339,8 @@ module _ {K : Type 0} (cmp : K → K → Ordering) (matching : K → K → Bool)
         let below : HoldsAt h e = passes_at k z (λ f. not (is_north f.region) && list_any (asks_now e) f.held) h found at_g (and_from (not (is_north z.face.region)) (list_any (asks_now e) z.face.held) (ap not down) holds) in
         let held = step_holds b c e step (climb_holds h b e under below) in
         let kept =
-        keeps_what_lives step.b y e step.y_is (or_right (is_north y.face.region) _ held)
-        (any_weaker (is_live cmp e) (is_shown_by cmp y.face.region e) (λ f live. and_from (is_live cmp e f) (shows y.face.region f.region) live (shown_all step.b y f.region step.y_is y_down)) y.rows.faces
+        keeps_what_lives step.b y e step.y_is (covers_is matching y.rows.mode y.face e ∙ or_right (is_north y.face.region) _ held)
+        (any_weaker (is_live cmp e) (is_shown_by cmp y.rows.mode y.face.region e) (λ f live. and_from (is_live cmp e f) (shows y.rows.mode y.face.region f.region) live (shown_all step.b y f.region step.y_is y_down)) y.rows.faces
         (sym (faces_of step.b y (is_live cmp e) c lives_.0 step.y_is step.end_ lives_.1) ∙ lives_.2)) in
         let live : is_live cmp e step.x.face ≡ true = ap (λ (rows : ById K). list_any (λ row. same cmp e row.1) rows) (quiet_step b c step).live_below ∙ kept in
         sinks h b e k z found at_g down holds under (passes_at step.a step.x (is_live cmp e) b step.x_is step.start live)
@@ -348,11 +349,10 @@ module _ {K : Type 0} (cmp : K → K → Ordering) (matching : K → K → Bool)
     plain_leads_down : (k : ℕ) (x : FaceAt K) → face_numbered s k ≡ Some x → is_plain_number s k ≡ true → is_north x.face.region ≡ false
     plain_leads_down k x found plain = by_test (is_north x.face.region) (λ up. let t : is_plain_number s k ≡ false = ap not (leads_up_by_link k x found up) in never plain t) (λ h. h)
 
-    pub plainly_live_is_kept : (k : ℕ) (x : FaceAt K) (e : K) → face_numbered s k ≡ Some x → is_plain_number s k ≡ true → covers matching x.face e ≡ true → IsPlainlyLive cmp matching s x.gateway e → keeps cmp x.face e ≡ true
-    unfolding covers
+    pub plainly_live_is_kept : (k : ℕ) (x : FaceAt K) (e : K) → face_numbered s k ≡ Some x → is_plain_number s k ≡ true → covers matching x.rows.mode x.face e ≡ true → IsPlainlyLive cmp matching s x.gateway e → keeps cmp x.face e ≡ true
     plainly_live_is_kept k x e found plain covered live =
         let down = plain_leads_down k x found plain in
-        let holds : list_any (asks_now e) x.face.held ≡ true = ⊎_elim (λ up. never up down) (λ h. h) (or_cases (is_north x.face.region) (list_any (asks_now e) x.face.held) covered) in
+        let holds : list_any (asks_now e) x.face.held ≡ true = ⊎_elim (λ up. never up down) (λ h. h) (or_cases (is_north x.face.region) (list_any (asks_now e) x.face.held) (sym (covers_is matching x.rows.mode x.face e) ∙ covered)) in
         let parts = and_parts (is_plain_number s live.face) _ live.live in
         at_live (face_numbered s live.face) refl parts.1
         (λ w w_is w_live.
@@ -368,9 +368,9 @@ module _ {K : Type 0} (cmp : K → K → Ordering) (matching : K → K → Bool)
         at_live None is h at_ = cc
         at_live (Some w) is h at_ = at_ w is h
 
-    -- A plain face keeps, of what it covers, exactly what is plainly live in its tree.
+    -- A plain face keeps, of what is owed to it, exactly what is plainly live in its tree.
     pub plain_face_knows : (k : ℕ) (x : FaceAt K) → face_numbered s k ≡ Some x → is_plain_number s k ≡ true → KnowsItsTree cmp matching s x.gateway x.face
     plain_face_knows k x found plain = record {
-      kept_is_live = λ e covered kept. kept_is_plainly_live k x e found kept;
-      live_is_kept = λ e covered live. plainly_live_is_kept k x e found plain covered live;
+      kept_is_live = λ e owed kept. kept_is_plainly_live k x e found kept;
+      live_is_kept = λ e owed live. plainly_live_is_kept k x e found plain (sym (owed_is matching x.rows.mode x.face e) ∙ owed) live;
     }

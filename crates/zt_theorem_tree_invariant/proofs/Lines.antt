@@ -4,20 +4,21 @@ use Rattle.std.proofs.lemmas.Bool.{and_from, and_parts, or_cases, or_left, or_ri
 use Rattle.std.specs.Cmp.{IsTotalOrder}
 use Rattle.std.specs.List.{list_any}
 use Rattle.std.specs.declared.cmp.Ordering.{Ordering}
-use Rattle.zt_region.specs.declared.region.WhatAmI.TheVariants.{Peer, Client}
-use Rattle.zt_region.specs.Region.{is_north, whatami_eq}
+use Rattle.zt_region.specs.declared.region.Region.TheVariants.{North}
+use Rattle.zt_region.specs.declared.region.WhatAmI.TheVariants.{Client}
+use Rattle.zt_region.specs.Region.{is_north, region_eq-same}
 use Rattle.zt_protocol.specs.Plain.{PlainCall, NewSession, NewTransport, DeclareToken, UndeclareToken, Interest, InterestFinal, DeclareFinal, CloseFace, Expire, SetTrees, SetEntities}
 use Rattle.zt_protocol.specs.declared.entries.Sent.{Sent}
 use Rattle.zt_protocol.specs.declared.interests.InterestMode.{InterestMode}
 use Rattle.zt_protocol.specs.declared.interests.InterestOptions.{InterestOptions}
 use Rattle.zt_protocol.specs.declared.messages.Message.{Message}
 use Rattle.zt_model.specs.Fabric.{Fabric, Node, Place, after_hearing, call_face, gateways_after_hearing, number_from, printed_for, with_rows, with_waiting}
+use Rattle.zt_model.specs.Hat.{hat_of}
 use Rattle.zt_model.specs.Lists.{is_some_and, nth}
 use Rattle.zt_model.specs.Parts.{find_face}
 use Rattle.zt_model.specs.Refusals.{asks_from_north, call_causes, first_cause}
 use Rattle.zt_model.specs.Rows.{ById, Face, Rows}
 use Rattle.zt_model.specs.Says.{altered, said}
-use Rattle.zt_model.specs.Strategy.{is_router_hat, strategy_of}
 use Rattle.zt_model.specs.Transcript.{FaceAt, face_numbered}
 use Rattle.zt_laws.specs.Order.{FabricIsInOrder}
 use Rattle.zt_laws.specs.Sound.{CallHasFirstIds, IsToldInOrder, is_placed, opens_face}
@@ -58,14 +59,10 @@ module _ {K : Type 0} (cmp : K → K → Ordering) (matching : K → K → Bool)
               (λ up.
               let face = find_each (IsTreeFace g.mode) (λ (h : Face K). n == h.number) g.faces from rows.faces found in
               let own : g.mode ≡ Client = (face.up up).own in
-              never (rw (up, own) (no_peer (whatami_eq from.mode Peer))) south)
+              never (rw (own, region_eq-same from.region North up) refl) south)
               (λ down. down),
         ),
       )
-        where
-          no_peer : (b : Bool) → not (b && false) ≡ true
-          no_peer true = refl
-          no_peer false = refl
 
   -- A face that a call doesn't name hears it, and the call itself leaves it as it is.
   pub hears_call : (spent : Bool) (c : PlainCall K) (g : Rows K) (p : ℕ) (f : Face K) → TreeRows cmp g → first_cause (call_causes cmp matching spent c g) ≡ None → opens_face c ≡ false → ((n : ℕ) → call_face c ≡ Some n → n ≢ p) → find_face p g ≡ Some f → Hears cmp matching c g p f
@@ -84,7 +81,7 @@ module _ {K : Type 0} (cmp : K → K → Ordering) (matching : K → K → Bool)
   hears_call spent (SetTrees region t) g p f rows accepted still apart found =
       let one = no_cause _ _ _ accepted in
       let two = no_cause _ _ _ one.1 in
-      any_trees cmp matching region t g p f (second _ (is_router_hat (strategy_of g.mode region)) two.0) rows found
+      any_trees cmp matching region t g p f (second _ (hat_of g.mode region).goes_by_trees two.0) rows found
     where
       second : (a b : Bool) → (a || not b) ≡ false → b ≡ true
       second true true h = refl

@@ -7,13 +7,13 @@ use Rattle.zt_region.specs.declared.region.WhatAmI.TheVariants.{Client}
 use Rattle.zt_region.specs.Region.{is_north}
 use Rattle.zt_protocol.specs.declared.messages.Message.{Message}
 use Rattle.zt_model.specs.Entities.{with_numbers}
+use Rattle.zt_model.specs.Hat.{hat_of}
 use Rattle.zt_model.specs.Hearing.{rows_heard}
 use Rattle.zt_model.specs.Lists.{first_where, without_id}
 use Rattle.zt_model.specs.Parts.{Alter, Part, Say, Sends, to_each, with_face}
 use Rattle.zt_model.specs.Routing.{ended, end_upstream_to, ending, final_of_both, finalising, finish_to, initial_finalised, unheld, untell_to}
 use Rattle.zt_model.specs.Rows.{Face, InterestRow, Rows}
 use Rattle.zt_model.specs.Says.{forget_to, tell_to, hiding_undeclared}
-use Rattle.zt_model.specs.Strategy.{is_broker}
 use Rattle.zt_model.specs.Telling.{answer_to, registered, undeclared, undeclaring, unregistered}
 use Rattle.zt_model.specs.Transcript.{Each}
 use Rattle.zt_model.specs.Trees.{hide_to, hiding, is_newly_shown, router_regions, show_to, showing, with_own_rows, with_routed, without_own_rows}
@@ -29,7 +29,7 @@ use Rattle.zt_theorem_tree_invariant.proofs.Tracking.{IsGood, SameEar, find_with
 pub tree_face_less : {K : Type 0} (mode : WhatAmI) (f h : Face K) → h.region ≡ f.region → h.bound ≡ f.bound → h.mode ≡ f.mode → (f.held ≡ [] → h.held ≡ []) → (Each (λ row. kept_options Client row.1.options ≡ row.1.options) f.held → Each (λ row. kept_options Client row.1.options ≡ row.1.options) h.held) → (f.asks ≡ [] → h.asks ≡ []) → IsTreeFace mode f → IsTreeFace mode h
 tree_face_less mode f h region_ bound_ mode_ held_ kept_ asks_ face = record {
   up = λ up. let leads = face.up (ap is_north (sym region_) ∙ up) in record { own = leads.own; bound = bound_ ∙ leads.bound; held = held_ leads.held; asks = asks_ leads.asks };
-  down = λ down. let leads = face.down (ap is_north (sym region_) ∙ down) in record { broker = ap is_broker region_ ∙ leads.broker; mode = mode_ ∙ leads.mode; held = kept_ leads.held };
+  down = λ down. let leads = face.down (ap is_north (sym region_) ∙ down) in record { shares = ap (λ r. (hat_of mode r).shares_tokens) region_ ∙ leads.shares; mode = mode_ ∙ leads.mode; held = kept_ leads.held };
 }
 
 module _ {K : Type 0} (cmp : K → K → Ordering) (matching : K → K → Bool) (p n : ℕ) (up : Bool) (R : Face K → Face K → Type 0) (itself : (f : Face K) → R f f) (trans : (f h k : Face K) → R f h → R h k → R f k) (ear : (f h : Face K) → R f h → SameEar f h)
@@ -192,7 +192,7 @@ module _ {K : Type 0} (cmp : K → K → Ordering) (matching : K → K → Bool)
   good_finalising down id interest = (
     good_unheld id,
     (
-      good_one cmp matching p up Inside (λ g inside. inside.0) still_inside R itself trans ear n (λ g f. untell_to cmp matching f) (λ is g f face real side. untell_well cmp matching f up),
+      good_one cmp matching p up Inside (λ g inside. inside.0) still_inside R itself trans ear n (λ g f. untell_to cmp matching g f) (λ is g f face real side. untell_well cmp matching g f up),
       (
         good_one cmp matching p up Inside (λ g inside. inside.0) still_inside R itself trans ear n (λ g f. final_of_both id interest f) (λ is g f face real side. subst (λ b. SaidWell cmp b (final_of_both id interest f) f.told f.asks) (sym (down is)) (final_of_both_well cmp matching id interest f)),
         (good_end_upstream interest, tt),

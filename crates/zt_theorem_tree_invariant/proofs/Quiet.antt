@@ -5,6 +5,7 @@ use Rattle.std.proofs.lemmas.Bool.{and_from, and_parts}
 use Rattle.std.specs.List.{list_all, list_any}
 use Rattle.std.specs.declared.cmp.Ordering.{Ordering}
 use Rattle.zt_region.specs.declared.region.Region.{Region}
+use Rattle.zt_region.specs.declared.region.WhatAmI.{WhatAmI}
 use Rattle.zt_region.specs.Region.{is_north, zid_eq}
 use Rattle.zt_protocol.specs.Plain.{}
 use Rattle.zt_protocol.specs.declared.messages.Message.{Message}
@@ -42,28 +43,28 @@ module _ {K : Type 0} (cmp : K → K → Ordering) where
   abbrev pub is_live : K → Face K → Bool
   is_live e f = list_any (λ row. same cmp e row.1) f.live
 
-  -- a face of this region is shown a live token of the expression here
-  abbrev pub is_shown_by : Region → K → Face K → Bool
-  is_shown_by own e f = is_live e f && shows own f.region
+  -- a face of this region, of a gateway of this mode, is shown a live token of the expression here
+  abbrev pub is_shown_by : WhatAmI → Region → K → Face K → Bool
+  is_shown_by mode own e f = is_live e f && shows mode own f.region
 
-  face_shows : (own : Region) (e : K) (f : Face K) → list_any (λ row. same cmp e row.1 && shows own row.0) (rows_of_face f) ≡ is_shown_by own e f
-  face_shows own e f = any-map (λ row. same cmp e row.1 && shows own row.0) (λ row. (f.region, row.1)) f.live ∙ any_and_last (λ row. same cmp e row.1) (shows own f.region) f.live
+  face_shows : (mode : WhatAmI) (own : Region) (e : K) (f : Face K) → list_any (λ row. same cmp e row.1 && shows mode own row.0) (rows_of_face f) ≡ is_shown_by mode own e f
+  face_shows mode own e f = any-map (λ row. same cmp e row.1 && shows mode own row.0) (λ row. (f.region, row.1)) f.live ∙ any_and_last (λ row. same cmp e row.1) (shows mode own f.region) f.live
 
   -- where a gateway has rows of its own alone, what is visible is live at a face
-  pub visible_by_faces : (g : Rows K) (own : Region) (e : K) → Each (λ (row : RoutedRow K). zid_eq row.source g.zid ≡ true) g.routed → is_visible cmp g own e ≡ list_any (is_shown_by own e) g.faces
+  pub visible_by_faces : (g : Rows K) (own : Region) (e : K) → Each (λ (row : RoutedRow K). zid_eq row.source g.zid ≡ true) g.routed → is_visible cmp g own e ≡ list_any (is_shown_by g.mode own e) g.faces
   unfolding is_visible
   visible_by_faces g own e own_rows =
-      let test = λ (row : Region × K). same cmp e row.1 && shows own row.0 in
+      let test = λ (row : Region × K). same cmp e row.1 && shows g.mode own row.0 in
       any_live_rows test g g.faces
       ∙ ap (λ (rows : List (Region × K)). list_any (λ f. list_any test (rows_of_face f)) g.faces || list_any test rows) (ap (map (λ (row : RoutedRow K). (row.region, row.expr))) (none_passes (λ (row : RoutedRow K). zid_eq row.source g.zid) g.routed own_rows))
       ∙ or-false (list_any (λ f. list_any test (rows_of_face f)) g.faces)
-      ∙ any_alike (λ f. list_any test (rows_of_face f)) (is_shown_by own e) (face_shows own e) g.faces
+      ∙ any_alike (λ f. list_any test (rows_of_face f)) (is_shown_by g.mode own e) (face_shows g.mode own e) g.faces
 
   -- with nothing refused, what is visible is admitted
   pub admitted_if_visible : (g : Rows K) (own : Region) (e : K) → g.refused ≡ [] → is_visible cmp g own e ≡ true → is_admitted cmp g own e ≡ true
   unfolding is_visible is_admitted
   admitted_if_visible g own e nothing seen =
-      rw nothing (any_weaker (λ row. same cmp e row.1 && shows own row.0) (λ row. same cmp e row.1 && (shows own row.0 && true)) (λ row h. let parts = and_parts (same cmp e row.1) (shows own row.0) h in and_from (same cmp e row.1) (shows own row.0 && true) parts.0 (and_from (shows own row.0) true parts.1 refl)) (live_rows g) seen)
+      rw nothing (any_weaker (λ row. same cmp e row.1 && shows g.mode own row.0) (λ row. same cmp e row.1 && (shows g.mode own row.0 && true)) (λ row h. let parts = and_parts (same cmp e row.1) (shows g.mode own row.0) h in and_from (same cmp e row.1) (shows g.mode own row.0 && true) parts.0 (and_from (shows g.mode own row.0) true parts.1 refl)) (live_rows g) seen)
 
 -- ---- links
 

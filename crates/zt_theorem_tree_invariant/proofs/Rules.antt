@@ -15,17 +15,18 @@ use Rattle.zt_protocol.specs.declared.interests.InterestMode.{InterestMode}
 use Rattle.zt_protocol.specs.declared.interests.InterestOptions.{InterestOptions}
 use Rattle.zt_protocol.specs.declared.messages.Message.{Message}
 use Rattle.zt_protocol.specs.declared.messages.Message.TheVariants.{DeclareToken, UndeclareToken, DeclareFinal, Interest, InterestFinal, DeclareSubscriber, DeclareQueryable}
+use Rattle.zt_model.specs.Hat.{hat_of, hat_of_face}
 use Rattle.zt_model.specs.Hearing.{with_answer}
 use Rattle.zt_model.specs.Lists.{at_id, in_key_order, is_among, is_some_and}
-use Rattle.zt_model.specs.Routing.{asks_same, end_upstream_to, final_of, final_of_both, finish_to, is_finished_by, is_held_south, is_target, is_target_of, route_to, untell_to}
+use Rattle.zt_model.specs.Routing.{asks_same, end_upstream_to, final_of, final_of_both, finish_to, is_asked, is_finished_by, is_held_south, is_target, route_to, untell_to}
 use Rattle.zt_model.specs.Rows.{Ask, ById, Face, InterestRow, Rows}
 use Rattle.zt_model.specs.Says.{answered_expressions, answers_from, answers_of, forget_to, forget_untold, is_routed, is_told, tell_to, told_id}
-use Rattle.zt_model.specs.Strategy.{is_client_hat, is_router_hat, strategy_of}
 use Rattle.zt_model.specs.Telling.{answer_to, is_answered_by}
 use Rattle.zt_model.specs.Transcript.{Each}
 use Rattle.zt_model.specs.Trees.{hide_to, is_hidden, is_newly_shown, show_to}
 use Rattle.zt_model.specs.Visible.{is_visible, shows}
 use Rattle.zt_model.specs.Wants.{kept_options, wants}
+use Rattle.zt_model.proofs.Hats.{asked_north}
 use Rattle.zt_laws.proofs.Lists.{any-map, any_alike, by_test, each_always, each_append, each_map, each_weaker, never, of_cond}
 use Rattle.zt_laws.proofs.PartsOrder.{each_flat_map}
 use Rattle.zt_laws.proofs.Told.{told_id_each, told_id_none}
@@ -124,20 +125,19 @@ module _ {K : Type 0} (cmp : K → K → Ordering) (matching : K → K → Bool)
   forget_well g source e f face =
       of_cond (λ ms. SaidWell cmp (is_north f.region) ms f.told f.asks) (is_routed g f || is_visible cmp g f.region e) [] (elim (told_id cmp e f.told) [ None ↦ forget_untold cmp matching g source e f | Some id ↦ UndeclareToken id None 0 ∷ [] ]) (λ _. tt) (λ _. cases (told_id cmp e f.told) refl)
     where
-      not_up : (wants matching f e && not (is_client_hat (strategy_of g.mode f.region)) && shows f.region source) ≡ true → is_north f.region ≡ false
+      not_up : (wants matching f e && (hat_of_face g f).undeclares_untold && shows g.mode f.region source) ≡ true → is_north f.region ≡ false
       not_up h =
-          let first = and_parts (wants matching f e && not (is_client_hat (strategy_of g.mode f.region))) (shows f.region source) h in
-          let second = and_parts (wants matching f e) (not (is_client_hat (strategy_of g.mode f.region))) first.0 in
+          let first = and_parts (wants matching f e && (hat_of_face g f).undeclares_untold) (shows g.mode f.region source) h in
+          let second = and_parts (wants matching f e) ((hat_of_face g f).undeclares_untold) first.0 in
           by_test (is_north f.region)
           (λ up.
-          let hat : is_client_hat (strategy_of g.mode f.region) ≡ true = rw ((face.up up).own, region_eq-same f.region North up) refl in
-          let bad : not (is_client_hat (strategy_of g.mode f.region)) ≡ false = ap not hat in
+          let bad : (hat_of_face g f).undeclares_untold ≡ false = rw ((face.up up).own, region_eq-same f.region North up) refl in
           never second.1 bad)
           (λ down. down)
 
       cases : (o : Option ℕ) → told_id cmp e f.told ≡ o → SaidWell cmp (is_north f.region) (elim o [ None ↦ forget_untold cmp matching g source e f | Some id ↦ UndeclareToken id None 0 ∷ [] ]) f.told f.asks
       cases None none_ =
-          of_cond (λ ms. SaidWell cmp (is_north f.region) ms f.told f.asks) (wants matching f e && not (is_client_hat (strategy_of g.mode f.region)) && shows f.region source) (UndeclareToken 0 (Some e) 0 ∷ []) []
+          of_cond (λ ms. SaidWell cmp (is_north f.region) ms f.told f.asks) (wants matching f e && (hat_of_face g f).undeclares_untold && shows g.mode f.region source) (UndeclareToken 0 (Some e) 0 ∷ []) []
           (λ h. ((not_up h, refl, told_id_none cmp e f.told none_), tt)) (λ _. tt)
       cases (Some id) found = (tt, tt)
 
@@ -145,11 +145,11 @@ module _ {K : Type 0} (cmp : K → K → Ordering) (matching : K → K → Bool)
 
   show_none : (g : Rows K) (source : Region) (e : K) (f : Face K) → IsTreeFace g.mode f → show_to cmp g source e f ≡ []
   unfolding show_to is_newly_shown
-  show_none g source e f face = let no_hat : is_router_hat (strategy_of g.mode f.region) ≡ false = is_no_router g f face in rw no_hat refl
+  show_none g source e f face = let no_hat : (hat_of g.mode f.region).goes_by_trees ≡ false = is_no_router g f face in rw no_hat refl
 
   hide_none : (g : Rows K) (source : Region) (e : K) (f : Face K) → IsTreeFace g.mode f → hide_to cmp g source e f ≡ []
   unfolding hide_to is_hidden
-  hide_none g source e f face = let no_hat : is_router_hat (strategy_of g.mode f.region) ≡ false = is_no_router g f face in rw no_hat refl
+  hide_none g source e f face = let no_hat : (hat_of g.mode f.region).goes_by_trees ≡ false = is_no_router g f face in rw no_hat refl
 
   pub show_well : (g : Rows K) (source : Region) (e : K) (f : Face K) (up : Bool) → IsTreeFace g.mode f → SaidWell cmp up (show_to cmp g source e f) f.told f.asks
   show_well g source e f up face = subst (λ ms. SaidWell cmp up ms f.told f.asks) (sym (show_none g source e f face)) tt
@@ -162,8 +162,8 @@ module _ {K : Type 0} (cmp : K → K → Ordering) (matching : K → K → Bool)
   pub route_well : (g : Rows K) (asker : Region) (interest : InterestRow K) (f : Face K) → kept_options Client interest.options ≡ interest.options → SaidWell cmp (is_north f.region) (route_to g asker interest f) f.told f.asks
   unfolding route_to is_target
   route_well g asker interest f kept =
-      of_cond (λ ms. SaidWell cmp (is_north f.region) ms f.told f.asks) (not (is_north asker) && (is_north f.region && is_target_of g.mode g interest.mode f)) (Interest f.next interest.mode interest.options interest.expr ∷ []) []
-      (λ h. (((and_parts (is_north f.region) (is_target_of g.mode g interest.mode f) (and_parts (not (is_north asker)) _ h).1).0, kept), tt)) (λ _. tt)
+      of_cond (λ ms. SaidWell cmp (is_north f.region) ms f.told f.asks) (is_target g asker interest.mode f) (Interest f.next interest.mode interest.options interest.expr ∷ []) []
+      (λ h. ((asked_north g interest.mode f (and_parts (not (is_north asker)) (is_asked g interest.mode f) h).1, kept), tt)) (λ _. tt)
 
   alike : {A : Type 0} (up : Bool) (message : A → Message K) (xs : List A) → ((x : A) → IsPlainlyWell cmp up (message x)) → Plain up (map message xs)
   alike up message xs h = each_map (IsPlainlyWell cmp up) message xs (each_always (λ x. IsPlainlyWell cmp up (message x)) h xs)
@@ -205,10 +205,10 @@ module _ {K : Type 0} (cmp : K → K → Ordering) (matching : K → K → Bool)
   abbrev untold_one : Face K → K → List (Message K)
   untold_one f e = elim (told_id cmp e f.told) [ None ↦ [] | Some id ↦ UndeclareToken id None 0 ∷ [] ]
 
-  pub untell_well : (f : Face K) (up : Bool) → SaidWell cmp up (untell_to cmp matching f) f.told f.asks
+  pub untell_well : (g : Rows K) (f : Face K) (up : Bool) → SaidWell cmp up (untell_to cmp matching g f) f.told f.asks
   unfolding untell_to
-  untell_well f up =
-      of_cond (λ ms. SaidWell cmp up ms f.told f.asks) (is_north f.region) [] (flat_map (untold_one f) (filter (λ e. not (wants matching f e)) (in_key_order cmp (map (λ row. row.1) f.told)))) (λ _. tt)
+  untell_well g f up =
+      of_cond (λ ms. SaidWell cmp up ms f.told f.asks) ((hat_of_face g f).is_told_unasked f.region) [] (flat_map (untold_one f) (filter (λ e. not (wants matching f e)) (in_key_order cmp (map (λ row. row.1) f.told)))) (λ _. tt)
       (λ _. plainly cmp up (flat_map (untold_one f) (filter (λ e. not (wants matching f e)) (in_key_order cmp (map (λ row. row.1) f.told)))) f.told f.asks (each_flat_map (IsPlainlyWell cmp up) (untold_one f) (filter (λ e. not (wants matching f e)) (in_key_order cmp (map (λ row. row.1) f.told))) (λ e. cases (told_id cmp e f.told))))
     where
       cases : (o : Option ℕ) → (let ms : List (Message K) = elim o [ None ↦ [] | Some id ↦ UndeclareToken id None 0 ∷ [] ] in Plain up ms)

@@ -8,11 +8,11 @@ use Rattle.zt_region.specs.declared.region.WhatAmI.{WhatAmI}
 use Rattle.zt_region.specs.declared.region.WhatAmI.TheVariants.{Client}
 use Rattle.zt_protocol.specs.declared.messages.Message.{Message}
 use Rattle.zt_protocol.specs.declared.messages.Message.TheVariants.{DeclareToken, UndeclareToken, DeclareFinal, Interest, InterestFinal, DeclareSubscriber, DeclareQueryable}
+use Rattle.zt_model.specs.Hat.{hat_of}
 use Rattle.zt_model.specs.Hearing.{asks_answered, heard, heard_all, messages_for, rows_heard}
 use Rattle.zt_model.specs.Lists.{first_where, same, without_id}
 use Rattle.zt_model.specs.Parts.{Sends, find_face}
 use Rattle.zt_model.specs.Rows.{Ask, ById, Face, InterestRow, Rows}
-use Rattle.zt_model.specs.Strategy.{is_broker}
 use Rattle.zt_model.specs.Transcript.{Each}
 use Rattle.zt_model.specs.Wants.{kept_options}
 use Rattle.zt_laws.specs.Kept.{told_by, told_of}
@@ -189,7 +189,7 @@ module _ {K : Type 0} (cmp : K → K → Ordering) where
   tree_face_by : (mode : WhatAmI) (f h : Face K) → h.region ≡ f.region → h.bound ≡ f.bound → h.mode ≡ f.mode → h.held ≡ f.held → (f.asks ≡ [] → h.asks ≡ []) → IsTreeFace mode f → IsTreeFace mode h
   tree_face_by mode f h region_ bound_ mode_ held_ asks_ face = record {
     up = λ up. let leads = face.up (ap is_north (sym region_) ∙ up) in record { own = leads.own; bound = bound_ ∙ leads.bound; held = held_ ∙ leads.held; asks = asks_ leads.asks };
-    down = λ down. let leads = face.down (ap is_north (sym region_) ∙ down) in record { broker = ap is_broker region_ ∙ leads.broker; mode = mode_ ∙ leads.mode; held = subst (λ (rows : ById (InterestRow K)). Each (λ row. kept_options Client row.1.options ≡ row.1.options) rows) (sym held_) leads.held };
+    down = λ down. let leads = face.down (ap is_north (sym region_) ∙ down) in record { shares = ap (λ r. (hat_of mode r).shares_tokens) region_ ∙ leads.shares; mode = mode_ ∙ leads.mode; held = subst (λ (rows : ById (InterestRow K)). Each (λ row. kept_options Client row.1.options ≡ row.1.options) rows) (sym held_) leads.held };
   }
 
   tree_face_heard : (own : WhatAmI) (now : ℕ) (m : Message K) (f : Face K) → IsTreeFace own f → IsTreeFace own (heard cmp now m f)

@@ -15,12 +15,12 @@ use Rattle.zt_protocol.specs.declared.messages.Message.{Message}
 use Rattle.zt_protocol.specs.declared.messages.Message.TheVariants.{DeclareToken, UndeclareToken, Interest, InterestFinal}
 use Rattle.zt_protocol.specs.declared.interests.InterestMode.{InterestMode}
 use Rattle.zt_model.specs.Fabric.{Fabric, Node}
+use Rattle.zt_model.specs.Hat.{hat_of}
 use Rattle.zt_model.specs.Hearing.{put_if, told_pair, untold}
 use Rattle.zt_model.specs.Lists.{same, without_id}
 use Rattle.zt_model.specs.Refusals.{GREATEST_DICTIONARY}
 use Rattle.zt_model.specs.Routing.{asks_same}
 use Rattle.zt_model.specs.Rows.{Ask, ById, Face, InterestRow, Pending, Rows}
-use Rattle.zt_model.specs.Strategy.{is_broker}
 use Rattle.zt_model.specs.Transcript.{Each}
 use Rattle.zt_model.specs.Wants.{kept_options}
 use Rattle.zt_theorem_tree_invariant.specs.Joints.{EachJoint, IsForest, LinksStand}
@@ -106,8 +106,8 @@ pub record LeadsUp {K : Type 0} (mode : WhatAmI) (f : Face K) : Type 0 where
   pub asks : f.asks ≡ []
 
 -- Any other is a client's, in a region whose faces are shown each other's tokens.
-pub record LeadsDown {K : Type 0} (f : Face K) : Type 0 where
-  pub broker : is_broker f.region ≡ true
+pub record LeadsDown {K : Type 0} (own : WhatAmI) (f : Face K) : Type 0 where
+  pub shares : (hat_of own f.region).shares_tokens ≡ true
   pub mode : f.mode ≡ Client
   pub held : Each (λ row. kept_options Client row.1.options ≡ row.1.options) f.held
 
@@ -117,7 +117,7 @@ LocalsAreDrawn f = Each (λ row. row.0 < f.next) f.locals
 
 pub record IsTreeFace {K : Type 0} (mode : WhatAmI) (f : Face K) : Type 0 where
   pub up : is_north f.region ≡ true → LeadsUp mode f
-  pub down : is_north f.region ≡ false → LeadsDown f
+  pub down : is_north f.region ≡ false → LeadsDown mode f
 
 module _ {K : Type 0} (cmp : K → K → Ordering) where
   -- ---- what waits makes of tokens

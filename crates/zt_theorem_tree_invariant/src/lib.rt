@@ -32,8 +32,8 @@ pub fn trees_agree_at_first<K: Key>()
 {}
 
 /// Knowledge, of one fabric: where trees agree, each face keeps what it should and nothing waits on
-/// any link, an open plain face keeps, of what it covers, exactly what is live at plain faces of
-/// its gateway's tree.
+/// any link, an open plain face keeps, of what is owed to it, exactly what is live at plain faces
+/// of its gateway's tree.
 pub fn plain_faces_know_their_trees<K: Key>()
     ensures { (s : Fabric K) (n : ℕ) (x : FaceAt K) → FabricIsInOrder K.cmp K.matching s
         → TreesAgree K.cmp K.matching s

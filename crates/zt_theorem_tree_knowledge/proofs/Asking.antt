@@ -18,11 +18,12 @@ use Rattle.zt_model.specs.Entities.{entities_for, numbered_by, with_numbers}
 use Rattle.zt_model.specs.Hearing.{heard, heard_all, messages_for, put_if, rows_heard}
 use Rattle.zt_model.specs.Parts.{to_each, to_face, with_face}
 use Rattle.zt_model.specs.Refusals.{GREATEST_DICTIONARY}
-use Rattle.zt_model.specs.Routing.{asked_as, asks_same, final_of, is_target, is_target_of, route_to, sent_as}
+use Rattle.zt_model.specs.Routing.{asked_as, asks_same, final_of, is_asked, is_target, route_to, sent_as}
 use Rattle.zt_model.specs.Rows.{ById, Face, InterestRow, Rows}
 use Rattle.zt_model.specs.Says.{answers_of, asking}
 use Rattle.zt_model.specs.Transcript.{Each}
 use Rattle.zt_model.specs.Wants.{kept_options}
+use Rattle.zt_model.proofs.Hats.{asked_in, asked_is}
 use Rattle.zt_laws.proofs.Hearing.{each_ruled_one, heard_all-number, heard_all-region, messages_for_each}
 use Rattle.zt_laws.proofs.Lists.{by_test, each_always, each_both, each_map, each_weaker, never, of_cond}
 use Rattle.zt_laws.proofs.PartsOrder.{each_message_for, rise_put_if}
@@ -96,10 +97,10 @@ module _ {K : Type 0} (cmp : K → K → Ordering) (matching : K → K → Bool)
     unfolding route_to is_target heard_all
     routed_asks g asker i f face south current future up =
         let own : g.mode ≡ Client = (face.up up).own in
-        let target : is_target_of g.mode g i.mode f ≡ true = ap (λ m. is_target_of m g i.mode f) own in
-        of_cond (λ ms. asks_row cmp matching i (heard_all cmp g.moment ms f) ≡ true) (not (is_north asker) && (is_north f.region && is_target_of g.mode g i.mode f)) (message.Interest f.next i.mode i.options i.expr ∷ []) []
+        let target : is_asked g i.mode f ≡ true = asked_is g i.mode f ∙ ap (λ m. asked_in m g i.mode f) own ∙ up in
+        of_cond (λ ms. asks_row cmp matching i (heard_all cmp g.moment ms f) ≡ true) (is_target g asker i.mode f) (message.Interest f.next i.mode i.options i.expr ∷ []) []
         (λ _. sent_asks g.moment i i f (asks_itself cmp matching total equal_is_same i) current future)
-        (λ misses. never (and_from (not (is_north asker)) (is_north f.region && is_target_of g.mode g i.mode f) (ap not south) (and_from (is_north f.region) (is_target_of g.mode g i.mode f) up target)) misses)
+        (λ misses. never (and_from (not (is_north asker)) (is_asked g i.mode f) (ap not south) target) misses)
 
     abbrev IsAsked : Rows K → InterestRow K → Type 0
     IsAsked g i = is_current i.mode ≡ true → is_future i.mode ≡ true → AsksAbove cmp matching g i
@@ -149,7 +150,7 @@ module _ {K : Type 0} (cmp : K → K → Ordering) (matching : K → K → Bool)
       region = refl;
       face = λ face. record {
         up = λ up. never up south;
-        down = λ down. let leads = face.down down in record { broker = leads.broker; mode = leads.mode; held = each_put_if (λ (row : ℕ × InterestRow K). kept_options Client row.1.options ≡ row.1.options) (is_future i.mode) id i f.held (λ _. kept) leads.held };
+        down = λ down. let leads = face.down down in record { shares = leads.shares; mode = leads.mode; held = each_put_if (λ (row : ℕ × InterestRow K). kept_options Client row.1.options ≡ row.1.options) (is_future i.mode) id i f.held (λ _. kept) leads.held };
       };
       rises = λ rises. rises;
       drawn = λ drawn. drawn;

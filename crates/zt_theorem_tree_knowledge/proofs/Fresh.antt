@@ -3,7 +3,7 @@ use Rattle.std.proofs.Common.{◌≡◌, ℕ, ◌+◌, ◌≤◌, ◌<◌, Bool,
 use Rattle.std.specs.Cmp.{IsTotalOrder}
 use Rattle.std.specs.declared.cmp.Ordering.{Ordering}
 use Rattle.zt_region.specs.declared.region.Bound.{Bound}
-use Rattle.zt_region.specs.declared.region.Bound.TheVariants.{North as NorthBound, South as SouthBound}
+use Rattle.zt_region.specs.declared.region.Bound.TheVariants.{North as NorthBound}
 use Rattle.zt_region.specs.declared.region.Region.{Region}
 use Rattle.zt_region.specs.declared.region.Region.TheVariants.{North}
 use Rattle.zt_region.specs.declared.region.WhatAmI.{WhatAmI}
@@ -13,6 +13,7 @@ use Rattle.zt_region.specs.Region.{bound_eq, is_north, region_eq-same, whatami_e
 use Rattle.zt_protocol.specs.Plain.{NewTransport, PlainCall}
 use Rattle.zt_protocol.specs.declared.messages.Message.{Message}
 use Rattle.zt_protocol.specs.declared.messages.Message.TheVariants as message
+use Rattle.zt_model.specs.Hat.{north_hat}
 use Rattle.zt_model.specs.Hearing.{heard_all, messages_for, rows_heard}
 use Rattle.zt_model.specs.Parts.{Sends, altered_by, find_face, said_by, to_face}
 use Rattle.zt_model.specs.Routing.{face_opened, held_south, interests_from, opened, opening_final, opening_interests, opening_tokens, tokens_from}
@@ -20,6 +21,7 @@ use Rattle.zt_model.specs.Rows.{Face, Rows}
 use Rattle.zt_model.specs.Says.{altered, parts_of, said}
 use Rattle.zt_model.specs.Transcript.{Each}
 use Rattle.zt_model.specs.Visible.{visible_expressions}
+use Rattle.zt_model.proofs.Hats.{greeted_is, initial_is}
 use Rattle.zt_laws.specs.Order.{RowsAreInOrder}
 use Rattle.zt_laws.specs.Sound.{rows_after_call}
 use Rattle.zt_laws.proofs.Hearing.{rows_heard_nothing}
@@ -58,9 +60,9 @@ module _ {K : Type 0} (cmp : K → K → Ordering) (matching : K → K → Bool)
       let k = g.made + 1 in
       let h = opened zid whatami region bound first g in
       let interests = to_face k (λ f. interests_from f.next (opening_interests cmp matching h f)) h in
-      let none1 : interests ≡ [] = nothing_to (λ f. interests_from f.next (opening_interests cmp matching h f)) (ap (λ b. interests_from first (if (b && not (whatami_eq h.mode Router)) && bound_eq bound SouthBound then held_south cmp matching h else [])) down) in
-      let none2 : to_face k (λ f. tokens_from f.next (opening_tokens cmp matching h f)) h ≡ [] = nothing_to (λ f. tokens_from f.next (opening_tokens cmp matching h f)) (ap (λ b. tokens_from first (if b && not (whatami_eq h.mode Router) then visible_expressions cmp h region else [])) down) in
-      let none3 : to_face k (opening_final cmp matching) h ≡ [] = nothing_to (opening_final cmp matching) (ap (λ b. (let ms : List (Message K) = elim (if whatami_eq g.mode Peer && (b && bound_eq bound NorthBound) then Some false else None) [ None ↦ [] | Some finalised ↦ message.DeclareFinal 0 ∷ [] ] in ms)) down ∙ none_at (whatami_eq g.mode Peer)) in
+      let none1 : interests ≡ [] = nothing_to (λ f. interests_from f.next (opening_interests cmp matching h f)) (ap (λ b. interests_from first (if b && (north_hat h.mode).leads_up bound then held_south cmp matching h else [])) down) in
+      let none2 : to_face k (λ f. tokens_from f.next (opening_tokens cmp matching h f)) h ≡ [] = nothing_to (λ f. tokens_from f.next (opening_tokens cmp matching h f)) (ap (λ b. tokens_from first (if b then visible_expressions cmp h region else [])) (greeted_is cmp matching h fresh ∙ ap (λ b. b && not (whatami_eq h.mode Router)) down)) in
+      let none3 : to_face k (opening_final cmp matching) h ≡ [] = nothing_to (opening_final cmp matching) (ap (λ (o : Option Bool). (let ms : List (Message K) = elim o [ None ↦ [] | Some finalised ↦ message.DeclareFinal 0 ∷ [] ] in ms)) (initial_is g.mode region bound ∙ ap (λ b. (if whatami_eq g.mode Peer && (b && bound_eq bound NorthBound) then Some false else None)) down) ∙ none_at (whatami_eq g.mode Peer)) in
       let rest = λ (r : Rows K). (let tokens = to_face k (λ f. tokens_from f.next (opening_tokens cmp matching r f)) r in let n = rows_heard cmp tokens r in tokens ++ (to_face k (opening_final cmp matching) n ++ [])) in
       ap (λ ss. ss ++ rest (rows_heard cmp ss h)) none1
       ∙ ap rest (rows_heard_nothing cmp h)

@@ -4,20 +4,20 @@ use Rattle.std.specs.List.{flat_map, list_any}
 use Rattle.std.specs.declared.cmp.Ordering.{Ordering}
 use Rattle.zt_region.specs.declared.region.Region.{Region}
 use Rattle.zt_region.specs.declared.region.Zid.{Zid}
-use Rattle.zt_region.specs.Region.{is_north, region_eq}
+use Rattle.zt_region.specs.Region.{region_eq}
 use Rattle.zt_protocol.specs.Interest.{is_current, is_future}
 use Rattle.zt_protocol.specs.declared.interests.InterestMode.{InterestMode}
 use Rattle.zt_protocol.specs.Plain.{Trees}
 use Rattle.zt_protocol.specs.declared.messages.Message.{Message}
 use Rattle.zt_protocol.specs.declared.messages.Message.TheVariants as message
 use Rattle.zt_model.specs.Entities.{entities_for}
+use Rattle.zt_model.specs.Hat.{hat_of_face}
 use Rattle.zt_model.specs.Hearing.{heard, heard_all, messages_for, rows_heard}
 use Rattle.zt_model.specs.Lists.{at_id, in_key_order, is_some_and}
 use Rattle.zt_model.specs.Parts.{Say, told_id, to_each, to_face}
 use Rattle.zt_model.specs.Routing.{asks_same, final_of, final_of_both, finish_to, is_finished_by, untell_to}
 use Rattle.zt_model.specs.Rows.{Ask, ById, Face, InterestRow, Rows}
 use Rattle.zt_model.specs.Says.{answers_from, forget_to, forget_untold, is_routed, is_told, tell_to}
-use Rattle.zt_model.specs.Strategy.{is_client_hat, strategy_of}
 use Rattle.zt_model.specs.Telling.{answer_to, is_answered_by}
 use Rattle.zt_model.specs.Transcript.{Each}
 use Rattle.zt_model.specs.Trees.{greet_to, hide_to, is_child, is_hidden, is_newly_shown, node_of, pass_to, routed_expressions, routers_in_order, show_to, table_of, unpass_to}
@@ -123,7 +123,7 @@ module _ {K : Type 0} (cmp : K → K → Ordering) (matching : K → K → Bool)
   leaving_forget g source e f = by_test (is_routed g f || is_visible cmp g f.region e) (λ here. rw here tt) (λ here. rw here (cases (told_id cmp e f.told)))
     where
       cases : (o : Option ℕ) → (let ms : List (Message K) = elim o [ None ↦ forget_untold cmp matching g source e f | Some id ↦ message.UndeclareToken id None 0 ∷ [] ] in Leaving ms)
-      cases None = of_cond Leaving (wants matching f e && not (is_client_hat (strategy_of g.mode f.region)) && shows f.region source) (message.UndeclareToken 0 (Some e) 0 ∷ []) [] (λ _. (tt, tt)) (λ _. tt)
+      cases None = of_cond Leaving (wants matching f e && (hat_of_face g f).undeclares_untold && shows g.mode f.region source) (message.UndeclareToken 0 (Some e) 0 ∷ []) [] (λ _. (tt, tt)) (λ _. tt)
       cases (Some id) = (tt, tt)
 
   pub leaving_answers : (next : ℕ) (told : ById K) (mode : InterestMode) (id : ℕ) (es : List K) → Leaving (answers_from cmp matching next told mode id es)
@@ -142,10 +142,10 @@ module _ {K : Type 0} (cmp : K → K → Ordering) (matching : K → K → Bool)
       each_flat_map LeavesLocals (λ (row : ℕ × Ask K). if is_answered_by cmp matching n id e row.1 then answers_from cmp matching f.next f.told row.1.interest.mode row.0 (e ∷ []) else []) f.asks
       (λ row. of_cond Leaving (is_answered_by cmp matching n id e row.1) (answers_from cmp matching f.next f.told row.1.interest.mode row.0 (e ∷ [])) [] (λ _. leaving_answers f.next f.told row.1.interest.mode row.0 (e ∷ [])) (λ _. tt))
 
-  pub leaving_untell : (f : Face K) → Leaving (untell_to cmp matching f)
+  pub leaving_untell : (g : Rows K) (f : Face K) → Leaving (untell_to cmp matching g f)
   unfolding untell_to
-  leaving_untell f =
-      of_cond Leaving (is_north f.region) []
+  leaving_untell g f =
+      of_cond Leaving ((hat_of_face g f).is_told_unasked f.region) []
       (flat_map (λ e. elim (told_id cmp e f.told) [ None ↦ [] | Some id ↦ message.UndeclareToken id None 0 ∷ [] ]) (filter (λ e. not (wants matching f e)) (in_key_order cmp (map (λ row. row.1) f.told))))
       (λ _. tt)
       (λ _. each_flat_map LeavesLocals (λ e. elim (told_id cmp e f.told) [ None ↦ [] | Some id ↦ message.UndeclareToken id None 0 ∷ [] ]) (filter (λ e. not (wants matching f e)) (in_key_order cmp (map (λ row. row.1) f.told))) (λ e. one (told_id cmp e f.told)))

@@ -18,11 +18,13 @@ use Rattle.zt_region.specs.Tables.{RegionAnswer, agreed_after}
 use Rattle.zt_protocol.specs.Plain.{NewTransport, PlainLine, Link as LinkLine}
 use Rattle.zt_protocol.specs.declared.errors.Refusal.TheVariants as refusal
 use Rattle.zt_model.specs.Fabric.{Fabric, Node, after_hearing, altered_by_line, line_causes, is_full, is_unknown_gateway, said_by_line, sorted_by_face, with_waiting}
+use Rattle.zt_model.specs.Hat.{hat_of, north_hat}
 use Rattle.zt_model.specs.Linking.{LinkEnd, climbs_to, closes_loop, end_region, is_answer, is_end, is_refused_end, link_ends, peer_of}
 use Rattle.zt_model.specs.Lists.{nth}
 use Rattle.zt_model.specs.Refusals.{GREATEST_NUMBER, first_cause, is_north_taken}
-use Rattle.zt_model.specs.Strategy.{fits, is_region_of}
+use Rattle.zt_model.specs.Strategy.{is_region_of}
 use Rattle.zt_model.specs.TreePromises.{IsTreeFabric, is_client_region}
+use Rattle.zt_model.proofs.Hats.{north_taken_is}
 use Rattle.zt_laws.specs.Order.{FabricIsInOrder}
 use Rattle.zt_laws.specs.Sound.{rows_after_call}
 use Rattle.zt_laws.proofs.Calls.{no_cause}
@@ -71,9 +73,9 @@ module _ {K : Type 0} (cmp : K → K → Ordering) (matching : K → K → Bool)
   -- what is asked of an end
   record EndFits (own other : Node K) (r : Region) (bound : Bound) (beyond at : ℕ) : Type 0 where
     listed : is_region_of own.rows.regions r ≡ true
-    fitting : fits own.rows.mode r other.rows.mode bound ≡ true
+    fitting : (hat_of own.rows.mode r).fits r other.rows.mode bound ≡ true
     free : is_north_taken r own.rows ≡ false
-    apart : (whatami_eq own.rows.mode Client && (is_north r && climbs_to (length s.gateways) s beyond at)) ≡ false
+    apart : ((north_hat own.rows.mode).has_one_face && (is_north r && climbs_to (length s.gateways) s beyond at)) ≡ false
 
   module _ (a b : Node K) (at_one : nth one s.gateways ≡ Some a) (at_two : nth two s.gateways ≡ Some b) (r1 r2 : Region) (b1 b2 : Bound) (given1 : end_region a b ≡ Ok (r1, b1)) (given2 : end_region b a ≡ Ok (r2, b2)) (fits1 : EndFits a b r1 b1 two one) (fits2 : EndFits b a r2 b2 one two) (trees : IsTreeFabric Then) where
     -- both are clients: one end leads up
@@ -84,8 +86,8 @@ module _ {K : Type 0} (cmp : K → K → Ordering) (matching : K → K → Bool)
         one_up_of_clients t1 t2 r1 r2 b1 b2
         (subst (λ m. given_end Client m t1 t2 ≡ Ok (r1, b1)) client_b (subst (λ m. given_end m b.rows.mode t1 t2 ≡ Ok (r1, b1)) client_a (sym (region_given a b) ∙ given1)))
         (subst (λ m. given_end Client m t2 t1 ≡ Ok (r2, b2)) client_a (subst (λ m. given_end m a.rows.mode t2 t1 ≡ Ok (r2, b2)) client_b (sym (region_given b a) ∙ given2)))
-        (subst (λ m. fits Client r1 m b1 ≡ true) client_b (subst (λ m. fits m r1 b.rows.mode b1 ≡ true) client_a fits1.fitting))
-        (subst (λ m. fits Client r2 m b2 ≡ true) client_a (subst (λ m. fits m r2 a.rows.mode b2 ≡ true) client_b fits2.fitting))
+        (subst (λ m. (hat_of Client r1).fits r1 m b1 ≡ true) client_b (subst (λ m. (hat_of m r1).fits r1 b.rows.mode b1 ≡ true) client_a fits1.fitting))
+        (subst (λ m. (hat_of Client r2).fits r2 m b2 ≡ true) client_a (subst (λ m. (hat_of m r2).fits r2 a.rows.mode b2 ≡ true) client_b fits2.fitting))
 
     below1 : EndFacts a r1 → is_north r1 ≡ false → IsBelow r1 b.rows.mode
     below1 facts down = is_below a.rows.mode a.rows.regions r1 b.rows.mode b1 fits1.listed fits1.fitting facts.serves down
@@ -121,9 +123,9 @@ module _ {K : Type 0} (cmp : K → K → Ordering) (matching : K → K → Bool)
         (λ up.
         let region : r ≡ North = region_eq-same r North up in
         let client = facts.client up in
-        let fits_ : fits Client North other.rows.mode bound ≡ true = subst (λ q. fits Client q other.rows.mode bound ≡ true) region (subst (λ k. fits k r other.rows.mode bound ≡ true) client end.fitting) in
+        let fits_ : (hat_of Client North).fits North other.rows.mode bound ≡ true = subst (λ q. (hat_of Client q).fits q other.rows.mode bound ≡ true) region (subst (λ k. (hat_of k r).fits r other.rows.mode bound ≡ true) client end.fitting) in
         let south = south_bound bound fits_ in
-        let free_ : (whatami_eq own.rows.mode Client && (is_north r && list_any (λ f. is_north f.region) own.rows.faces)) ≡ false = end.free in
+        let free_ : (whatami_eq own.rows.mode Client && (is_north r && list_any (λ f. is_north f.region) own.rows.faces)) ≡ false = sym (north_taken_is r own.rows) ∙ end.free in
         let none_ : list_any (λ f. is_north f.region) own.rows.faces ≡ false = by_test (list_any (λ f. is_north f.region) own.rows.faces) (λ some. never (and_from (whatami_eq own.rows.mode Client) (is_north r && list_any (λ f. is_north f.region) own.rows.faces) (ap (λ k. whatami_eq k Client) client) (and_from (is_north r) (list_any (λ f. is_north f.region) own.rows.faces) up some)) free_) (λ e. e) in
         subst (λ q. IsTreeGateway cmp matching (rows_after_call cmp matching (NewTransport other.rows.zid other.rows.mode q bound start) own.rows)) (sym region)
         (subst (λ c. IsTreeGateway cmp matching (rows_after_call cmp matching (NewTransport other.rows.zid other.rows.mode North c start) own.rows)) (sym south) (tree_after_north cmp matching total equal_is_same other.rows.zid other.rows.mode start own.rows client none_ ordered tree)))
@@ -135,8 +137,8 @@ module _ {K : Type 0} (cmp : K → K → Ordering) (matching : K → K → Bool)
     -- a client gateway's new parent doesn't lie below it
     low_at : (own other : Node K) (r : Region) (bound : Bound) (beyond at : ℕ) → EndFits own other r bound beyond at → is_north r ≡ true → own.rows.mode ≡ Client → climbs_to (length s.gateways) s beyond at ≡ false
     low_at own other r bound beyond at end up client =
-        let loop_ : (whatami_eq own.rows.mode Client && (is_north r && climbs_to (length s.gateways) s beyond at)) ≡ false = end.apart in
-        by_test (climbs_to (length s.gateways) s beyond at) (λ climbs. never (and_from (whatami_eq own.rows.mode Client) (is_north r && climbs_to (length s.gateways) s beyond at) (ap (λ k. whatami_eq k Client) client) (and_from (is_north r) (climbs_to (length s.gateways) s beyond at) up climbs)) loop_) (λ e. e)
+        let loop_ : ((north_hat own.rows.mode).has_one_face && (is_north r && climbs_to (length s.gateways) s beyond at)) ≡ false = end.apart in
+        by_test (climbs_to (length s.gateways) s beyond at) (λ climbs. never (and_from (north_hat own.rows.mode).has_one_face (is_north r && climbs_to (length s.gateways) s beyond at) (ap (λ k. (north_hat k).has_one_face) client) (and_from (is_north r) (climbs_to (length s.gateways) s beyond at) up climbs)) loop_) (λ e. e)
 
     -- what the line comes to
     shape : LinkIs cmp matching s Then (said_by_line cmp matching line s)
@@ -165,7 +167,7 @@ module _ {K : Type 0} (cmp : K → K → Ordering) (matching : K → K → Bool)
       first_cause
       ((is_unknown_gateway s one || is_unknown_gateway s two, refusal.UnknownGateway)
       ∷ (list_any (is_end (λ end region bound. not (is_region_of end.node.rows.regions region))) ends, refusal.NoSuchRegion)
-      ∷ (list_any is_refused_end ends || list_any (is_end (λ end region bound. not (fits end.node.rows.mode region end.other.rows.mode bound))) ends, refusal.RegionConflict)
+      ∷ (list_any is_refused_end ends || list_any (is_end (λ end region bound. not ((hat_of end.node.rows.mode region).fits region end.other.rows.mode bound))) ends, refusal.RegionConflict)
       ∷ (list_any (is_end (λ end region bound. is_north_taken region end.node.rows)) ends, refusal.NorthTaken)
       ∷ (list_any (is_end (closes_loop s)) ends, refusal.WouldLoop)
       ∷ (spent, refusal.IdsSpent)
@@ -194,28 +196,28 @@ module _ {K : Type 0} (cmp : K → K → Ordering) (matching : K → K → Bool)
         let conflict = no_cause _ _ _ region.1 in
         let north = no_cause _ _ _ conflict.1 in
         let loop_ = no_cause _ _ _ north.1 in
-        let conflicts = or_false (list_any is_refused_end (e1 ∷ e2 ∷ [])) (list_any (is_end (λ end region bound. not (fits end.node.rows.mode region end.other.rows.mode bound))) (e1 ∷ e2 ∷ [])) conflict.0 in
+        let conflicts = or_false (list_any is_refused_end (e1 ∷ e2 ∷ [])) (list_any (is_end (λ end region bound. not ((hat_of end.node.rows.mode region).fits region end.other.rows.mode bound))) (e1 ∷ e2 ∷ [])) conflict.0 in
         cases (end_region a b) refl (end_region b a) refl (both_ends_fail (is_end (λ end region bound. not (is_region_of end.node.rows.regions region))) region.0) (both_ends_fail is_refused_end conflicts.0)
-        (both_ends_fail (is_end (λ end region bound. not (fits end.node.rows.mode region end.other.rows.mode bound))) conflicts.1) (both_ends_fail (is_end (λ end region bound. is_north_taken region end.node.rows)) north.0) (both_ends_fail (is_end (closes_loop s)) loop_.0)
+        (both_ends_fail (is_end (λ end region bound. not ((hat_of end.node.rows.mode region).fits region end.other.rows.mode bound))) conflicts.1) (both_ends_fail (is_end (λ end region bound. is_north_taken region end.node.rows)) north.0) (both_ends_fail (is_end (closes_loop s)) loop_.0)
       where
         refused : RegionAnswer → Bool
         refused o = elim o [ Ok given ↦ false | Err e ↦ true ]
 
         cases : (o1 : RegionAnswer) → end_region a b ≡ o1 → (o2 : RegionAnswer) → end_region b a ≡ o2
             → (is_end (λ end region bound. not (is_region_of end.node.rows.regions region)) e1 ≡ false) × (is_end (λ end region bound. not (is_region_of end.node.rows.regions region)) e2 ≡ false) → (is_refused_end e1 ≡ false) × (is_refused_end e2 ≡ false)
-            → (is_end (λ end region bound. not (fits end.node.rows.mode region end.other.rows.mode bound)) e1 ≡ false) × (is_end (λ end region bound. not (fits end.node.rows.mode region end.other.rows.mode bound)) e2 ≡ false)
+            → (is_end (λ end region bound. not ((hat_of end.node.rows.mode region).fits region end.other.rows.mode bound)) e1 ≡ false) × (is_end (λ end region bound. not ((hat_of end.node.rows.mode region).fits region end.other.rows.mode bound)) e2 ≡ false)
             → (is_end (λ end region bound. is_north_taken region end.node.rows) e1 ≡ false) × (is_end (λ end region bound. is_north_taken region end.node.rows) e2 ≡ false)
             → (is_end (closes_loop s) e1 ≡ false) × (is_end (closes_loop s) e2 ≡ false) → TreesAgree cmp matching Then × LinkIs cmp matching s Then (said_by_line cmp matching line s)
         cases (Ok x1) given1 (Ok x2) given2 listed refused_ fitting free apart_ =
             let fits1 : EndFits a b x1.0 x1.1 two one = record {
               listed = not_false _ (at_given (λ region bound. not (is_region_of a.rows.regions region)) (end_region a b) x1.0 x1.1 given1 listed.0);
-              fitting = not_false _ (at_given (λ region bound. not (fits a.rows.mode region b.rows.mode bound)) (end_region a b) x1.0 x1.1 given1 fitting.0);
+              fitting = not_false _ (at_given (λ region bound. not ((hat_of a.rows.mode region).fits region b.rows.mode bound)) (end_region a b) x1.0 x1.1 given1 fitting.0);
               free = at_given (λ region bound. is_north_taken region a.rows) (end_region a b) x1.0 x1.1 given1 free.0;
               apart = at_given (closes_loop s e1) (end_region a b) x1.0 x1.1 given1 apart_.0;
             } in
             let fits2 : EndFits b a x2.0 x2.1 one two = record {
               listed = not_false _ (at_given (λ region bound. not (is_region_of b.rows.regions region)) (end_region b a) x2.0 x2.1 given2 listed.1);
-              fitting = not_false _ (at_given (λ region bound. not (fits b.rows.mode region a.rows.mode bound)) (end_region b a) x2.0 x2.1 given2 fitting.1);
+              fitting = not_false _ (at_given (λ region bound. not ((hat_of b.rows.mode region).fits region a.rows.mode bound)) (end_region b a) x2.0 x2.1 given2 fitting.1);
               free = at_given (λ region bound. is_north_taken region b.rows) (end_region b a) x2.0 x2.1 given2 free.1;
               apart = at_given (closes_loop s e2) (end_region b a) x2.0 x2.1 given2 apart_.1;
             } in

@@ -1,6 +1,6 @@
 -- A face that opens at a gateway of a tree: a session, a client's, or that to the gateway above, which is sent all that is
 -- held.
-use Rattle.std.proofs.Common.{◌≡◌, ℕ, ◌+◌, ◌≤◌, ◌<◌, max, Bool, true, false, if◌then◌else◌, ◌&&◌, ◌==◌, not, List, [], ◌∷◌, ◌++◌, length, map, filter, Option, Some, None, refl, sym, ap, ◌∙◌, subst, arith, eq-eqb, ne_eqb}
+use Rattle.std.proofs.Common.{◌≡◌, ℕ, ◌+◌, ◌≤◌, ◌<◌, max, Bool, true, false, if◌then◌else◌, ◌&&◌, ◌==◌, List, [], ◌∷◌, ◌++◌, length, map, filter, Option, Some, None, refl, sym, ap, ◌∙◌, subst, arith, eq-eqb, ne_eqb}
 use Rattle.std.proofs.lemmas.Bool.{or_left, or_right}
 use Rattle.std.specs.Cmp.{IsTotalOrder}
 use Rattle.std.specs.FinMap.Entries.{by_order}
@@ -12,14 +12,15 @@ use Rattle.zt_region.specs.declared.region.Bound.{Bound}
 use Rattle.zt_region.specs.declared.region.Bound.TheVariants.{South as SouthBound}
 use Rattle.zt_region.specs.declared.region.Region.TheVariants.{North, South}
 use Rattle.zt_region.specs.declared.region.WhatAmI.{WhatAmI}
-use Rattle.zt_region.specs.declared.region.WhatAmI.TheVariants.{Client, Router}
+use Rattle.zt_region.specs.declared.region.WhatAmI.TheVariants.{Client}
 use Rattle.zt_region.specs.declared.region.Zid.{Zid}
-use Rattle.zt_region.specs.Region.{is_north, whatami_eq, zid_eq}
+use Rattle.zt_region.specs.Region.{is_north, zid_eq}
 use Rattle.zt_protocol.specs.Interest.{has_tokens, is_current, is_future}
 use Rattle.zt_protocol.specs.Plain.{NewSession, NewTransport}
 use Rattle.zt_protocol.specs.declared.interests.InterestMode.TheVariants.{CurrentFuture}
 use Rattle.zt_protocol.specs.declared.messages.Message.{Message}
 use Rattle.zt_protocol.specs.declared.messages.Message.TheVariants as message
+use Rattle.zt_model.specs.Hat.{north_hat}
 use Rattle.zt_model.specs.Hearing.{heard, heard_all, rows_heard}
 use Rattle.zt_model.specs.Lists.{in_key_order, with_key}
 use Rattle.zt_model.specs.Parts.{find_face, opened_session, to_face, with_face}
@@ -150,7 +151,7 @@ module _ {K : Type 0} (cmp : K → K → Ordering) (matching : K → K → Bool)
   pub session_inside : (first : ℕ) (g : Rows K) → Each (λ f. f.number ≤ g.made) g.faces → Inside cmp matching g → Inside cmp matching (opened_session first g)
   session_inside first g made inside =
       pushed g (opened_session first g) _ refl refl refl refl refl (omega arith) (each_weaker (λ f. f.number ≤ g.made) (λ f. f.number < g.made + 1) (λ f le. omega arith) g.faces made)
-      (record { up = λ up. never up refl; down = λ down. record { broker = refl; mode = refl; held = tt } }) refl tt tt (λ up. never up refl) inside
+      (record { up = λ up. never up refl; down = λ down. record { shares = refl; mode = refl; held = tt } }) refl tt tt (λ up. never up refl) inside
 
   said_to : (P : Message K → Type 0) (n : ℕ) (rule : Face K → List (Message K)) (g : Rows K) (f : Face K) → find_face n g ≡ Some f → Each P (rule f) → Each (λ s. P s.1) (to_face n rule g)
   unfolding to_face
@@ -186,7 +187,7 @@ module _ {K : Type 0} (cmp : K → K → Ordering) (matching : K → K → Bool)
       let k = g.made + 1 in
       let below = each_weaker (λ (h : Face K). h.number ≤ g.made) (λ h. h.number < g.made + 1) (λ h le. omega arith) g.faces made in
       let there : find_face k one ≡ Some f = find_last k g.faces f below refl in
-      let inside1 = pushed g one f refl refl refl refl refl (omega arith) below (record { up = λ up. never up refl; down = λ down. record { broker = refl; mode = refl; held = tt } }) refl tt tt (λ up. never up refl) inside in
+      let inside1 = pushed g one f refl refl refl refl refl (omega arith) below (record { up = λ up. never up refl; down = λ down. record { shares = refl; mode = refl; held = tt } }) refl tt tt (λ up. never up refl) inside in
       let interests = to_face k (λ h. interests_from h.next (opening_interests cmp matching one h)) one in
       then_tokens k (rows_heard cmp interests one) (hears_leaving cmp matching interests one (said_to LeavesLocals k (λ h. interests_from h.next (opening_interests cmp matching one h)) one f there tt) inside1)
 
@@ -253,7 +254,7 @@ module _ {K : Type 0} (cmp : K → K → Ordering) (matching : K → K → Bool)
         let rule = λ (h : Face K). interests_from h.next (opening_interests cmp matching one h) in
         let h = heard_all cmp one.moment (rule f) f in
         let rises1 : RiseFrom (λ (x : Face K). x.number) 1 one.faces = rise_push (λ x. x.number) 1 g.faces f (omega arith) below inside.rises in
-        let greeted : opening_interests cmp matching one f ≡ held_south cmp matching one = ap (λ m. (if (true && not (whatami_eq m Router)) && true then held_south cmp matching one else [])) client in
+        let greeted : opening_interests cmp matching one f ≡ held_south cmp matching one = ap (λ m. (if (north_hat m).leads_up SouthBound then held_south cmp matching one else [])) client in
         let goes = goes_all_sent g one.moment f.next (opening_interests cmp matching one f) f refl tt in
         let asks : AsksAll g.faces h = each_weaker (λ x. is_north x.region ≡ false → Each (λ row. list_any (asks_same cmp matching row.1) (held_south cmp matching one) ≡ true) x.held) (λ x. is_north x.region ≡ false → Each (λ row. (is_current row.1.mode && has_tokens row.1.options) ≡ true → asks_row cmp matching row.1 h ≡ true) x.held)
         (λ x among down.

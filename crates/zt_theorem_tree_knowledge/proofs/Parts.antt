@@ -203,7 +203,7 @@ module _ {K : Type 0} (cmp : K → K → Ordering) (matching : K → K → Bool)
     both_finalising n k id interest = (
       altered_both n (with_face k (unheld id)) (keeps_unheld k id),
       (
-        one_both_said n k (λ g. untell_to cmp matching) (λ g. leaving_untell cmp matching),
+        one_both_said n k (untell_to cmp matching) (leaving_untell cmp matching),
         (
           one_both_said n k (λ g. final_of_both id interest) (λ g. leaving_final_of_both cmp matching id interest),
           ((keeps_end_upstream cmp matching total equal_is_same interest, keeps_end_unsaid cmp matching total equal_is_same n interest), tt),

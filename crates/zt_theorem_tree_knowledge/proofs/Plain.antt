@@ -18,6 +18,7 @@ use Rattle.zt_protocol.specs.declared.entries.Sent.{Sent}
 use Rattle.zt_protocol.specs.declared.errors.Refusal.TheVariants as refusal
 use Rattle.zt_protocol.specs.declared.messages.Message.{Message}
 use Rattle.zt_model.specs.Fabric.{CallAt, Fabric, Node, Place, after_hearing, altered_by_line, line_causes, call_of, causes_of_call, is_full, new_rows, next_face, number_from, number_of_place, opened_at, said_at, said_by_line, sorted_by_face, with_gateway, with_place, with_session, with_waiting}
+use Rattle.zt_model.specs.Hat.{hat_of}
 use Rattle.zt_model.specs.Hearing.{heard_all, messages_for, rows_heard}
 use Rattle.zt_model.specs.Linking.{is_end_of}
 use Rattle.zt_model.specs.Lists.{nth}
@@ -25,9 +26,10 @@ use Rattle.zt_model.specs.Parts.{altered_by}
 use Rattle.zt_model.specs.Refusals.{call_causes, first_cause}
 use Rattle.zt_model.specs.Rows.{ById, Face}
 use Rattle.zt_model.specs.Says.{altered, parts_of, said, said_by}
-use Rattle.zt_model.specs.Strategy.{fits, is_region_of}
+use Rattle.zt_model.specs.Strategy.{is_region_of}
 use Rattle.zt_model.specs.Transcript.{Each}
 use Rattle.zt_model.specs.TreePromises.{IsTreeFabric, LeadsUpByLink, ServesClients, is_client_region, is_plain}
+use Rattle.zt_model.proofs.Hats.{fits_south}
 use Rattle.zt_laws.specs.Order.{FabricIsInOrder}
 use Rattle.zt_laws.specs.Sound.{opens_face, places_of, rows_after_call}
 use Rattle.zt_laws.proofs.Calls.{no_cause}
@@ -68,7 +70,7 @@ pub record IsBelow (region : Region) (whatami : WhatAmI) : Type 0 where
   pub whatami_is : whatami ≡ Client
 
 -- a region that serves clients alone and isn't to the north
-pub is_below : (mode : WhatAmI) (regions : List Region) (region : Region) (whatami : WhatAmI) (bound : Bound) → is_region_of regions region ≡ true → fits mode region whatami bound ≡ true → list_all is_client_region regions ≡ true → is_north region ≡ false → IsBelow region whatami
+pub is_below : (mode : WhatAmI) (regions : List Region) (region : Region) (whatami : WhatAmI) (bound : Bound) → is_region_of regions region ≡ true → (hat_of mode region).fits region whatami bound ≡ true → list_all is_client_region regions ≡ true → is_north region ≡ false → IsBelow region whatami
 is_below mode regions North whatami bound listed fits_ clients down = never refl down
 is_below mode regions Local whatami bound listed fits_ clients down = never fits_ refl
 is_below mode regions (South id remote) whatami bound listed fits_ clients down =
@@ -76,7 +78,7 @@ is_below mode regions (South id remote) whatami bound listed fits_ clients down 
     (λ r client same_.
     let is : South id remote ≡ r = region_eq-same (South id remote) r same_ in
     let remote_is : remote ≡ Client = is_client remote (ap is_client_region is ∙ client) in
-    let own : whatami ≡ remote = whatami_same whatami remote (and_parts (whatami_eq whatami remote) (bound_eq bound _) fits_).0 in
+    let own : whatami ≡ remote = whatami_same whatami remote (and_parts (whatami_eq whatami remote) (bound_eq bound _) (sym (fits_south mode id remote whatami bound) ∙ fits_)).0 in
     record { id = id; region_is = ap (South id) remote_is; whatami_is = own ∙ remote_is })
   where
     whatami_same : (a b : WhatAmI) → whatami_eq a b ≡ true → a ≡ b

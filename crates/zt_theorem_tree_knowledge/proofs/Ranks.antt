@@ -6,8 +6,9 @@ use Rattle.std.specs.List.{list_any}
 use Rattle.std.specs.declared.cmp.Ordering.{Ordering}
 use Rattle.zt_region.specs.declared.region.WhatAmI.{WhatAmI}
 use Rattle.zt_region.specs.declared.region.WhatAmI.TheVariants.{Client}
-use Rattle.zt_region.specs.Region.{is_north, whatami_eq}
+use Rattle.zt_region.specs.Region.{is_north}
 use Rattle.zt_model.specs.Fabric.{Fabric, Link, Node, Place, number_of_place}
+use Rattle.zt_model.specs.Hat.{north_hat}
 use Rattle.zt_model.specs.Linking.{climbs_to, gateway_above, gateway_beyond, is_end_of}
 use Rattle.zt_model.specs.Lists.{first_where, is_some_and, nth}
 use Rattle.zt_model.specs.Rows.{Face}
@@ -136,14 +137,14 @@ module _ {K : Type 0} (cmp : K → K → Ordering) (matching : K → K → Bool)
       let tree = gateway_of cmp matching s step.a step.x agree step.x_is in
       let face : IsTreeFace step.x.rows.mode step.x.face = find_each (IsTreeFace step.x.rows.mode) (λ (f : Face K). step.x.face.number == f.number) step.x.rows.faces step.x.face tree.faces at_.face_is in
       let client : step.x.rows.mode ≡ Client = (face.up step.up).own in
-      let mode_ : whatami_eq at_.node.rows.mode Client ≡ true = ap (λ (r : WhatAmI). whatami_eq r Client) (ap (λ r. r.mode) at_.rows_are ∙ client) in
+      let mode_ : (north_hat at_.node.rows.mode).has_one_face ≡ true = ap (λ (r : WhatAmI). (north_hat r).has_one_face) (ap (λ r. r.mode) at_.rows_are ∙ client) in
       let first = found_where (λ (f : Face K). is_north f.region) step.x.rows.faces (any_found (λ (f : Face K). step.x.face.number == f.number) (λ (f : Face K). is_north f.region) step.x.rows.faces step.x.face at_.face_is step.up) in
       let first_up = find_passes (λ (f : Face K). is_north f.region) step.x.rows.faces first.0 first.1 in
       let same_ : first.0 ≡ step.x.face = only_one (λ (f : Face K). is_north f.region) (λ (f : Face K). is_north f.region) (λ (f : Face K). step.x.face.number == f.number) step.x.rows.faces first.0 step.x.face tree.one_north first.1 first_up at_.face_is step.up in
       ap (λ (o : Option (Node K)).
       (let r : Option ℕ = elim o [
         | None ↦ None
-        | Some node ↦ if whatami_eq node.rows.mode Client then elim (first_where (λ f. is_north f.region) node.rows.faces) [ None ↦ None | Some f ↦ gateway_beyond s (number_of_place s g f.number) ] else None
+        | Some node ↦ if (north_hat node.rows.mode).has_one_face then elim (first_where (λ f. is_north f.region) node.rows.faces) [ None ↦ None | Some f ↦ gateway_beyond s (number_of_place s g f.number) ] else None
       ] in r)) node_is
       ∙ ap (λ b. (if b then (let r : Option ℕ = elim (first_where (λ f. is_north f.region) at_.node.rows.faces) [ None ↦ None | Some f ↦ gateway_beyond s (number_of_place s g f.number) ] in r) else None)) mode_
       ∙ ap (λ (o : Option (Face K)). (let r : Option ℕ = elim o [ None ↦ None | Some f ↦ gateway_beyond s (number_of_place s g f.number) ] in r)) (ap (λ r. first_where (λ (f : Face K). is_north f.region) r.faces) at_.rows_are ∙ first.1 ∙ ap Some same_)

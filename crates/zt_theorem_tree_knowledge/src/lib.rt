@@ -71,8 +71,8 @@ pub fn lines_keep_trees<K: Key>()
 
 /// Knowledge, of every list of lines: in a transcript of trees that refuses no line for want of
 /// ids, after each turn that leaves all links empty, each open plain face that asked for tokens now
-/// and later keeps, of what it covers, exactly what is live at plain faces of its gateway's tree.
-/// So it is from the empty fabric on, and from each that is sound and of trees that agree.
+/// and later keeps, of what is owed to it, exactly what is live at plain faces of its gateway's
+/// tree. So it is from the empty fabric on, and from each that is sound and of trees that agree.
 pub fn turns_know_their_trees<K: Key>()
     ensures start { (lines : List (PlainLine K)) → Each HasFirstIds lines
         → (let turns = turns_of K.cmp K.matching lines empty_fabric in

@@ -18,13 +18,14 @@ use Rattle.zt_protocol.specs.declared.errors.Refusal.{Refusal}
 use Rattle.zt_protocol.specs.declared.messages.Message.{Message}
 use Rattle.zt_protocol.specs.declared.messages.Message.TheVariants as message
 use Rattle.zt_model.specs.Fabric.{CallAt, Fabric, Node, Place, after_hearing, after_refusal, altered_by_line, at_nth, line_causes, call_of, entry_by, entry_of, fabric_after, is_linked_face, line_causes, line_spends_ids, new_rows, number_of_place, opened_at, printed_message, said_at, said_by_line, sorted_by_face, with_gateway, with_place, with_rows, with_session, with_waiting}
+use Rattle.zt_model.specs.Hat.{hat_of}
 use Rattle.zt_model.specs.Hearing.{heard_all, messages_for}
 use Rattle.zt_model.specs.Linking.{is_end_of}
 use Rattle.zt_model.specs.Lists.{is_some_and, nth, same}
 use Rattle.zt_model.specs.Parts.{find_face}
 use Rattle.zt_model.specs.Refusals.{call_causes, first_cause}
 use Rattle.zt_model.specs.Rows.{ById, Face, Rows}
-use Rattle.zt_model.specs.Strategy.{is_region_of, is_router_hat, strategy_of}
+use Rattle.zt_model.specs.Strategy.{is_region_of}
 use Rattle.zt_theorem_tree_invariant.proofs.Knowledge.{is_no_router}
 use Rattle.zt_model.specs.Says.{altered, altered_by, parts_of, registered, registers, said, said_by}
 use Rattle.zt_model.specs.Transcript.{Each, face_numbered, messages_of}
@@ -164,16 +165,16 @@ module _ {K : Type 0} (cmp : K → K → Ordering) (matching : K → K → Bool)
         let t = record s { waiting = w } in
         (record { gateways = (everywhere_weaker Q (OrLive Q t) (λ e own. inl own) s all).gateways; waiting = less_in (OrLive Q t) (λ e own. inl own) w less }, tt)
 
-    -- a table is of a region of router hat, and no face of a tree is of one
+    -- a table is of a region that goes by trees, and no face of a tree is of one
     apart_tree : (spent : Bool) (j : ℕ) (node : Node K) (at_j : nth j s.gateways ≡ Some node) (region : Region) (t : Trees) → first_cause (call_causes cmp matching spent (SetTrees region t) node.rows) ≡ None → Each (λ f. region_eq f.region region ≡ false) node.rows.faces
     unfolding call_causes
     apart_tree spent j node at_j region t accepted =
         let two = (no_cause _ _ _ (no_cause _ _ _ accepted).1).0 in
-        let hat : is_router_hat (strategy_of node.rows.mode region) ≡ true = second (is_region_of node.rows.regions region) (is_router_hat (strategy_of node.rows.mode region)) two in
+        let hat : (hat_of node.rows.mode region).goes_by_trees ≡ true = second (is_region_of node.rows.regions region) (hat_of node.rows.mode region).goes_by_trees two in
         each_weaker (λ f. IsTreeFace node.rows.mode f) (λ f. region_eq f.region region ≡ false)
         (λ f face.
         by_test (region_eq f.region region)
-        (λ same_. never (ap (λ r. is_router_hat (strategy_of node.rows.mode r)) (region_eq-same f.region region same_) ∙ hat) (is_no_router node.rows f face))
+        (λ same_. never (ap (λ r. (hat_of node.rows.mode r).goes_by_trees) (region_eq-same f.region region same_) ∙ hat) (is_no_router node.rows f face))
         (λ other. other))
         node.rows.faces (tree_rows cmp matching s j node fine agree at_j).faces
       where

@@ -13,12 +13,12 @@ use Rattle.zt_protocol.specs.declared.messages.Message.TheVariants as message
 use Rattle.zt_protocol.specs.declared.messages.QueryableInfo.{QueryableInfo}
 use Rattle.zt_protocol.specs.Interest.{is_future}
 use Rattle.zt_model.specs.Entities.{entities_for}
+use Rattle.zt_model.specs.Hat.{hat_of_face}
 use Rattle.zt_model.specs.Lists.{at_id, in_key_order, is_some_and}
 use Rattle.zt_model.specs.Parts.{told_id}
 use Rattle.zt_model.specs.Routing.{asks_same, end_upstream_to, final_of, final_of_both, finish_to, interests_from, is_finished_by, is_held_south, is_target, opening_final, route_to, untell_to}
 use Rattle.zt_model.specs.Rows.{Ask, Face, InterestRow, Rows}
 use Rattle.zt_model.specs.Says.{forget_to, forget_untold, is_routed}
-use Rattle.zt_model.specs.Strategy.{is_client_hat, strategy_of}
 use Rattle.zt_model.specs.Transcript.{Each}
 use Rattle.zt_model.specs.Trees.{hide_to, is_child, is_hidden, node_of, table_of, unpass_to}
 use Rattle.zt_model.specs.Visible.{is_visible, shows}
@@ -48,13 +48,13 @@ module _ {K : Type 0} (cmp : K → K → Ordering) (matching : K → K → Bool)
   quiet_forget g source e f = by_test (is_routed g f || is_visible cmp g f.region e) (λ here. rw here tt) (λ here. rw here (cases (told_id cmp e f.told)))
     where
       cases : (o : Option ℕ) → (let ms : List (Message K) = elim o [ None ↦ forget_untold cmp matching g source e f | Some id ↦ message.UndeclareToken id None 0 ∷ [] ] in Quiet ms)
-      cases None = of_cond Quiet (wants matching f e && not (is_client_hat (strategy_of g.mode f.region)) && shows f.region source) (message.UndeclareToken 0 (Some e) 0 ∷ []) [] (λ _. (others.untoken 0 (Some e) 0, tt)) (λ _. tt)
+      cases None = of_cond Quiet (wants matching f e && (hat_of_face g f).undeclares_untold && shows g.mode f.region source) (message.UndeclareToken 0 (Some e) 0 ∷ []) [] (λ _. (others.untoken 0 (Some e) 0, tt)) (λ _. tt)
       cases (Some id) = (others.untoken id None 0, tt)
 
-  pub quiet_untell : (f : Face K) → Quiet (untell_to cmp matching f)
+  pub quiet_untell : (g : Rows K) (f : Face K) → Quiet (untell_to cmp matching g f)
   unfolding untell_to
-  quiet_untell f =
-      of_cond Quiet (is_north f.region) []
+  quiet_untell g f =
+      of_cond Quiet ((hat_of_face g f).is_told_unasked f.region) []
       (flat_map (λ e. elim (told_id cmp e f.told) [ None ↦ [] | Some id ↦ message.UndeclareToken id None 0 ∷ [] ]) (filter (λ e. not (wants matching f e)) (in_key_order cmp (map (λ row. row.1) f.told))))
       (λ _. tt)
       (λ _. each_flat_map N (λ e. elim (told_id cmp e f.told) [ None ↦ [] | Some id ↦ message.UndeclareToken id None 0 ∷ [] ]) (filter (λ e. not (wants matching f e)) (in_key_order cmp (map (λ row. row.1) f.told))) (λ e. one (told_id cmp e f.told)))

@@ -69,9 +69,9 @@ module _ {K : Type 0} (cmp : K → K → Ordering) (matching : K → K → Bool)
   visible_in : (g : Rows K) (own : Region) → IsIn Q g → Each Q (visible_expressions cmp g own)
   unfolding visible_expressions
   visible_in g own in_ =
-      each_in_order cmp Q (map (λ row. row.1) (filter (λ row. shows own row.0) (live_rows g)))
-      (each_map Q (λ (row : Region × K). row.1) (filter (λ row. shows own row.0) (live_rows g))
-      (each_filter (λ (row : Region × K). Q row.1) (λ row. shows own row.0) (live_rows g)
+      each_in_order cmp Q (map (λ row. row.1) (filter (λ row. shows g.mode own row.0) (live_rows g)))
+      (each_map Q (λ (row : Region × K). row.1) (filter (λ row. shows g.mode own row.0) (live_rows g))
+      (each_filter (λ (row : Region × K). Q row.1) (λ row. shows g.mode own row.0) (live_rows g)
       (each_append (λ (row : Region × K). Q row.1) (flat_map rows_of_face g.faces) _
       (each_member_flat (λ (row : Region × K). Q row.1) rows_of_face g.faces (each_weaker (λ f. Each (λ row. Q row.1) f.live) (λ f. Each (λ (row : Region × K). Q row.1) (rows_of_face f)) (λ f all. each_map (λ (row : Region × K). Q row.1) (λ row. (f.region, row.1)) f.live all) g.faces in_.live))
       (each_map (λ (row : Region × K). Q row.1) (λ row. (row.region, row.expr)) (filter (λ row. not (zid_eq row.source g.zid)) g.routed)
@@ -212,7 +212,7 @@ module _ {K : Type 0} (cmp : K → K → Ordering) (matching : K → K → Bool)
 
   finalising_in : (n id : ℕ) (interest : InterestRow K) → Each PartIn (finalising cmp matching n id interest)
   finalising_in n id interest =
-      (face_in n (unheld id) (λ f all. all), (one_said n (λ g. untell_to cmp matching) (λ g f in_. quiet_untell cmp matching (TokenIn Q) quiet f), (one_said n (λ g. final_of_both id interest) (λ g f in_. quiet_final_of_both cmp matching (TokenIn Q) quiet id interest f), (each_said (λ g. end_upstream_to cmp matching g interest) (λ g f in_. quiet_end_upstream cmp matching (TokenIn Q) quiet g interest f), tt))))
+      (face_in n (unheld id) (λ f all. all), (one_said n (untell_to cmp matching) (λ g f in_. quiet_untell cmp matching (TokenIn Q) quiet g f), (one_said n (λ g. final_of_both id interest) (λ g f in_. quiet_final_of_both cmp matching (TokenIn Q) quiet id interest f), (each_said (λ g. end_upstream_to cmp matching g interest) (λ g f in_. quiet_end_upstream cmp matching (TokenIn Q) quiet g interest f), tt))))
 
   ending_in : (n id : ℕ) → Each PartIn (ending n id)
   ending_in n id = (face_in n (ended id) (λ f all. all), (each_said (λ g. finish_to g n id) (λ g f in_. quiet_finish cmp matching (TokenIn Q) quiet g n id f), tt))

@@ -6,10 +6,10 @@ use Rattle.std.specs.List.{list_any}
 use Rattle.std.specs.declared.cmp.Ordering.{Ordering}
 use Rattle.std.specs.declared.cmp.Ordering.TheVariants.{Equal}
 use Rattle.zt_region.specs.Region.{is_north}
+use Rattle.zt_model.specs.Hat.{hat_of}
 use Rattle.zt_model.specs.Lists.{first_where, is_among, same}
 use Rattle.zt_model.specs.Parts.{find_face, is_routed}
 use Rattle.zt_model.specs.Rows.{ById, Face, Rows}
-use Rattle.zt_model.specs.Strategy.{is_router_hat, strategy_of}
 use Rattle.zt_model.specs.Transcript.{Each}
 use Rattle.zt_model.specs.Visible.{is_visible, visible_expressions}
 use Rattle.zt_laws.specs.Keeping.{KeepsRight}
@@ -54,7 +54,7 @@ module _ {K : Type 0} (cmp : K → K → Ordering) (matching : K → K → Bool)
   rises = outlines_rise 1 g.faces sound.ordered.lists.faces_rise
 
   pub plain : NoRouters g.mode os
-  plain = each_map (λ (o : Outline K). is_router_hat (strategy_of g.mode o.region) ≡ false) outline g.faces (each_weaker (IsTreeFace g.mode) (λ f. is_router_hat (strategy_of g.mode f.region) ≡ false) (λ f own. is_no_router g f own) g.faces tree.faces)
+  plain = each_map (λ (o : Outline K). (hat_of g.mode o.region).goes_by_trees ≡ false) outline g.faces (each_weaker (IsTreeFace g.mode) (λ f. (hat_of g.mode f.region).goes_by_trees ≡ false) (λ f own. is_no_router g f own) g.faces tree.faces)
 
   pub outside : (n : ℕ) (f : Face K) → find_face n g ≡ Some f → is_routed g f ≡ false
   outside n f found = is_no_router g f (find_each (IsTreeFace g.mode) (λ (h : Face K). n == h.number) g.faces f tree.faces found)

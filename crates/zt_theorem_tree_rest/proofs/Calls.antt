@@ -4,10 +4,10 @@ use Rattle.std.specs.declared.cmp.Ordering.{Ordering}
 use Rattle.zt_region.specs.declared.region.Region.{Region}
 use Rattle.zt_region.specs.declared.region.WhatAmI.{WhatAmI}
 use Rattle.zt_protocol.specs.declared.messages.Message.{Message}
+use Rattle.zt_model.specs.Hat.{hat_of}
 use Rattle.zt_model.specs.Hearing.{rows_heard}
 use Rattle.zt_model.specs.Parts.{Part, to_each, with_face}
 use Rattle.zt_model.specs.Rows.{Face, Rows}
-use Rattle.zt_model.specs.Strategy.{is_router_hat, strategy_of}
 use Rattle.zt_model.specs.Telling.{is_told, tell}
 use Rattle.zt_model.specs.Transcript.{Each}
 use Rattle.zt_model.specs.Trees.{hide_to, hiding, is_hidden, is_newly_shown, router_regions, show_to, showing, with_own_rows, without_own_rows}
@@ -34,7 +34,7 @@ framed_each P mode os g all framed = each_of_map P outline g.faces (subst (Each 
 
 -- no face is one of a router region
 abbrev pub NoRouters : {K : Type 0} → WhatAmI → List (Outline K) → Type 0
-NoRouters mode os = Each (λ o. is_router_hat (strategy_of mode o.region) ≡ false) os
+NoRouters mode os = Each (λ o. (hat_of mode o.region).goes_by_trees ≡ false) os
 
 module _ {K : Type 0} (cmp : K → K → Ordering) (matching : K → K → Bool) (tokens : List K) (price : ℕ → ℕ) (end_price : ℕ)
     (mode : WhatAmI) (os : List (Outline K)) (rises : RiseFrom (λ (o : Outline K). o.number) 1 os) (plain : NoRouters mode os) where
@@ -56,19 +56,19 @@ module _ {K : Type 0} (cmp : K → K → Ordering) (matching : K → K → Bool)
 
   -- ---- router regions, of which there are none
 
-  show_none : (g : Rows K) (source : Region) (e : K) (f : Face K) → g.mode ≡ mode → is_router_hat (strategy_of mode f.region) ≡ false → show_to cmp g source e f ≡ []
+  show_none : (g : Rows K) (source : Region) (e : K) (f : Face K) → g.mode ≡ mode → (hat_of mode f.region).goes_by_trees ≡ false → show_to cmp g source e f ≡ []
   unfolding show_to is_newly_shown
   show_none g source e f mode_ none_ = rw mode_ (rw none_ refl)
 
-  hide_none : (g : Rows K) (source : Region) (e : K) (f : Face K) → g.mode ≡ mode → is_router_hat (strategy_of mode f.region) ≡ false → hide_to cmp g source e f ≡ []
+  hide_none : (g : Rows K) (source : Region) (e : K) (f : Face K) → g.mode ≡ mode → (hat_of mode f.region).goes_by_trees ≡ false → hide_to cmp g source e f ≡ []
   unfolding hide_to is_hidden
   hide_none g source e f mode_ none_ = rw mode_ (rw none_ refl)
 
   pub showing_runs : (source : Region) (e : K) (g : Rows K) → Frame g → Runs (showing cmp source e) g 0
   unfolding show_to
   showing_runs source e g framed =
-      let none_ = framed_each (λ (o : Outline K). is_router_hat (strategy_of mode o.region) ≡ false) mode os g plain framed in
-      let pays = each_weaker (λ f. is_router_hat (strategy_of mode f.region) ≡ false) (λ f. Pays cmp tokens price end_price g.moment f 0 (show_to cmp g source e f)) (λ f none_. nothing_pays cmp matching tokens price end_price g.moment f (show_to cmp g source e f) (show_none g source e f framed.mode_is none_)) g.faces none_ in
+      let none_ = framed_each (λ (o : Outline K). (hat_of mode o.region).goes_by_trees ≡ false) mode os g plain framed in
+      let pays = each_weaker (λ f. (hat_of mode f.region).goes_by_trees ≡ false) (λ f. Pays cmp tokens price end_price g.moment f 0 (show_to cmp g source e f)) (λ f none_. nothing_pays cmp matching tokens price end_price g.moment f (show_to cmp g source e f) (show_none g source e f framed.mode_is none_)) g.faces none_ in
       let h = rows_heard cmp (to_each (show_to cmp g source e) g.faces) g in
       let rs = filter (is_newly_shown cmp h source e) (router_regions h) in
       let still : Owes cmp matching tokens price end_price (with_own_rows cmp rs e h) ≡ Owes cmp matching tokens price end_price h = own_rows_leave cmp (Owes cmp matching tokens price end_price) (λ k rows. refl) rs e h in
@@ -78,8 +78,8 @@ module _ {K : Type 0} (cmp : K → K → Ordering) (matching : K → K → Bool)
   pub hiding_runs : (source : Region) (e : K) (g : Rows K) → Frame g → Runs (hiding cmp source e) g 0
   unfolding hide_to without_own_rows
   hiding_runs source e g framed =
-      let none_ = framed_each (λ (o : Outline K). is_router_hat (strategy_of mode o.region) ≡ false) mode os g plain framed in
-      let pays = each_weaker (λ f. is_router_hat (strategy_of mode f.region) ≡ false) (λ f. Pays cmp tokens price end_price g.moment f 0 (hide_to cmp g source e f)) (λ f none_. nothing_pays cmp matching tokens price end_price g.moment f (hide_to cmp g source e f) (hide_none g source e f framed.mode_is none_)) g.faces none_ in
+      let none_ = framed_each (λ (o : Outline K). (hat_of mode o.region).goes_by_trees ≡ false) mode os g plain framed in
+      let pays = each_weaker (λ f. (hat_of mode f.region).goes_by_trees ≡ false) (λ f. Pays cmp tokens price end_price g.moment f 0 (hide_to cmp g source e f)) (λ f none_. nothing_pays cmp matching tokens price end_price g.moment f (hide_to cmp g source e f) (hide_none g source e f framed.mode_is none_)) g.faces none_ in
       let h = rows_heard cmp (to_each (hide_to cmp g source e) g.faces) g in
       runs_say cmp matching tokens price end_price (λ k. to_each (hide_to cmp k source e) k.faces) _ g 0 0 (none_said (hide_to cmp g source e) g framed pays)
       (runs_alter cmp matching tokens price end_price (without_own_rows cmp source e) [] h 0 0 (omega arith) refl (runs_nothing cmp matching tokens price end_price _))
@@ -96,12 +96,12 @@ module _ {K : Type 0} (cmp : K → K → Ordering) (matching : K → K → Bool)
 
   -- what is told of a token of a region
   abbrev pub told_price : Region → Outline K → ℕ
-  told_price source o = if shows o.region source then price o.number else 0
+  told_price source o = if shows mode o.region source then price o.number else 0
 
-  told_only_shown : (g : Rows K) (source : Region) (e : K) (f : Face K) → (if is_told cmp matching g source e f then price f.number else 0) ≤ told_price source (outline f)
-  told_only_shown g source e f =
+  told_only_shown : (g : Rows K) (source : Region) (e : K) (f : Face K) → g.mode ≡ mode → (if is_told cmp matching g source e f then price f.number else 0) ≤ told_price source (outline f)
+  told_only_shown g source e f mode_ =
       by_test (is_told cmp matching g source e f)
-      (λ told. by_test (shows f.region source) (λ here. rw (told, here) (omega arith)) (λ here. let fails : is_told cmp matching g source e f ≡ false = rw here (never_shown _ _ _ _) in let clash : true ≡ false = sym told ∙ fails in cc))
+      (λ told. by_test (shows mode f.region source) (λ here. rw (told, here) (omega arith)) (λ here. let fails : is_told cmp matching g source e f ≡ false = rw (mode_, here) (never_shown _ _ _ _) in let clash : true ≡ false = sym told ∙ fails in cc))
       (λ none_. rw none_ (omega arith))
     where
       never_shown : (a b c d : Bool) → (a && (((b && false) && c) && d)) ≡ false
@@ -112,7 +112,7 @@ module _ {K : Type 0} (cmp : K → K → Ordering) (matching : K → K → Bool)
   pub tell_said : (source : Region) (e : K) (g : Rows K) → Frame g
       → Cost cmp matching tokens price end_price (tell cmp matching source e g) + Owes cmp matching tokens price end_price (rows_heard cmp (tell cmp matching source e g) g) ≤ Owes cmp matching tokens price end_price g + total (told_price source) os
   tell_said source e g framed =
-      let less = total_less (λ f. if is_told cmp matching g source e f then price f.number else 0) (λ f. told_price source (outline f)) g.faces (each_always (λ f. (if is_told cmp matching g source e f then price f.number else 0) ≤ told_price source (outline f)) (λ f. told_only_shown g source e f) g.faces) in
+      let less = total_less (λ f. if is_told cmp matching g source e f then price f.number else 0) (λ f. told_price source (outline f)) g.faces (each_always (λ f. (if is_told cmp matching g source e f then price f.number else 0) ≤ told_price source (outline f)) (λ f. told_only_shown g source e f framed.mode_is) g.faces) in
       let is = framed_total (told_price source) mode os g framed in
       let said = each_said _ (λ f. if is_told cmp matching g source e f then price f.number else 0) g framed (each_always _ (λ f. tell_pays cmp matching tokens price end_price g.moment g source e f) g.faces) in
       omega arith

@@ -8,6 +8,7 @@ use Rattle.std.specs.declared.cmp.Ordering.TheVariants.{Equal}
 use Rattle.zt_region.specs.declared.region.Region.{Region}
 use Rattle.zt_region.specs.declared.region.Region.TheVariants.{North}
 use Rattle.zt_region.specs.declared.region.WhatAmI.{WhatAmI}
+use Rattle.zt_region.specs.declared.region.WhatAmI.TheVariants.{Client}
 use Rattle.zt_region.specs.Region.{is_north, region_eq-same}
 use Rattle.zt_protocol.specs.Plain.{DeclareToken, UndeclareToken}
 use Rattle.zt_model.specs.Lists.{at_id, is_among, same}
@@ -18,6 +19,7 @@ use Rattle.zt_model.specs.Telling.{forget_to, undeclared, unregistered}
 use Rattle.zt_model.specs.Transcript.{Each}
 use Rattle.zt_model.specs.Visible.{is_visible, keeps, live_rows, shows}
 use Rattle.zt_model.specs.Wants.{wants}
+use Rattle.zt_model.proofs.Hats.{shares_tokens_by_region}
 use Rattle.zt_laws.specs.Sound.{RiseFrom}
 use Rattle.zt_laws.proofs.Lists.{by_test, each_always, each_map, each_weaker, never, of_cond}
 use Rattle.zt_laws.proofs.Visible.{any_unregistered, at_none, at_only}
@@ -29,11 +31,11 @@ use Rattle.zt_theorem_tree_rest.proofs.Telling.{forget_pays, nothing_pays}
 use Rattle.zt_theorem_tree_rest.proofs.Tokens.{declare_runs, forgets_nothing, undeclare_runs}
 
 -- a face to the north isn't shown what stands there
-pub north_hides : (own source : Region) → is_north own ≡ true → is_north source ≡ true → shows own source ≡ false
-north_hides own source up there =
+pub north_hides : (mode : WhatAmI) (own source : Region) → is_north own ≡ true → is_north source ≡ true → shows mode own source ≡ false
+north_hides mode own source up there =
     let own_is : own ≡ North = region_eq-same own North up in
     let source_is : source ≡ North = region_eq-same source North there in
-    rw (own_is, source_is) refl
+    rw (own_is, source_is, shares_tokens_by_region mode Client North) refl
 
 module _ {K : Type 0} (cmp : K → K → Ordering) (matching : K → K → Bool) (tokens : List K) (price : ℕ → ℕ) (end_price : ℕ)
     (mode : WhatAmI) (os : List (Outline K)) (rises : RiseFrom (λ (o : Outline K). o.number) 1 os) (plain : NoRouters mode os) (total_order : IsTotalOrder cmp) (equal_is_same : (a b : K) → cmp a b ≡ Equal → a ≡ b) where
@@ -59,7 +61,7 @@ module _ {K : Type 0} (cmp : K → K → Ordering) (matching : K → K → Bool)
   fallen_declare n id node e interest f g framed found outside north there =
       let T = told_price cmp matching tokens price end_price mode os rises plain f.region in
       let less = total_less T down os
-      (each_outline (λ o. T o ≤ down o) (λ o. by_test (is_north o.region) (λ own. let hides = north_hides o.region f.region own north in rw (hides, own) (omega arith)) (λ own. rw own (of_cond (λ k. k ≤ price o.number) (shows o.region f.region) (price o.number) 0 (λ _. omega arith) (λ _. omega arith)))) os) in
+      (each_outline (λ o. T o ≤ down o) (λ o. by_test (is_north o.region) (λ own. let hides = north_hides mode o.region f.region own north in rw (hides, own) (omega arith)) (λ own. rw own (of_cond (λ k. k ≤ price o.number) (shows mode o.region f.region) (price o.number) 0 (λ _. omega arith) (λ _. omega arith)))) os) in
       runs_more cmp matching tokens price end_price _ g (total T os) (total down os) less (declare_runs cmp matching tokens price end_price mode os rises plain n id node e interest f total_order equal_is_same g framed found outside there)
 
   -- what a face to the north holds and keeps
@@ -68,11 +70,11 @@ module _ {K : Type 0} (cmp : K → K → Ordering) (matching : K → K → Bool)
     pub sees_what_it_keeps : is_north h.region ≡ true → (e : K) → keeps cmp h e ≡ true → is_visible cmp g h.region e ≡ true
 
   pub still_seen : (n id : ℕ) (given : Option K) (f : Face K) (g : Rows K) (own : Region) (e : K) → Framed mode os g → RiseFrom (λ row. row.0) 0 f.live → find_face n g ≡ Some f → is_north f.region ≡ true → is_north own ≡ true → undeclared cmp matching id given f ≡ Some e → is_visible cmp g own e ≡ true → is_visible cmp (with_face n (unregistered id) g) own e ≡ true
-  unfolding is_visible
+  unfolding is_visible with_face
   still_seen n id given f g own e framed live_rises found north own_north about seen =
-      let test = λ (row : Region × K). same cmp e row.1 && shows own row.0 in
+      let test = λ (row : Region × K). same cmp e row.1 && shows g.mode own row.0 in
       let more = any_unregistered test n id e f g (framed_rise mode os g rises framed) found (only (at_id id f.live) refl about) seen in
-      let no_ : test (f.region, e) ≡ false = ap (λ b. same cmp e e && b) (north_hides own f.region own_north north) ∙ and_no (same cmp e e) in
+      let no_ : test (f.region, e) ≡ false = ap (λ b. same cmp e e && b) (north_hides g.mode own f.region own_north north) ∙ and_no (same cmp e e) in
       ⊎_elim (λ there. there) (λ own_row. never own_row no_) (or_cases (list_any test (live_rows (with_face n (unregistered id) g))) (test (f.region, e)) more)
     where
       and_no : (b : Bool) → (b && false) ≡ false
@@ -113,7 +115,7 @@ module _ {K : Type 0} (cmp : K → K → Ordering) (matching : K → K → Bool)
   risen_declare n id node e interest f g framed found outside there =
       let T = told_price cmp matching tokens price end_price mode os rises plain f.region in
       let less = total_less T (λ o. down o + up o) os
-      (each_outline (λ o. T o ≤ down o + up o) (λ o. let is = both_is o in of_cond (λ k. k ≤ down o + up o) (shows o.region f.region) (price o.number) 0 (λ _. omega arith) (λ _. omega arith)) os) in
+      (each_outline (λ o. T o ≤ down o + up o) (λ o. let is = both_is o in of_cond (λ k. k ≤ down o + up o) (shows mode o.region f.region) (price o.number) 0 (λ _. omega arith) (λ _. omega arith)) os) in
       let sum = total_sum down up os in
       runs_more cmp matching tokens price end_price _ g (total T os) (total down os + total up os) (omega arith) (declare_runs cmp matching tokens price end_price mode os rises plain n id node e interest f total_order equal_is_same g framed found outside there)
 

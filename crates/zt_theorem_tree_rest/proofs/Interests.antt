@@ -43,9 +43,9 @@ module _ {K : Type 0} (cmp : K → K → Ordering) (matching : K → K → Bool)
   pub visible_in : (g : Rows K) (own : Region) → IsIn Q g → Each Q (visible_expressions cmp g own)
   unfolding visible_expressions
   visible_in g own in_ =
-      each_in_order cmp Q (map (λ row. row.1) (filter (λ row. shows own row.0) (live_rows g)))
-      (each_map Q (λ (row : Region × K). row.1) (filter (λ row. shows own row.0) (live_rows g))
-      (each_filter (λ (row : Region × K). Q row.1) (λ row. shows own row.0) (live_rows g)
+      each_in_order cmp Q (map (λ row. row.1) (filter (λ row. shows g.mode own row.0) (live_rows g)))
+      (each_map Q (λ (row : Region × K). row.1) (filter (λ row. shows g.mode own row.0) (live_rows g))
+      (each_filter (λ (row : Region × K). Q row.1) (λ row. shows g.mode own row.0) (live_rows g)
       (each_append (λ (row : Region × K). Q row.1) (flat_map rows_of_face g.faces) _
       (each_member_flat (λ (row : Region × K). Q row.1) rows_of_face g.faces (each_weaker (λ f. Each (λ row. Q row.1) f.live) (λ f. Each (λ (row : Region × K). Q row.1) (rows_of_face f)) (λ f all. each_map (λ (row : Region × K). Q row.1) (λ row. (f.region, row.1)) f.live all) g.faces in_.live))
       (each_map (λ (row : Region × K). Q row.1) (λ row. (row.region, row.expr)) (filter (λ row. not (zid_eq row.source g.zid)) g.routed)
@@ -176,11 +176,11 @@ module _ {K : Type 0} (cmp : K → K → Ordering) (matching : K → K → Bool)
           (λ k own. of_cond (λ (h : Face K). AreTokens cmp matching tokens price end_price total_order equal_is_same (map (λ row. row.1) h.told)) (n == k.number) (unheld id k) k (λ _. own) (λ _. own)) g.faces told) in
           let unheld_ = changed_owes cmp matching tokens price end_price mode os rises plain n (unheld id) 0 g framed
           (each_always (λ (k : Face K). (n == k.number) ≡ true → Owes cmp matching tokens price end_price (record g { faces = unheld id k ∷ [] }) ≤ Owes cmp matching tokens price end_price (record g { faces = k ∷ [] }) + 0) (λ k own. omega arith) g.faces) in
-          let untold = to_face n (untell_to cmp matching) g1 in
+          let untold = to_face n (untell_to cmp matching g1) g1 in
           let untells =
-          one_said n (untell_to cmp matching) (times p tokens) g1 framed1
-          (each_weaker (λ (k : Face K). AreTokens cmp matching tokens price end_price total_order equal_is_same (map (λ row. row.1) k.told)) (λ (k : Face K). (n == k.number) ≡ true → Pays cmp tokens price end_price g1.moment k (times p tokens) (untell_to cmp matching k))
-          (λ k are own. let at_ = at_number n k own (λ q. times q tokens) in let pays = untell_pays cmp matching tokens price end_price total_order equal_is_same g1.moment k are in omega arith) g1.faces told1) in
+          one_said n (untell_to cmp matching g1) (times p tokens) g1 framed1
+          (each_weaker (λ (k : Face K). AreTokens cmp matching tokens price end_price total_order equal_is_same (map (λ row. row.1) k.told)) (λ (k : Face K). (n == k.number) ≡ true → Pays cmp tokens price end_price g1.moment k (times p tokens) (untell_to cmp matching g1 k))
+          (λ k are own. let at_ = at_number n k own (λ q. times q tokens) in let pays = untell_pays cmp matching tokens price end_price total_order equal_is_same g1.moment g1 k are in omega arith) g1.faces told1) in
           let g2 = rows_heard cmp untold g1 in
           let framed2 = framed_heard cmp mode os untold g1 framed1 in
           let final = to_face n (final_of_both id interest) g2 in
@@ -193,7 +193,7 @@ module _ {K : Type 0} (cmp : K → K → Ordering) (matching : K → K → Bool)
           let zero_ = total_none g3.faces in
           runs_more cmp matching tokens price end_price _ g (0 + (times p tokens + (0 + (0 + 0)))) (times p tokens) (omega arith)
           (runs_alter cmp matching tokens price end_price (with_face n (unheld id)) _ g 0 _ unheld_ (face_frame n (unheld id) (λ k. refl) g)
-          (runs_say cmp matching tokens price end_price (to_face n (untell_to cmp matching)) _ g1 (times p tokens) _ untells
+          (runs_say cmp matching tokens price end_price (λ h. to_face n (untell_to cmp matching h) h) _ g1 (times p tokens) _ untells
           (runs_say cmp matching tokens price end_price (to_face n (final_of_both id interest)) _ g2 0 _ finished
           (runs_say cmp matching tokens price end_price (λ h. to_each (end_upstream_to cmp matching h interest) h.faces) [] g3 0 0 (omega arith) (runs_nothing cmp matching tokens price end_price _)))))
 

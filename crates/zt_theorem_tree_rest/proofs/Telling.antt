@@ -15,15 +15,17 @@ use Rattle.zt_protocol.specs.declared.messages.Message.{Message}
 use Rattle.zt_protocol.specs.declared.messages.Message.TheVariants as message
 use Rattle.zt_protocol.specs.declared.messages.QueryableInfo.{QueryableInfo}
 use Rattle.zt_model.specs.Entities.{aggregate_of, all_merged, entities_for, info_of, matching_queryables, matching_subscribers, queryable_of, queryables_for, shown_faces, subscriber_of, subscribers_for}
+use Rattle.zt_model.specs.Hat.{hat_of_face}
 use Rattle.zt_model.specs.Hearing.{heard_all}
 use Rattle.zt_model.specs.Lists.{first_of, in_key_order, is_among, with_key}
 use Rattle.zt_model.specs.Parts.{is_routed, told_id}
-use Rattle.zt_model.specs.Routing.{is_target, is_target_of, route_to, untell_to}
+use Rattle.zt_model.specs.Routing.{is_asked, is_target, route_to, untell_to}
 use Rattle.zt_model.specs.Rows.{ById, Face, InterestRow, Rows}
 use Rattle.zt_model.specs.Telling.{answered_expressions, answers_from, answers_of, forget_to, forget_untold, is_told, tell_to}
 use Rattle.zt_model.specs.Transcript.{Each}
 use Rattle.zt_model.specs.Visible.{is_visible, live_rows, shows, visible_expressions}
 use Rattle.zt_model.specs.Wants.{is_about, wants}
+use Rattle.zt_model.proofs.Hats.{asked_north}
 use Rattle.zt_laws.proofs.Lists.{by_test, each_append, each_filter, of_cond}
 use Rattle.zt_theorem_tree_invariant.proofs.Fresh.{each_in_order}
 use Rattle.zt_theorem_tree_rest.proofs.Once.{in_order_within}
@@ -116,7 +118,7 @@ module _ {K : Type 0} (cmp : K → K → Ordering) (matching : K → K → Bool)
   route_pays now g asker interest f =
       by_test (is_target g asker interest.mode f)
       (λ here.
-      let north : is_north f.region ≡ true = (and_parts (is_north f.region) _ (and_parts (not (is_north asker)) (is_north f.region && is_target_of g.mode g interest.mode f) here).1).0 in
+      let north : is_north f.region ≡ true = asked_north g interest.mode f (and_parts (not (is_north asker)) (is_asked g interest.mode f) here).1 in
       let put_ = total_put_if (λ (i : InterestRow K). end_price) (is_future interest.mode) f.next (record { mode = interest.mode; options = interest.options; expr = interest.expr }) f.locals in
       rw (here, north) (omega arith))
       (λ here. rw here (omega arith))
@@ -231,19 +233,19 @@ module _ {K : Type 0} (cmp : K → K → Ordering) (matching : K → K → Bool)
         let es = answered_expressions cmp matching g interest f in
         let few : times n es ≤ times n tokens =
         of_cond (λ (ks : List K). times n ks ≤ times n tokens) (is_current interest.mode && has_tokens interest.options) (filter (is_about matching interest.expr) (visible_expressions cmp g f.region)) []
-        (λ _. in_order_within cmp total_order equal_is_same n (is_about matching interest.expr) (map (λ row. row.1) (filter (λ row. shows f.region row.0) (live_rows g))) tokens (each_filter (λ e. is_among cmp e tokens ≡ true) (is_about matching interest.expr) (visible_expressions cmp g f.region) all))
+        (λ _. in_order_within cmp total_order equal_is_same n (is_about matching interest.expr) (map (λ row. row.1) (filter (λ row. shows g.mode f.region row.0) (live_rows g))) tokens (each_filter (λ e. is_among cmp e tokens ≡ true) (is_about matching interest.expr) (visible_expressions cmp g f.region) all))
         (λ _. omega arith) in
         let is = answers_mild n f.next f.told interest.mode id es in
         few_pay now (times n tokens) f (answers_of cmp matching g id interest f) is.0 (let same_ = is.1 in omega arith)
 
-    pub untell_pays : (now : ℕ) (f : Face K) → AreTokens (map (λ row. row.1) f.told) → Pays cmp tokens price end_price now f (times (price f.number) tokens) (untell_to cmp matching f)
+    pub untell_pays : (now : ℕ) (g : Rows K) (f : Face K) → AreTokens (map (λ row. row.1) f.told) → Pays cmp tokens price end_price now f (times (price f.number) tokens) (untell_to cmp matching g f)
     unfolding untell_to
-    untell_pays now f all =
+    untell_pays now g f all =
         let n = price f.number in
         let told = map (λ (row : ℕ × K). row.1) f.told in
         let unwanted = filter (λ e. not (wants matching f e)) (in_key_order cmp told) in
         let untold = λ (e : K). (let ms : List (Message K) = elim (told_id cmp e f.told) [ None ↦ [] | Some id ↦ message.UndeclareToken id None 0 ∷ [] ] in ms) in
-        of_cond (λ (ms : List (Message K)). Pays cmp tokens price end_price now f (times n tokens) ms) (is_north f.region) [] (flat_map untold unwanted)
+        of_cond (λ (ms : List (Message K)). Pays cmp tokens price end_price now f (times n tokens) ms) ((hat_of_face g f).is_told_unasked f.region) [] (flat_map untold unwanted)
         (λ _. few_pay now (times n tokens) f [] tt (omega arith))
         (λ _.
         let one = one_each n untold (λ e. by_told (told_id cmp e f.told)) unwanted in

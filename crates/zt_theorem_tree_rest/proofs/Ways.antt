@@ -6,13 +6,13 @@ use Rattle.zt_region.specs.declared.region.WhatAmI.{WhatAmI}
 use Rattle.zt_region.specs.Region.{is_north}
 use Rattle.zt_protocol.specs.Plain.{DeclareToken, UndeclareToken, DeclareFinal}
 use Rattle.zt_protocol.specs.declared.messages.Message.{Message}
+use Rattle.zt_model.specs.Hat.{hat_of}
 use Rattle.zt_model.specs.Hearing.{rows_heard}
 use Rattle.zt_model.specs.Lists.{first_where, has_id, is_some_and}
 use Rattle.zt_model.specs.Parts.{Part, Alter, Say, Sends, find_face, is_routed, said_by, to_each, with_face}
 use Rattle.zt_model.specs.Routing.{ended, ending, finish_to, finishing, initial_finalised}
 use Rattle.zt_model.specs.Rows.{Face, Rows}
 use Rattle.zt_model.specs.Says.{declaring_of, hiding_undeclared, parts_of, said, undeclaring_of}
-use Rattle.zt_model.specs.Strategy.{is_router_hat, strategy_of}
 use Rattle.zt_model.specs.Telling.{answer_to, answering, declaring, forget_to, is_told, registered, registers, tell, tell_to, undeclared, undeclaring, unregistered}
 use Rattle.zt_model.specs.Transcript.{Each}
 use Rattle.zt_model.specs.Trees.{hide_to, hiding, is_hidden, is_newly_shown, router_regions, show_to, showing, source_of, with_own_rows, without_own_rows}
@@ -96,23 +96,23 @@ module _ {K : Type 0} (cmp : K → K → Ordering) (matching : K → K → Bool)
   show_down : (source : Region) (e : K) (g : Rows K) → Framed mode os g → StayDown (showing cmp source e) g
   unfolding show_to is_newly_shown
   show_down source e g framed =
-      let none_ = framed_each (λ (o : Outline K). is_router_hat (strategy_of mode o.region) ≡ false) mode os g plain framed in
+      let none_ = framed_each (λ (o : Outline K). (hat_of mode o.region).goes_by_trees ≡ false) mode os g plain framed in
       let h = rows_heard cmp (to_each (show_to cmp g source e) g.faces) g in
       let framed_h = framed_heard cmp mode os (to_each (show_to cmp g source e) g.faces) g framed in
       let rs = filter (is_newly_shown cmp h source e) (router_regions h) in
       let frame_ = own_rows_leave cmp frame_of (λ k rows. refl) rs e h in
       down_say (λ k. to_each (show_to cmp k source e) k.faces) _ g
-      (down_each (show_to cmp g source e) g framed (each_weaker (λ f. is_router_hat (strategy_of mode f.region) ≡ false) (λ f. is_north f.region ≡ true → show_to cmp g source e f ≡ []) (λ f no_router up. rw (framed.mode_is) (rw no_router refl)) g.faces none_))
+      (down_each (show_to cmp g source e) g framed (each_weaker (λ f. (hat_of mode f.region).goes_by_trees ≡ false) (λ f. is_north f.region ≡ true → show_to cmp g source e f ≡ []) (λ f no_router up. rw (framed.mode_is) (rw no_router refl)) g.faces none_))
       (down_alter _ [] h (down_nothing (with_own_rows cmp rs e h) (record { mode_is = ap (λ (f : Frame K). f.mode) frame_ ∙ framed_h.mode_is; faces_are = ap (λ (f : Frame K). f.outlines) frame_ ∙ framed_h.faces_are })))
 
   hide_down : (source : Region) (e : K) (g : Rows K) → Framed mode os g → StayDown (hiding cmp source e) g
   unfolding hide_to is_hidden without_own_rows
   hide_down source e g framed =
-      let none_ = framed_each (λ (o : Outline K). is_router_hat (strategy_of mode o.region) ≡ false) mode os g plain framed in
+      let none_ = framed_each (λ (o : Outline K). (hat_of mode o.region).goes_by_trees ≡ false) mode os g plain framed in
       let h = rows_heard cmp (to_each (hide_to cmp g source e) g.faces) g in
       let framed_h = framed_heard cmp mode os (to_each (hide_to cmp g source e) g.faces) g framed in
       down_say (λ k. to_each (hide_to cmp k source e) k.faces) _ g
-      (down_each (hide_to cmp g source e) g framed (each_weaker (λ f. is_router_hat (strategy_of mode f.region) ≡ false) (λ f. is_north f.region ≡ true → hide_to cmp g source e f ≡ []) (λ f no_router up. rw (framed.mode_is) (rw no_router refl)) g.faces none_))
+      (down_each (hide_to cmp g source e) g framed (each_weaker (λ f. (hat_of mode f.region).goes_by_trees ≡ false) (λ f. is_north f.region ≡ true → hide_to cmp g source e f ≡ []) (λ f no_router up. rw (framed.mode_is) (rw no_router refl)) g.faces none_))
       (down_alter (without_own_rows cmp source e) [] h (down_nothing (without_own_rows cmp source e h) (record { mode_is = framed_h.mode_is; faces_are = framed_h.faces_are })))
 
   -- faces that lead up ask nothing
@@ -133,14 +133,14 @@ module _ {K : Type 0} (cmp : K → K → Ordering) (matching : K → K → Bool)
 
   tell_none : (g : Rows K) (source : Region) (e : K) (f : Face K) → is_north source ≡ true → is_north f.region ≡ true → tell_to cmp matching g source e f ≡ []
   unfolding tell_to
-  tell_none g source e f there up = rw (not_told (north_hides f.region source up there)) refl
+  tell_none g source e f there up = rw (not_told (north_hides g.mode f.region source up there)) refl
     where
       never_shown : (a b c d : Bool) → (a && (((b && false) && c) && d)) ≡ false
       never_shown true true c d = refl
       never_shown true false c d = refl
       never_shown false b c d = refl
 
-      not_told : shows f.region source ≡ false → is_told cmp matching g source e f ≡ false
+      not_told : shows g.mode f.region source ≡ false → is_told cmp matching g source e f ≡ false
       not_told hides = rw hides (never_shown _ _ _ _)
 
   declaring_down : (n id : ℕ) (e : K) (f : Face K) (g : Rows K) → Framed mode os g → is_north f.region ≡ true → StayDown (declaring cmp matching n id e f ++ showing cmp f.region e) g

@@ -35,7 +35,7 @@ module _ {K : Type 0} (cmp : K → K → Ordering) (matching : K → K → Bool)
     pub agree : TreesAgree cmp matching s
     pub queues : QueuesStand s
 
-  -- each open plain face keeps, of what it covers, exactly what is live at plain faces of its gateway's tree
+  -- each open plain face keeps, of what is owed to it, exactly what is live at plain faces of its gateway's tree
   abbrev pub AllKnowTheirTrees : Fabric K → Type 0
   AllKnowTheirTrees s = (n : ℕ) (x : FaceAt K) → face_numbered s n ≡ Some x → is_plain_number s n ≡ true → KnowsItsTree cmp matching s x.gateway x.face
 

@@ -75,7 +75,7 @@ pub fn steps_come_to_an_end<K: Key>()
 
 /// Everybody knows in the end. From a fabric of trees, once steps alone have followed until none
 /// follows any more, or so many as `most_steps` says, nothing waits, and each open plain face
-/// keeps, of what it covers, exactly what is live at plain faces of its gateway's tree.
+/// keeps, of what is owed to it, exactly what is live at plain faces of its gateway's tree.
 pub fn trees_come_to_rest<K: Key>()
     ensures { (lines : List (PlainLine K)) (s : Fabric K)
         → TreesStand K.cmp K.matching s → IsTreeFabric s
