@@ -1,6 +1,7 @@
 -- An interest is answered in its own call.
-use Rattle.std.proofs.Common.{◌≡◌, ℕ, ◌+◌, Bool, if◌then◌else◌, ◌&&◌, ◌==◌, List, [], ◌∷◌, ◌++◌, filter, map, Option, Some, None, refl, ap, ◌∙◌, append-nil, eq-eqb}
+use Rattle.std.proofs.Common.{◌≡◌, ℕ, ◌+◌, Bool, if◌then◌else◌, ◌&&◌, ◌==◌, List, [], ◌∷◌, ◌++◌, filter, map, Option, Some, None, refl, ap, ◌∙◌, append-nil, eq-eqb, ◌||◌, not}
 use Rattle.std.specs.declared.cmp.Ordering.{Ordering}
+use Rattle.zt_region.specs.Region.{region_eq}
 use Rattle.zt_region.specs.declared.region.Region.{Region}
 use Rattle.zt_protocol.specs.Interest.{is_current, is_future, has_tokens}
 use Rattle.zt_protocol.specs.Plain.{Interest}
@@ -18,6 +19,7 @@ use Rattle.zt_model.specs.Says.{Sends, answered_expressions, answers_from, answe
 use Rattle.zt_model.specs.Transcript.{Each}
 use Rattle.zt_model.specs.Visible.{live_rows, shows, visible_expressions}
 use Rattle.zt_model.specs.Wants.{is_about}
+use Rattle.zt_model.proofs.Hats.{shares_tokens_by_region}
 use Rattle.zt_laws.proofs.Hearing.{each_ruled, each_ruled_one, heard_all-number, heard_all-region, messages_for-append, messages_for_own}
 use Rattle.zt_laws.proofs.Lists.{by_test, of_cond}
 use Rattle.zt_laws.proofs.PartsOrder.{each_message_for}
@@ -74,7 +76,9 @@ module _ {K : Type 0} (cmp : K → K → Ordering) (matching : K → K → Bool)
   unfolding answered_expressions visible_expressions
   answered_as g h interest f k live_ region_ =
       ap (λ es. if is_current interest.mode && has_tokens interest.options then filter (is_about matching interest.expr) es else [])
-      (ap (visible_expressions cmp h) region_ ∙ ap (λ (rows : List (Region × K)). in_key_order cmp (map (λ row. row.1) (filter (λ row. shows f.region row.0) rows))) live_)
+      (ap (visible_expressions cmp h) region_
+      ∙ ap (λ b. in_key_order cmp (map (λ row. row.1) (filter (λ row. b || not (region_eq row.0 f.region)) (live_rows h)))) (shares_tokens_by_region h.mode g.mode f.region)
+      ∙ ap (λ (rows : List (Region × K)). in_key_order cmp (map (λ row. row.1) (filter (λ row. shows g.mode f.region row.0) rows))) live_)
 
   pub none_for : (id n : ℕ) (ss : Sends K) → Each (λ s. AnswersNone id s.1) ss → answers_in id (messages_for n ss) ≡ []
   none_for id n ss none_ = answers_none id (messages_for n ss) (each_message_for cmp (AnswersNone id) n ss none_)

@@ -276,8 +276,8 @@ module _ {K : Type 0} (cmp : K → K → Ordering) (matching : K → K → Bool)
       answers_none_for k i apart = ap (λ ss. answers_in i (messages_for k ss)) asks_said ∙ asking_answers_none k i n id interest from.region g apart
 
       visible_asked : (own : Region) (x : K) → is_visible cmp (without_own asked_rows) own x ≡ is_visible cmp g own x
-      unfolding is_visible
-      visible_asked own x = visible_shown cmp matching asked_rows own x ∙ ap (list_any (λ row. same cmp x row.1 && shows own row.0)) (with_face_same n asks (with_numbers cmp (numbered_by cmp interest) g) (λ f. refl) (λ f. refl)).live
+      unfolding is_visible with_face
+      visible_asked own x = visible_shown cmp matching asked_rows own x ∙ ap (list_any (λ row. same cmp x row.1 && shows g.mode own row.0)) (with_face_same n asks (with_numbers cmp (numbered_by cmp interest) g) (λ f. refl) (λ f. refl)).live
 
       -- a row of an ask that isn't this one
       other_asked : (k : ℕ) (h : Face K) (row : ℕ × Ask K) → h.number ≡ k → ((n ≡ k) → is_current mode ≡ true → (row.0 == id) ≡ false) → Answered (at ∷ []) (messages_for k (said cmp matching call g)) j (without_own asked_rows) h row.0 row.1

@@ -4,9 +4,6 @@ use Rattle.std.proofs.lemmas.Bool.{and_parts, or_left}
 use Rattle.std.specs.List.{list_any}
 use Rattle.std.specs.declared.cmp.Ordering.{Ordering}
 use Rattle.zt_region.specs.declared.region.Region.{Region}
-use Rattle.zt_region.specs.declared.region.WhatAmI.{WhatAmI}
-use Rattle.zt_region.specs.declared.region.WhatAmI.TheVariants.{Router, Peer, Client}
-use Rattle.zt_region.specs.Region.{is_north}
 use Rattle.zt_protocol.specs.Interest.{is_current, is_future}
 use Rattle.zt_protocol.specs.Plain.{InterestFinal}
 use Rattle.zt_protocol.specs.declared.interests.InterestMode.{InterestMode}
@@ -16,7 +13,7 @@ use Rattle.zt_model.specs.Entities.{entities_for, numbered_by, with_numbers}
 use Rattle.zt_model.specs.Hearing.{heard_all, messages_for, put_if, rows_heard}
 use Rattle.zt_model.specs.Lists.{at_id, first_where, has_id, is_some_and}
 use Rattle.zt_model.specs.Promises.{finals_in}
-use Rattle.zt_model.specs.Routing.{asked_as, end_upstream_to, final_of, final_of_both, finalising, is_target, is_target_of, route, route_to, sent_as, stands, unheld, untell_to}
+use Rattle.zt_model.specs.Routing.{asked_as, end_upstream_to, final_of, final_of_both, finalising, is_target, route, route_to, sent_as, stands, unheld, untell_to}
 use Rattle.zt_model.specs.Rows.{Ask, Face, InterestRow, Rows}
 use Rattle.zt_model.specs.Says.{Alter, Part, Say, Sends, altered_by, answered_expressions, answers_of, asking, finalising_held, find_face, parts_of, said_by, to_each, to_face, with_face}
 use Rattle.zt_model.specs.Transcript.{Each}
@@ -59,7 +56,7 @@ module _ {K : Type 0} (cmp : K → K → Ordering) (matching : K → K → Bool)
     left_by_end : (k i : ℕ) (ask : Ask K) → (is_this n id k i ≡ true → is_future ask.interest.mode ≡ false) → Stays cmp matching k i ask (finalising cmp matching n id interest)
     left_by_end k i ask now_alone =
         stays_alter cmp matching k i ask (with_face n (unheld id)) _ (λ g is. is_changed cmp nobody k i ask true g (with_face n (unheld id) g) refl (unheld_still cmp matching nobody n id g) is)
-        (stays_say cmp matching k i ask (to_face n (untell_to cmp matching)) _ (λ g is. (still_heard cmp matching k i ask true (to_face n (untell_to cmp matching) g) g (untell_still cmp matching nobody n g) is).1)
+        (stays_say cmp matching k i ask (λ g. to_face n (untell_to cmp matching g) g) _ (λ g is. (still_heard cmp matching k i ask true (to_face n (untell_to cmp matching g) g) g (untell_still cmp matching nobody n g) is).1)
         (stays_say cmp matching k i ask (to_face n (final_of_both id interest)) _
         (λ g is. face_finals cmp matching k i ask n (final_of_both id interest) g true is.at (λ own. none_of g is own))
         (stays_still cmp matching k i ask (Say (λ g. to_each (end_upstream_to cmp matching g interest) g.faces) ∷ []) (upstream_still cmp matching nobody interest, tt))))
@@ -97,7 +94,7 @@ module _ {K : Type 0} (cmp : K → K → Ordering) (matching : K → K → Bool)
         one = is_changed cmp nobody n i ask true g g1 refl (unheld_still cmp matching nobody n id g) is
 
         ss2 : Sends K
-        ss2 = to_face n (untell_to cmp matching) g1
+        ss2 = to_face n (untell_to cmp matching g1) g1
 
         g2 : Rows K
         g2 = rows_heard cmp ss2 g1
@@ -196,17 +193,12 @@ module _ {K : Type 0} (cmp : K → K → Ordering) (matching : K → K → Bool)
   -- ---- an interest
 
   -- the dictionary says nothing of targets
-  target_numbered : (es : List K) (g : Rows K) (w : WhatAmI) (mode : InterestMode) (f : Face K) → is_target_of w (with_numbers cmp es g) mode f ≡ is_target_of w g mode f
-  target_numbered es g Client mode f = refl
-  target_numbered es g Peer mode f = refl
-  target_numbered es g Router mode f = refl
-
   sent_numbered : (es : List K) (g : Rows K) (asker : Region) (mode : InterestMode) → sent_as (with_numbers cmp es g) asker mode ≡ sent_as g asker mode
   unfolding sent_as is_target
   sent_numbered es g asker mode =
       ap (map (λ (f : Face K). (f.number, f.next)))
       (filter_alike (is_target (with_numbers cmp es g) asker mode) (is_target g asker mode) g.faces
-      (each_always (λ f. is_target (with_numbers cmp es g) asker mode f ≡ is_target g asker mode f) (λ f. ap (λ b. not (is_north asker) && (is_north f.region && b)) (target_numbered es g g.mode mode f)) g.faces))
+      (each_always (λ f. is_target (with_numbers cmp es g) asker mode f ≡ is_target g asker mode f) (λ f. refl) g.faces))
 
   -- what an interest is sent as stands then
   sent_stands : (asker : Region) (interest : InterestRow K) (g : Rows K) → is_current interest.mode ≡ true → RiseFrom (λ f. f.number) 1 g.faces

@@ -160,8 +160,8 @@ module _ {K : Type 0} (cmp : K → K → Ordering) (matching : K → K → Bool)
 
     silent_finalising : (n id : ℕ) (interest : InterestRow K) → Silent (finalising cmp matching n id interest)
     silent_finalising n id interest =
-        silent_append (Alter (with_face n (unheld id)) ∷ Say (to_face n (untell_to cmp matching)) ∷ []) (Say (to_face n (final_of_both id interest)) ∷ Say (λ g. to_each (end_upstream_to cmp matching g interest) g.faces) ∷ [])
-        (silent_still nobody refl (Alter (with_face n (unheld id)) ∷ Say (to_face n (untell_to cmp matching)) ∷ []) (unheld_still cmp matching nobody n id, (untell_still cmp matching nobody n, tt)))
+        silent_append (Alter (with_face n (unheld id)) ∷ Say (λ g. to_face n (untell_to cmp matching g) g) ∷ []) (Say (to_face n (final_of_both id interest)) ∷ Say (λ g. to_each (end_upstream_to cmp matching g interest) g.faces) ∷ [])
+        (silent_still nobody refl (Alter (with_face n (unheld id)) ∷ Say (λ g. to_face n (untell_to cmp matching g) g) ∷ []) (unheld_still cmp matching nobody n id, (untell_still cmp matching nobody n, tt)))
         (silent_say (to_face n (final_of_both id interest)) (Say (λ g. to_each (end_upstream_to cmp matching g interest) g.faces) ∷ [])
         (λ g absent. face_silent n (final_of_both id interest) g absent (λ own. by_test (i == id) (λ same_. subst (λ j. finals_in i (final_of_both j interest absent.face) ≡ 0) (eqb-true i id same_) (by_row absent.face absent.none (at_id i absent.face.asks) refl)) (λ apart. apart_final absent.face apart)))
         (silent_still nobody refl (Say (λ g. to_each (end_upstream_to cmp matching g interest) g.faces) ∷ []) (upstream_still cmp matching nobody interest, tt)))

@@ -11,23 +11,24 @@ use Rattle.zt_region.specs.declared.region.Region.TheVariants.{North, Local, Sou
 use Rattle.zt_region.specs.declared.region.WhatAmI.{WhatAmI}
 use Rattle.zt_region.specs.declared.region.WhatAmI.TheVariants.{Router, Peer, Client}
 use Rattle.zt_region.specs.declared.region.Zid.{Zid}
-use Rattle.zt_region.specs.Region.{is_north, whatami_eq}
+use Rattle.zt_region.specs.Region.{is_north}
 use Rattle.zt_protocol.specs.Interest.{is_current, is_future}
 use Rattle.zt_protocol.specs.Plain.{PlainCall, NewSession, NewTransport, DeclareToken, UndeclareToken, Interest, InterestFinal, DeclareFinal, CloseFace, Expire, SetTrees, SetEntities}
 use Rattle.zt_protocol.specs.declared.interests.InterestMode.{InterestMode}
 use Rattle.zt_protocol.specs.declared.messages.Message.{Message}
 use Rattle.zt_model.specs.Closing.{closing, expiring, leaving, without_face}
 use Rattle.zt_model.specs.Entities.{entities_for, numbered_by, with_numbers}
+use Rattle.zt_model.specs.Hat.{hat_of, north_hat}
 use Rattle.zt_model.specs.Hearing.{heard_all, messages_for, rows_heard}
 use Rattle.zt_model.specs.Lists.{at_id, first_where, has_id, is_some_and}
 use Rattle.zt_model.specs.Parts.{unsaid_to}
 use Rattle.zt_model.specs.Promises.{finals_in}
 use Rattle.zt_model.specs.Refusals.{call_causes, first_cause, is_interest_id_in_use}
-use Rattle.zt_model.specs.Routing.{asked_as, face_opened, final_of, finalising, finishing, interests_from, is_greeted, is_target, is_target_of, opened, opening_final, opening_interests, opening_tokens, route, route_to, sent_as, stands, tokens_from}
+use Rattle.zt_model.specs.Routing.{asked_as, face_opened, final_of, finalising, finishing, interests_from, is_target, leads_up, opened, opening_final, opening_interests, opening_tokens, route, route_to, sent_as, stands, tokens_from}
 use Rattle.zt_model.specs.Rows.{Ask, ById, Face, InterestRow, Rows}
 use Rattle.zt_model.specs.Says.{Alter, Part, Say, Sends, altered, altered_by, answered_expressions, answers_of, asking, finalising_held, find_face, is_routed, opened_session, parts_of, row_of, said, said_by, to_face, with_face}
-use Rattle.zt_model.specs.Strategy.{is_router_hat, strategy_of}
 use Rattle.zt_model.specs.Transcript.{Each}
+use Rattle.zt_model.proofs.Hats.{asked_in, asked_is}
 use Rattle.zt_laws.specs.Order.{RowsAreInOrder}
 use Rattle.zt_laws.specs.Sound.{RiseFrom, opens_face, rows_after_call}
 use Rattle.zt_laws.proofs.Calls.{no_cause, not_on_face}
@@ -250,21 +251,23 @@ module _ {K : Type 0} (cmp : K → K → Ordering) (matching : K → K → Bool)
 
   -- ---- faces of router regions
 
+  routed_not_asked : (g : Rows K) (mode : InterestMode) (f : Face K) (w : WhatAmI) (r : Region) → f.region ≡ r → (hat_of w r).goes_by_trees ≡ true → asked_in w g mode f ≡ false
+  routed_not_asked g mode f Router r region_ is = refl
+  routed_not_asked g mode f Peer North region_ is = never is refl
+  routed_not_asked g mode f Client North region_ is = never is refl
+  routed_not_asked g mode f Peer Local region_ is = never is refl
+  routed_not_asked g mode f Client Local region_ is = never is refl
+  routed_not_asked g mode f Peer (South id remote) region_ is = by_test (is_future mode) (λ b. rw (b, region_) refl) (λ b. rw (b, region_) refl)
+  routed_not_asked g mode f Client (South id remote) region_ is = rw region_ refl
+
   routed_no_target : (g : Rows K) (asker : Region) (mode : InterestMode) (f : Face K) → is_routed g f ≡ true → is_target g asker mode f ≡ false
   unfolding is_target
-  routed_no_target g asker mode f routed = by_test (is_north asker) (λ north. rw north refl) (λ south. rw south (of_region g.mode f.region routed))
-    where
-      of_region : (w : WhatAmI) (r : Region) → is_router_hat (strategy_of w r) ≡ true → (is_north r && is_target_of w g mode f) ≡ false
-      of_region Router North is = refl
-      of_region Peer North is = never is refl
-      of_region Client North is = never is refl
-      of_region w Local is = refl
-      of_region w (South id remote) is = refl
+  routed_no_target g asker mode f routed = by_test (is_north asker) (λ north. rw north refl) (λ south. rw south (asked_is g mode f ∙ routed_not_asked g mode f g.mode f.region refl routed))
 
-  routed_not_greeted : (g : Rows K) (f : Face K) → is_routed g f ≡ true → is_greeted cmp matching g f ≡ false
-  routed_not_greeted g f routed = of_region g.mode f.region routed
+  routed_leads_nowhere : (g : Rows K) (f : Face K) → is_routed g f ≡ true → leads_up g.mode f ≡ false
+  routed_leads_nowhere g f routed = of_region g.mode f.region routed
     where
-      of_region : (w : WhatAmI) (r : Region) → is_router_hat (strategy_of w r) ≡ true → (is_north r && not (whatami_eq w Router)) ≡ false
+      of_region : (w : WhatAmI) (r : Region) → (hat_of w r).goes_by_trees ≡ true → (is_north r && (north_hat w).leads_up f.bound) ≡ false
       of_region Router North is = refl
       of_region Peer North is = never is refl
       of_region Client North is = never is refl
@@ -334,7 +337,7 @@ module _ {K : Type 0} (cmp : K → K → Ordering) (matching : K → K → Bool)
       by_test (f.number == made)
       (λ own.
       let is : f.number ≡ made = eqb-true f.number made own in
-      let away : is_greeted cmp matching h f ≡ false = routed_not_greeted h f routed in
+      let away : leads_up h.mode f ≡ false = routed_leads_nowhere h f routed in
       subst (λ k. Each MakesNoPending (messages_for k (to_face made (rule h) h))) (sym is)
       (subst (Each MakesNoPending) (sym (to_face_own made (rule h) h f (subst (λ k. find_face k h ≡ Some f) is found))) (rw away tt)))
       (λ other. subst (Each MakesNoPending) (sym (to_face_none f.number made (rule h) h other)) tt))

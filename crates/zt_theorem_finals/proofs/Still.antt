@@ -9,13 +9,13 @@ use Rattle.zt_protocol.specs.declared.messages.Message.{Message}
 use Rattle.zt_protocol.specs.declared.messages.QueryableInfo.{QueryableInfo}
 use Rattle.zt_model.specs.Closing.{leaving, without_asks}
 use Rattle.zt_model.specs.Entities.{entity_expressions, with_numbers}
+use Rattle.zt_model.specs.Hat.{hat_of}
 use Rattle.zt_model.specs.Hearing.{heard_all, messages_for, rows_heard}
 use Rattle.zt_model.specs.Lists.{has_id}
 use Rattle.zt_model.specs.Parts.{unsaid_to}
 use Rattle.zt_model.specs.Routing.{end_upstream_to, ended, ending, final_of_both, finalising, finish_to, initial_finalised, unheld, untell_to}
 use Rattle.zt_model.specs.Rows.{Ask, ById, Face, InterestRow, Rows}
 use Rattle.zt_model.specs.Says.{Alter, Part, Say, Sends, altered_by, answering, declaring, declaring_of, find_face, forget_to, hiding_undeclared, is_routed, parts_of, registered, registers, to_each, to_face, undeclared, undeclaring, undeclaring_of, unregistered, with_face}
-use Rattle.zt_model.specs.Strategy.{is_router_hat, strategy_of}
 use Rattle.zt_model.specs.Telling.{answer_to}
 use Rattle.zt_model.specs.Transcript.{Each}
 use Rattle.zt_model.specs.Trees.{counted_table, forgetting, greet_to, hiding, is_newly_shown, left_out, router_regions, showing, source_of, table_of, with_own_rows, with_routed, with_table, without_left_out, without_own_rows, without_routed}
@@ -97,8 +97,8 @@ module _ {K : Type 0} (cmp : K → K → Ordering) (matching : K → K → Bool)
   pub unheld_still : (but : ℕ → Bool) (n id : ℕ) → StillPart but (Alter (with_face n (unheld id)))
   unheld_still but n id = one_still but n (unheld id) (λ k. refl) (λ k. refl) (λ k apart. refl) (λ k. refl)
 
-  pub untell_still : (but : ℕ → Bool) (n : ℕ) → StillPart but (Say (to_face n (untell_to cmp matching)))
-  untell_still but n = λ g. each_ruled_one Still n (untell_to cmp matching) g (untell_says cmp matching Still (λ k. tt))
+  pub untell_still : (but : ℕ → Bool) (n : ℕ) → StillPart but (Say (λ g. to_face n (untell_to cmp matching g) g))
+  untell_still but n = λ g. each_ruled_one Still n (untell_to cmp matching g) g (untell_says cmp matching Still (λ k. tt) g)
 
   pub upstream_still : (but : ℕ → Bool) (interest : InterestRow K) → StillPart but (Say (λ g. to_each (end_upstream_to cmp matching g interest) g.faces))
   upstream_still but interest = λ g. each_ruled Still (end_upstream_to cmp matching g interest) g.faces (end_upstream_says cmp matching Still (λ k. tt) g interest)
@@ -126,7 +126,7 @@ module _ {K : Type 0} (cmp : K → K → Ordering) (matching : K → K → Bool)
   finalising_unsaid but n id interest = (
     unheld_still but n id,
     (
-      (λ g. each_filter (λ s. Still s.1) (λ s. not (n == s.0)) (to_face n (untell_to cmp matching) g) (untell_still but n g)),
+      (λ g. each_filter (λ s. Still s.1) (λ s. not (n == s.0)) (to_face n (untell_to cmp matching g) g) (untell_still but n g)),
       (
         (λ g. subst (Each (λ s. Still s.1)) (sym (unsaid_own n (final_of_both id interest) g)) tt),
         ((λ g. each_filter (λ s. Still s.1) (λ s. not (n == s.0)) (to_each (end_upstream_to cmp matching g interest) g.faces) (upstream_still but interest g)), tt),
@@ -244,7 +244,7 @@ module _ {K : Type 0} (cmp : K → K → Ordering) (matching : K → K → Bool)
   finalising_keeps but n id interest = (
     keeps_if_still but (Alter (with_face n (unheld id))) (unheld_still but n id),
     (
-      keeps_if_still but (Say (to_face n (untell_to cmp matching))) (untell_still but n),
+      keeps_if_still but (Say (λ g. to_face n (untell_to cmp matching g) g)) (untell_still but n),
       (
         (λ g. each_ruled_one MakesNoPending n (final_of_both id interest) g (final_of_both_says cmp matching MakesNoPending (λ k. tt) id interest)),
         (keeps_if_still but (Say (λ g. to_each (end_upstream_to cmp matching g interest) g.faces)) (upstream_still but interest), tt),
@@ -294,7 +294,7 @@ module _ {K : Type 0} (cmp : K → K → Ordering) (matching : K → K → Bool)
       (each_map (λ f. is_routed h f ≡ true → f.pendings ≡ []) leaves.change g.faces
       (each_weaker (λ f. is_routed g f ≡ true → f.pendings ≡ []) (λ f. is_routed h (leaves.change f) ≡ true → (leaves.change f).pendings ≡ [])
       (λ f own routed.
-      let routed_ : is_routed g f ≡ true = sym (ap (λ m. is_router_hat (strategy_of m (leaves.change f).region)) leaves.mode ∙ ap (λ (r : Region). is_router_hat (strategy_of g.mode r)) (leaves.region f)) ∙ routed in
+      let routed_ : is_routed g f ≡ true = sym (ap (λ m. (hat_of m (leaves.change f).region).goes_by_trees) leaves.mode ∙ ap (λ (r : Region). (hat_of g.mode r).goes_by_trees) (leaves.region f)) ∙ routed in
       leaves.none f (own routed_)) g.faces all))
 
   pub routed_heard : (ss : Sends K) (g : Rows K) → Each (λ f. is_routed g f ≡ true → Each MakesNoPending (messages_for f.number ss)) g.faces → RoutedAskNothing g → RoutedAskNothing (rows_heard cmp ss g)
@@ -305,11 +305,11 @@ module _ {K : Type 0} (cmp : K → K → Ordering) (matching : K → K → Bool)
       hears f = heard_all cmp g.moment (messages_for f.number ss) f
 
       by_faces : (fs : List (Face K)) → Each (λ f. is_routed g f ≡ true → Each MakesNoPending (messages_for f.number ss)) fs → Each (λ f. is_routed g f ≡ true → f.pendings ≡ []) fs
-          → Each (λ f. is_router_hat (strategy_of g.mode f.region) ≡ true → f.pendings ≡ []) (map hears fs)
+          → Each (λ f. (hat_of g.mode f.region).goes_by_trees ≡ true → f.pendings ≡ []) (map hears fs)
       by_faces [] quiet_ all_ = tt
       by_faces (f ∷ fs) quiet_ all_ = (
         (λ routed.
-            let routed_ : is_routed g f ≡ true = sym (ap (λ (r : Region). is_router_hat (strategy_of g.mode r)) (heard_all-region cmp g.moment (messages_for f.number ss) f)) ∙ routed in
+            let routed_ : is_routed g f ≡ true = sym (ap (λ (r : Region). (hat_of g.mode r).goes_by_trees) (heard_all-region cmp g.moment (messages_for f.number ss) f)) ∙ routed in
             pendings_same cmp g.moment (messages_for f.number ss) f (quiet_.0 routed_) ∙ all_.0 routed_),
         by_faces fs quiet_.1 all_.1,
       )

@@ -12,11 +12,12 @@ use Rattle.zt_protocol.specs.declared.entries.Sent.{Sent}
 use Rattle.zt_protocol.specs.declared.errors.Refusal.{Refusal}
 use Rattle.zt_protocol.specs.declared.errors.Refusal.TheVariants as refusal
 use Rattle.zt_model.specs.Fabric.{CallAt, Fabric, Node, Place, after_hearing, after_refusal, altered_by_line, at_nth, line_causes, call_at, call_of, causes_of_call, empty_fabric, entry_by, entry_of, fabric_after, new_rows, next_face, opened_at, said_at, said_by_line, sorted_by_face, with_gateway, with_place, with_rows, with_waiting}
+use Rattle.zt_model.specs.Hat.{hat_of}
 use Rattle.zt_model.specs.Hearing.{rows_heard}
 use Rattle.zt_model.specs.Journal.{cause_of, is_making, outcome_of, rows_after}
 use Rattle.zt_model.specs.Lists.{is_some_and, nth}
 use Rattle.zt_model.specs.Refusals.{Causes, GREATEST_NUMBER, are_numbers_spent, call_causes, first_cause, is_north_taken, spends_ids}
-use Rattle.zt_model.specs.Strategy.{fits, is_region_of}
+use Rattle.zt_model.specs.Strategy.{is_region_of}
 use Rattle.zt_model.specs.Rows.{Rows}
 use Rattle.zt_model.specs.Says.{altered, altered_by, parts_of, said, said_by}
 use Rattle.zt_model.specs.Transcript.{Each}
@@ -184,7 +185,7 @@ module _ {K : Type 0} (cmp : K → K → Ordering) (matching : K → K → Bool)
   face_first mode zid region bound first g s alone =
       let c : PlainCall K = NewTransport zid mode region bound first in
       let h = alone.node.rows in
-      first_of_five (not (is_region_of h.regions region), refusal.NoSuchRegion) (not (fits h.mode region mode bound), refusal.RegionConflict) (is_north_taken region h, refusal.NorthTaken) (spends_ids cmp matching c h, refusal.IdsSpent) (are_numbers_spent h) (nat_le GREATEST_NUMBER (length s.faces)) refusal.NumbersSpent (full_is g s alone)
+      first_of_five (not (is_region_of h.regions region), refusal.NoSuchRegion) (not ((hat_of h.mode region).fits region mode bound), refusal.RegionConflict) (is_north_taken region h, refusal.NorthTaken) (spends_ids cmp matching c h, refusal.IdsSpent) (are_numbers_spent h) (nat_le GREATEST_NUMBER (length s.faces)) refusal.NumbersSpent (full_is g s alone)
 
   -- A face's line.
   pub face_opens : (mode : WhatAmI) (zid : Zid) (region : Region) (bound : Bound) (first : ℕ) (g : Rows K) (s : Fabric K) → 1 ≤ first → IsAlone cmp matching g s

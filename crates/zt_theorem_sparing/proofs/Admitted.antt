@@ -19,6 +19,7 @@ use Rattle.zt_model.specs.Lists.{first_where, has_id, is_some_and, same}
 use Rattle.zt_model.specs.Refusals.{call_causes, first_cause}
 use Rattle.zt_model.specs.Rows.{ById, Face, Rows}
 use Rattle.zt_model.specs.Says.{Alter, Part, Say, Sends, answering, declaring, declaring_of, find_face, is_routed, is_told, parts_of, registered, registers, said, said_by, tell_to, to_each, with_face}
+use Rattle.zt_model.specs.Seen.{sees}
 use Rattle.zt_model.specs.Telling.{answer_to}
 use Rattle.zt_model.specs.Transcript.{Each}
 use Rattle.zt_model.specs.Trees.{is_newly_shown, pass_to, router_regions, show_to, showing, source_of, with_own_rows, with_routed}
@@ -30,6 +31,7 @@ use Rattle.zt_laws.proofs.Hearing.{each_ruled, heard_all-number, heard_all-regio
 use Rattle.zt_laws.proofs.Keys.{same_itself}
 use Rattle.zt_laws.proofs.Lists.{by_test, each_always, each_append, each_both, each_filter, each_map, each_weaker, never, of_cond}
 use Rattle.zt_laws.proofs.PartsOrder.{each_message_for}
+use Rattle.zt_laws.proofs.Seen.{sees_is}
 use Rattle.zt_laws.proofs.Visible.{any_live_rows}
 use Rattle.zt_theorem_soundness.specs.Ran.{ran}
 use Rattle.zt_theorem_soundness.proofs.CallsRun.{call_runs, live_rows_heard, own_rows_leave}
@@ -63,10 +65,10 @@ module _ {K : Type 0} (cmp : K → K → Ordering) (matching : K → K → Bool)
   abbrev HasRow : Region → K → Rows K → Type 0
   HasRow source e g = (test : Region × K → Bool) → test (source, e) ≡ true → list_any test (live_rows g) ≡ true
 
-  row_admitted : (total : IsTotalOrder cmp) (source own : Region) (e : K) (g : Rows K) → HasRow source e g → shows own source ≡ true → admits g.refused source own ≡ true → is_admitted cmp g own e ≡ true
+  row_admitted : (total : IsTotalOrder cmp) (source own : Region) (e : K) (g : Rows K) → HasRow source e g → sees own source ≡ true → admits g.refused source own ≡ true → is_admitted cmp g own e ≡ true
   unfolding is_admitted
   row_admitted total source own e g row shown admitted =
-      row (λ r. same cmp e r.1 && (shows own r.0 && admits g.refused r.0 own)) (and_from (same cmp e e) (shows own source && admits g.refused source own) (same_itself cmp total e) (and_from (shows own source) (admits g.refused source own) shown admitted))
+      row (λ r. same cmp e r.1 && (shows g.mode own r.0 && admits g.refused r.0 own)) (and_from (same cmp e e) (shows g.mode own source && admits g.refused source own) (same_itself cmp total e) (and_from (shows g.mode own source) (admits g.refused source own) (sym (sees_is g.mode own source) ∙ shown) admitted))
 
   row_same : (source : Region) (e : K) (g h : Rows K) → live_rows h ≡ live_rows g → HasRow source e g → HasRow source e h
   row_same source e g h live_ row = λ test here. ap (list_any test) live_ ∙ row test here
@@ -148,7 +150,7 @@ module _ {K : Type 0} (cmp : K → K → Ordering) (matching : K → K → Bool)
   module _ (g0 : Rows K) (source : Region) (e : K) where
     -- the region is shown and admitted to the face of the number
     abbrev reaches : ℕ → Bool
-    reaches n = is_some_and (find_face n g0) (λ x. shows x.region source && admits g0.refused source x.region)
+    reaches n = is_some_and (find_face n g0) (λ x. sees x.region source && admits g0.refused source x.region)
 
     -- under a real id the expression alone is told, and only to whom it may be
     abbrev TellsIt : ℕ → Message K → Type 0
@@ -214,14 +216,14 @@ module _ {K : Type 0} (cmp : K → K → Ordering) (matching : K → K → Bool)
     zero_says rule zero_ = λ g is. each_weaker (λ s. TellsZero s.1) (λ s. TellsIt s.0 s.1) (λ s one. zero_tells s.0 s.1 one) (rule g) (zero_ g)
 
     -- the face of the number is the one that was there
-    reaches_is : (g : Rows K) (f : Face K) → Is g → is_some_and (find_face f.number g0) (λ x. region_eq x.region f.region) ≡ true → shows f.region source ≡ true → admits g.refused source f.region ≡ true → reaches f.number ≡ true
+    reaches_is : (g : Rows K) (f : Face K) → Is g → is_some_and (find_face f.number g0) (λ x. region_eq x.region f.region) ≡ true → sees f.region source ≡ true → admits g.refused source f.region ≡ true → reaches f.number ≡ true
     reaches_is g f is there shown admitted = cases (find_face f.number g0) there
       where
-        cases : (o : Option (Face K)) → is_some_and o (λ x. region_eq x.region f.region) ≡ true → is_some_and o (λ x. shows x.region source && admits g0.refused source x.region) ≡ true
+        cases : (o : Option (Face K)) → is_some_and o (λ x. region_eq x.region f.region) ≡ true → is_some_and o (λ x. sees x.region source && admits g0.refused source x.region) ≡ true
         cases None there_ = never there_ refl
         cases (Some x) there_ =
-            ap (λ (r : Region). shows r source && admits g0.refused source r) (region_eq-same x.region f.region there_)
-            ∙ and_from (shows f.region source) (admits g0.refused source f.region) shown (ap (λ (pairs : List (Region × Region)). admits pairs source f.region) (sym is.refused) ∙ admitted)
+            ap (λ (r : Region). sees r source && admits g0.refused source r) (region_eq-same x.region f.region there_)
+            ∙ and_from (sees f.region source) (admits g0.refused source f.region) shown (ap (λ (pairs : List (Region × Region)). admits pairs source f.region) (sym is.refused) ∙ admitted)
 
     tells_it : PartIs (Say (λ g. to_each (tell_to cmp matching g source e) g.faces))
     unfolding tell_to to_each
@@ -231,11 +233,11 @@ module _ {K : Type 0} (cmp : K → K → Ordering) (matching : K → K → Bool)
         one g is f there =
             of_cond (Each (λ m. TellsIt f.number m)) (is_told cmp matching g source e f) (message.DeclareToken f.next e None 0 ∷ []) []
             (λ told.
-            let a = and_parts (not (is_routed g f)) (admits g.refused source f.region && shows f.region source && not (keeps cmp f e) && seeks matching f e) told in
-            let b = and_parts (admits g.refused source f.region && shows f.region source && not (keeps cmp f e)) (seeks matching f e) a.1 in
-            let c = and_parts (admits g.refused source f.region && shows f.region source) (not (keeps cmp f e)) b.0 in
-            let d = and_parts (admits g.refused source f.region) (shows f.region source) c.0 in
-            (inr (refl, reaches_is g f is there d.1 d.0), tt))
+            let a = and_parts (not (is_routed g f)) (admits g.refused source f.region && shows g.mode f.region source && not (keeps cmp f e) && seeks matching g.mode f e) told in
+            let b = and_parts (admits g.refused source f.region && shows g.mode f.region source && not (keeps cmp f e)) (seeks matching g.mode f e) a.1 in
+            let c = and_parts (admits g.refused source f.region && shows g.mode f.region source) (not (keeps cmp f e)) b.0 in
+            let d = and_parts (admits g.refused source f.region) (shows g.mode f.region source) c.0 in
+            (inr (refl, reaches_is g f is there (sees_is g.mode f.region source ∙ d.1) d.0), tt))
             (λ _. tt)
 
         all : (g : Rows K) → Is g → (fs : List (Face K)) → Each (λ f. is_some_and (find_face f.number g0) (λ x. region_eq x.region f.region) ≡ true) fs → Each (λ s. TellsIt s.0 s.1) (to_each (tell_to cmp matching g source e) fs)
@@ -287,12 +289,12 @@ module _ {K : Type 0} (cmp : K → K → Ordering) (matching : K → K → Bool)
         (λ zero_. let real : nat_lt 0 0 ≡ true = ap (nat_lt 0) (sym zero_) ∙ (right plain).0 in never real refl)
         (λ both. ap (is_admitted cmp h f.region) both.0 ∙ cases (find_face f.number g0) there both.1) tells
       where
-        cases : (o : Option (Face K)) → is_some_and o (λ x. region_eq x.region f.region) ≡ true → is_some_and o (λ x. shows x.region source && admits g0.refused source x.region) ≡ true → is_admitted cmp h f.region e ≡ true
+        cases : (o : Option (Face K)) → is_some_and o (λ x. region_eq x.region f.region) ≡ true → is_some_and o (λ x. sees x.region source && admits g0.refused source x.region) ≡ true → is_admitted cmp h f.region e ≡ true
         cases None there_ reached = never there_ refl
         cases (Some y) there_ reached =
-            let parts = and_parts (shows y.region source) (admits g0.refused source y.region) reached in
+            let parts = and_parts (sees y.region source) (admits g0.refused source y.region) reached in
             let region_ : y.region ≡ f.region = region_eq-same y.region f.region there_ in
-            row_admitted total source f.region e h row (ap (λ (r : Region). shows r source) (sym region_) ∙ parts.0) (ap (λ (pairs : List (Region × Region)). admits pairs source f.region) is.refused ∙ ap (λ (r : Region). admits g0.refused source r) (sym region_) ∙ parts.1)
+            row_admitted total source f.region e h row (ap (λ (r : Region). sees r source) (sym region_) ∙ parts.0) (ap (λ (pairs : List (Region × Region)). admits pairs source f.region) is.refused ∙ ap (λ (r : Region). admits g0.refused source r) (sym region_) ∙ parts.1)
     it_admitted total h f (message.DeclareToken id x (Some i) node) row is there right tells = tt
     it_admitted total h f (message.UndeclareToken id x node) row is there right tells = tt
     it_admitted total h f (message.DeclareFinal interest) row is there right tells = tt

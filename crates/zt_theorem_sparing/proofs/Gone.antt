@@ -12,13 +12,13 @@ use Rattle.zt_protocol.specs.Plain.{PlainCall, NewSession, NewTransport, Declare
 use Rattle.zt_protocol.specs.declared.messages.Message.{Message}
 use Rattle.zt_protocol.specs.declared.messages.Message.TheVariants as message
 use Rattle.zt_model.specs.Closing.{closing, leaving, without_asks, without_face}
+use Rattle.zt_model.specs.Hat.{hat_of, hat_of_face}
 use Rattle.zt_model.specs.Hearing.{heard_all, messages_for, rows_heard}
 use Rattle.zt_model.specs.Lists.{same}
 use Rattle.zt_model.specs.Parts.{unsaid_to}
 use Rattle.zt_model.specs.Routing.{ended, ending, finalising, unheld}
 use Rattle.zt_model.specs.Rows.{Face, InterestRow, RoutedRow, Rows}
 use Rattle.zt_model.specs.Says.{Alter, Part, Say, Sends, find_face, forget_to, forget_untold, hiding_undeclared, is_routed, parts_of, said, said_by, to_each, told_id, undeclared, undeclaring, undeclaring_of, unregistered, with_face}
-use Rattle.zt_model.specs.Strategy.{is_client_hat, is_router_hat, strategy_of}
 use Rattle.zt_model.specs.Transcript.{Each}
 use Rattle.zt_model.specs.Trees.{changing_table, counted_table, forgetting, greet_to, hide_to, hiding, is_hidden, left_out, source_of, table_of, unpass_to, without_own_rows, without_routed}
 use Rattle.zt_model.specs.Visible.{is_visible, rows_of_face, routed_rows, shows}
@@ -41,7 +41,7 @@ module _ {K : Type 0} (cmp : K → K → Ordering) (matching : K → K → Bool)
 
   -- what a face of this region hears is gone, it can't see
   abbrev pub GoneFor : Rows K → Region → Message K → Type 0
-  GoneFor g own (message.UndeclareToken id (Some e) node) = is_router_hat (strategy_of g.mode own) ≡ false → is_visible cmp g own e ≡ false
+  GoneFor g own (message.UndeclareToken id (Some e) node) = (hat_of g.mode own).goes_by_trees ≡ false → is_visible cmp g own e ≡ false
   GoneFor g own m = Unit {0}
 
   -- a face of the number stands there in the region
@@ -86,7 +86,7 @@ module _ {K : Type 0} (cmp : K → K → Ordering) (matching : K → K → Bool)
 
   gone_still : (g h : Rows K) (own : Region) (m : Message K) → Fades g h → GoneFor g own m → GoneFor h own m
   gone_still g h own (message.UndeclareToken id (Some e) node) fades gone =
-      λ plain. by_test (is_visible cmp h own e) (λ there. never (fades.visible own e there) (gone (ap (λ (w : WhatAmI). is_router_hat (strategy_of w own)) (sym fades.mode) ∙ plain))) (λ none_. none_)
+      λ plain. by_test (is_visible cmp h own e) (λ there. never (fades.visible own e there) (gone (ap (λ (w : WhatAmI). (hat_of w own).goes_by_trees) (sym fades.mode) ∙ plain))) (λ none_. none_)
   gone_still g h own (message.UndeclareToken id None node) fades gone = tt
   gone_still g h own (message.DeclareToken id e interest node) fades gone = tt
   gone_still g h own (message.DeclareFinal interest) fades gone = tt
@@ -138,9 +138,9 @@ module _ {K : Type 0} (cmp : K → K → Ordering) (matching : K → K → Bool)
   fades_unregistered n id g = fades_with_face n (unregistered id) g (λ f. refl) (λ f. refl) (λ own e there. visible_still cmp own e n id g there)
 
   fades_beside : (n : ℕ) (change : Face K → Face K) (g : Rows K) → ((f : Face K) → (change f).number ≡ f.number) → ((f : Face K) → (change f).region ≡ f.region) → ((f : Face K) → (change f).live ≡ f.live) → Fades g (with_face n change g)
-  unfolding is_visible
+  unfolding is_visible with_face
   fades_beside n change g number_ region_ live_ =
-      fades_with_face n change g number_ region_ (λ own e there. ap (list_any (λ row. same cmp e row.1 && shows own row.0)) (sym (with_face_same n change g region_ live_).live) ∙ there)
+      fades_with_face n change g number_ region_ (λ own e there. ap (list_any (λ row. same cmp e row.1 && shows g.mode own row.0)) (sym (with_face_same n change g region_ live_).live) ∙ there)
 
   -- routed rows change alone
   fades_routed : (g : Rows K) (rows : List (RoutedRow K)) → ((own : Region) (e : K) → is_visible cmp (record g { routed = rows }) own e ≡ true → is_visible cmp g own e ≡ true) → Fades g (record g { routed = rows })
@@ -152,7 +152,7 @@ module _ {K : Type 0} (cmp : K → K → Ordering) (matching : K → K → Bool)
       record {
         mode = refl;
         visible = λ own e there.
-            let test = λ (row : Region × K). same cmp e row.1 && shows own row.0 in
+            let test = λ (row : Region × K). same cmp e row.1 && shows g.mode own row.0 in
             any_live_rows test g g.faces
             ∙ fewer test g.faces (sym (any_live_rows test g (filter (λ f. not (n == f.number)) g.faces)) ∙ there);
         from = each_filter (λ f. stands_in g.faces f.number f.region ≡ true) (λ f. not (n == f.number)) g.faces (each_stands g.faces);
@@ -243,7 +243,7 @@ module _ {K : Type 0} (cmp : K → K → Ordering) (matching : K → K → Bool)
       or_none false b none_ = none_
 
       cases : (o : Option ℕ) → is_visible cmp g f.region e ≡ false → (let ms : List (Message K) = elim o [ None ↦ forget_untold cmp matching g source e f | Some id ↦ message.UndeclareToken id None 0 ∷ [] ] in Each (GoneFor g f.region) ms)
-      cases None gone = of_cond (Each (GoneFor g f.region)) (wants matching f e && not (is_client_hat (strategy_of g.mode f.region)) && shows f.region source) (message.UndeclareToken 0 (Some e) 0 ∷ []) [] (λ _. ((λ _. gone), tt)) (λ _. tt)
+      cases None gone = of_cond (Each (GoneFor g f.region)) (wants matching f e && (hat_of_face g f).undeclares_untold && shows g.mode f.region source) (message.UndeclareToken 0 (Some e) 0 ∷ []) [] (λ _. ((λ _. gone), tt)) (λ _. tt)
       cases (Some id) gone = (tt, tt)
 
   -- faces outside router regions aren't told by trees
@@ -272,7 +272,7 @@ module _ {K : Type 0} (cmp : K → K → Ordering) (matching : K → K → Bool)
   fades_without_own : (source : Region) (e : K) (g : Rows K) → Fades g (without_own_rows cmp source e g)
   unfolding is_visible without_own_rows
   fades_without_own source e g =
-      record { mode = refl; visible = λ own x there. ap (list_any (λ row. same cmp x row.1 && shows own row.0)) (sym (hidden_same cmp source e g).live) ∙ there; from = each_stands g.faces; rises = λ up. up }
+      record { mode = refl; visible = λ own x there. ap (list_any (λ row. same cmp x row.1 && shows g.mode own row.0)) (sym (hidden_same cmp source e g).live) ∙ there; from = each_stands g.faces; rises = λ up. up }
 
   hiding_fades : (w : WhatAmI) (source : Region) (e : K) → Each (PartFades w) (hiding cmp source e)
   hiding_fades w source e = (
@@ -326,16 +326,16 @@ module _ {K : Type 0} (cmp : K → K → Ordering) (matching : K → K → Bool)
   unsaid_fades w n (Alter change ∷ parts) fades = (fades.0, unsaid_fades w n parts fades.1)
   unsaid_fades w n (Say rule ∷ parts) fades = (fades_but w n rule fades.0, unsaid_fades w n parts fades.1)
 
-  undeclaring_of_fades : ((a b : K) → cmp a b ≡ Equal → a ≡ b) → (w : WhatAmI) (n : ℕ) (source : Option Zid) (given : Option K) (f : Face K) → is_router_hat (strategy_of w f.region) ≡ true → Each (PartFades w) (undeclaring_of cmp matching n source given f)
+  undeclaring_of_fades : ((a b : K) → cmp a b ≡ Equal → a ≡ b) → (w : WhatAmI) (n : ℕ) (source : Option Zid) (given : Option K) (f : Face K) → (hat_of w f.region).goes_by_trees ≡ true → Each (PartFades w) (undeclaring_of cmp matching n source given f)
   unfolding is_visible without_routed
   undeclaring_of_fades equal_is_same w n None given f routed = tt
   undeclaring_of_fades equal_is_same w n (Some zid) None f routed = tt
   undeclaring_of_fades equal_is_same w n (Some zid) (Some e) f routed = (
-    λ g. record { mode = refl; visible = λ own x there. (routed_gone cmp equal_is_same f.region zid e g).still (λ row. same cmp x row.1 && shows own row.0) there; from = each_stands g.faces; rises = λ up. up },
+    λ g. record { mode = refl; visible = λ own x there. (routed_gone cmp equal_is_same f.region zid e g).still (λ row. same cmp x row.1 && shows g.mode own row.0) there; from = each_stands g.faces; rises = λ up. up },
     (
       fades_but w n (λ g. to_each (unpass_to cmp g f.region zid e) g.faces)
           (each_rule w (λ g. unpass_to cmp g f.region zid e)
-          (λ g h mode_. routed_gone_for g h (unpass_to cmp g f.region zid e h) (λ plain. unpasses_routed cmp matching g f.region zid e h (ap (λ (v : WhatAmI). is_router_hat (strategy_of v f.region)) mode_ ∙ routed) plain))),
+          (λ g h mode_. routed_gone_for g h (unpass_to cmp g f.region zid e h) (λ plain. unpasses_routed cmp matching g f.region zid e h (ap (λ (v : WhatAmI). (hat_of v f.region).goes_by_trees) mode_ ∙ routed) plain))),
       (forgetting_fades w f.region e, hiding_fades w f.region e),
     ),
   )
@@ -370,7 +370,7 @@ module _ {K : Type 0} (cmp : K → K → Ordering) (matching : K → K → Bool)
   table_fades equal_is_same w region t g =
       let counted = counted_table t in
       let es = left_out cmp region counted g in (
-        (λ h. record { mode = refl; visible = λ own x there. (left_out_gone cmp equal_is_same region counted h).still (λ row. same cmp x row.1 && shows own row.0) there; from = each_stands h.faces; rises = λ up. up }),
+        (λ h. record { mode = refl; visible = λ own x there. (left_out_gone cmp equal_is_same region counted h).still (λ row. same cmp x row.1 && shows h.mode own row.0) there; from = each_stands h.faces; rises = λ up. up }),
         each_append (PartFades w) (forgetting cmp matching region es) _
             (each_flat_map (PartFades w) (λ e. Say (λ h. to_each (forget_to cmp matching h region e) h.faces) ∷ hiding cmp region e) es (λ e. (forgetting_fades w region e, hiding_fades w region e))) (
               (λ h. record { mode = refl; visible = λ own x there. there; from = each_stands h.faces; rises = λ up. up }),

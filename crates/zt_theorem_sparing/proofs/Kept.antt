@@ -6,13 +6,13 @@ use Rattle.std.specs.List.{flat_map, list_any}
 use Rattle.std.specs.declared.cmp.Ordering.{Ordering}
 use Rattle.zt_region.specs.declared.region.Region.{Region}
 use Rattle.zt_region.specs.declared.region.Zid.{Zid}
-use Rattle.zt_region.specs.Region.{is_north}
 use Rattle.zt_protocol.specs.Plain.{PlainCall, NewSession, NewTransport, DeclareToken, UndeclareToken, Interest, InterestFinal, DeclareFinal, CloseFace, Expire, SetTrees, SetEntities, PlainLine}
 use Rattle.zt_protocol.specs.declared.entries.Sent.{Sent}
 use Rattle.zt_protocol.specs.declared.messages.Message.{Message}
 use Rattle.zt_protocol.specs.declared.messages.Message.TheVariants as message
 use Rattle.zt_model.specs.Closing.{closing, leaving, without_asks, without_face}
 use Rattle.zt_model.specs.Fabric.{CallAt, Fabric, Node, Place, after_closing, after_hearing, altered_at, at_nth, both_ends, closing_call, entries_from, number_from, said_at, said_closing, said_opening, with_place, with_rows}
+use Rattle.zt_model.specs.Hat.{hat_of_face}
 use Rattle.zt_model.specs.Hearing.{heard, heard_all, messages_for, rows_heard}
 use Rattle.zt_model.specs.Linking.{link_ends}
 use Rattle.zt_model.specs.Lists.{at_id, first_where, has_id, in_key_order, is_some_and, nth}
@@ -21,7 +21,6 @@ use Rattle.zt_model.specs.Promises.{Turn, UndeclaresWhatWasKept, WasKept, printe
 use Rattle.zt_model.specs.Routing.{end_upstream_to, ended, ending, final_of_both, finalising, finish_to, unheld, untell_to}
 use Rattle.zt_model.specs.Rows.{ById, Face, InterestRow, Rows}
 use Rattle.zt_model.specs.Says.{Alter, Part, Say, Sends, finalising_held, find_face, forget_to, hiding_undeclared, is_routed, parts_of, said, said_by, to_each, to_face, told_id, undeclared, undeclaring, undeclaring_of, unregistered, with_face}
-use Rattle.zt_model.specs.Strategy.{is_client_hat, strategy_of}
 use Rattle.zt_model.specs.Transcript.{Each, FaceAt, face_numbered}
 use Rattle.zt_model.specs.Trees.{counted_table, forgetting, greet_to, hiding, left_out, source_of, table_of, unpass_to, without_own_rows, without_routed}
 use Rattle.zt_model.specs.Visible.{is_visible, shows}
@@ -183,15 +182,15 @@ module _ {K : Type 0} (cmp : K → K → Ordering) (matching : K → K → Bool)
     forget_kept g source e f own =
         by_test (is_routed g f || is_visible cmp g f.region e) (λ here. rw here tt) (λ here. rw here (cases (told_id cmp e f.told) refl))
       where
-        cases : (o : Option ℕ) → told_id cmp e f.told ≡ o → (let ms : List (Message K) = elim o [ None ↦ (if wants matching f e && not (is_client_hat (strategy_of g.mode f.region)) && shows f.region source then message.UndeclareToken 0 (Some e) 0 ∷ [] else []) | Some id ↦ message.UndeclareToken id None 0 ∷ [] ] in Each (KeptT T f.number) ms)
-        cases None found = of_cond (Each (KeptT T f.number)) (wants matching f e && not (is_client_hat (strategy_of g.mode f.region)) && shows f.region source) (message.UndeclareToken 0 (Some e) 0 ∷ []) [] (λ _. (tt, tt)) (λ _. tt)
+        cases : (o : Option ℕ) → told_id cmp e f.told ≡ o → (let ms : List (Message K) = elim o [ None ↦ (if wants matching f e && (hat_of_face g f).undeclares_untold && shows g.mode f.region source then message.UndeclareToken 0 (Some e) 0 ∷ [] else []) | Some id ↦ message.UndeclareToken id None 0 ∷ [] ] in Each (KeptT T f.number) ms)
+        cases None found = of_cond (Each (KeptT T f.number)) (wants matching f e && (hat_of_face g f).undeclares_untold && shows g.mode f.region source) (message.UndeclareToken 0 (Some e) 0 ∷ []) [] (λ _. (tt, tt)) (λ _. tt)
         cases (Some id) found = (told_id_each cmp (λ i. T f.number i ≡ true) e f.told id own found, tt)
 
-    untell_kept : (f : Face K) → Told f → Each (KeptT T f.number) (untell_to cmp matching f)
+    untell_kept : (g : Rows K) (f : Face K) → Told f → Each (KeptT T f.number) (untell_to cmp matching g f)
     unfolding untell_to
-    untell_kept f own =
+    untell_kept g f own =
         let rule : K → List (Message K) = λ e. elim (told_id cmp e f.told) [ None ↦ [] | Some id ↦ message.UndeclareToken id None 0 ∷ [] ] in
-        of_cond (Each (KeptT T f.number)) (is_north f.region) [] (flat_map rule (filter (λ e. not (wants matching f e)) (in_key_order cmp (map (λ row. row.1) f.told)))) (λ _. tt)
+        of_cond (Each (KeptT T f.number)) ((hat_of_face g f).is_told_unasked f.region) [] (flat_map rule (filter (λ e. not (wants matching f e)) (in_key_order cmp (map (λ row. row.1) f.told)))) (λ _. tt)
         (λ _. each_flat_map (KeptT T f.number) rule (filter (λ e. not (wants matching f e)) (in_key_order cmp (map (λ row. row.1) f.told))) (λ e. one e (told_id cmp e f.told) refl))
       where
         one : (e : K) (o : Option ℕ) → told_id cmp e f.told ≡ o → (let ms : List (Message K) = elim o [ None ↦ [] | Some id ↦ message.UndeclareToken id None 0 ∷ [] ] in Each (KeptT T f.number) ms)
@@ -224,7 +223,7 @@ module _ {K : Type 0} (cmp : K → K → Ordering) (matching : K → K → Bool)
     finalises n id interest = (
       face_kept n (unheld id) (λ k own. own),
       (
-        (λ g. (each_ruled_one NoTell n (untell_to cmp matching) g (untell_says cmp matching NoTell (λ i. tt)), λ all. one_spoken n (untell_to cmp matching) g untell_kept all)),
+        (λ g. (each_ruled_one NoTell n (untell_to cmp matching g) g (untell_says cmp matching NoTell (λ i. tt) g), λ all. one_spoken n (untell_to cmp matching g) g (untell_kept g) all)),
         (
           plain (to_face n (final_of_both id interest)) (λ g. each_ruled_one NoTell n (final_of_both id interest) g (final_of_both_says cmp matching NoTell (λ i. tt) id interest)) (λ g. each_ruled_one NoId n (final_of_both id interest) g (final_of_both_says cmp matching NoId (λ i. tt) id interest)),
           (plain (λ g. to_each (end_upstream_to cmp matching g interest) g.faces) (λ g. each_ruled NoTell (end_upstream_to cmp matching g interest) g.faces (end_upstream_says cmp matching NoTell (λ i. tt) g interest)) (λ g. each_ruled NoId (end_upstream_to cmp matching g interest) g.faces (end_upstream_says cmp matching NoId (λ i. tt) g interest)), tt),

@@ -247,7 +247,7 @@ module _ {K : Type 0} (cmp : K → K → Ordering) (matching : K → K → Bool)
       where
         spares : (k : ℕ) (m : Message K) (o : Option (FaceAt K)) → face_numbered t.after k ≡ o → ((x : FaceAt K) → face_numbered t.after k ≡ Some x → Spares is.changed.gateways x.gateway x.rows x.face m) → SparesMessage cmp matching t k m o
         spares k (message.DeclareToken id e None node) None found judged = tt
-        spares k (message.DeclareToken id e None node) (Some x) found judged = λ plain. let spared = (judged x found).0 plain in (spared.0, hears_is matching x.face e ∙ spared.1)
+        spares k (message.DeclareToken id e None node) (Some x) found judged = λ plain. let spared = (judged x found).0 plain in (spared.0, hears_is matching x.rows.mode x.face e ∙ spared.1)
         spares k (message.DeclareToken id e (Some i) node) None found judged = tt
         spares k (message.DeclareToken id e (Some i) node) (Some x) found judged =
             λ plain.

@@ -2,30 +2,30 @@
 use Rattle.std.proofs.Common.{◌≡◌, ℕ, ◌+◌, ◌≤◌, Bool, true, false, not, max, nat_lt, ◌&&◌, ◌||◌, ◌==◌, if◌then◌else◌, List, [], ◌∷◌, ◌++◌, map, filter, Option, Some, None, refl, sym, ap, ◌∙◌, subst, arith, lt-ltb}
 use Rattle.std.proofs.lemmas.Bool.{and_parts, or_left}
 use Rattle.std.specs.Cmp.{IsTotalOrder}
-use Rattle.std.specs.List.{flat_map, list_any}
+use Rattle.std.specs.List.{flat_map}
 use Rattle.std.specs.declared.cmp.Ordering.{Ordering}
 use Rattle.zt_region.specs.declared.region.Bound.{Bound}
 use Rattle.zt_region.specs.declared.region.Region.{Region}
 use Rattle.zt_region.specs.declared.region.WhatAmI.{WhatAmI}
-use Rattle.zt_region.specs.declared.region.WhatAmI.TheVariants.{Router}
 use Rattle.zt_region.specs.declared.region.Zid.{Zid}
 use Rattle.zt_region.specs.Admission.{admits}
-use Rattle.zt_region.specs.Region.{is_north, region_eq, region_eq-same, whatami_eq}
+use Rattle.zt_region.specs.Region.{region_eq, region_eq-same}
 use Rattle.zt_protocol.specs.Plain.{PlainCall, NewSession, NewTransport, DeclareToken, UndeclareToken, Interest, InterestFinal, DeclareFinal, CloseFace, Expire, SetTrees, SetEntities, Trees}
 use Rattle.zt_protocol.specs.declared.messages.Message.{Message}
 use Rattle.zt_protocol.specs.declared.messages.Message.TheVariants as message
+use Rattle.zt_model.specs.Hat.{hat_of, hat_of_face}
 use Rattle.zt_model.specs.Hearing.{heard_all, messages_for, rows_heard}
 use Rattle.zt_model.specs.Lists.{has_id}
 use Rattle.zt_model.specs.Refusals.{call_causes, first_cause}
 use Rattle.zt_model.specs.Routing.{interests_from, is_greeted, opened, opening_final, opening_interests, opening_tokens, tokens_from}
-use Rattle.zt_model.specs.Rows.{ById, Face, InterestRow, Rows}
+use Rattle.zt_model.specs.Rows.{Face, Rows}
 use Rattle.zt_model.specs.Says.{Alter, Part, Say, Sends, answering, declaring, declaring_of, find_face, forget_to, is_routed, is_told, parts_of, registered, registers, said, said_by, tell_to, to_each, to_face, with_face}
-use Rattle.zt_model.specs.Strategy.{is_region_of, is_router_hat, strategy_of}
+use Rattle.zt_model.specs.Strategy.{is_region_of}
 use Rattle.zt_model.specs.Telling.{answer_to}
 use Rattle.zt_model.specs.Transcript.{Each}
 use Rattle.zt_model.specs.Trees.{counted_table, forgetting, greet_to, hide_to, hiding, is_newly_shown, left_out, pass_to, router_regions, routers_in_order, show_to, showing, source_of, table_of, with_own_rows, with_routed, with_table, without_left_out, without_own_rows}
 use Rattle.zt_model.specs.Visible.{keeps, shows, visible_expressions}
-use Rattle.zt_model.specs.Wants.{asks_token, seeks, wants}
+use Rattle.zt_model.specs.Wants.{seeks, wants}
 use Rattle.zt_laws.specs.Kept.{next_sent}
 use Rattle.zt_laws.specs.Order.{RowsAreInOrder}
 use Rattle.zt_laws.specs.Sound.{IsToldInOrder, RiseFrom, opens_face, rows_after_call}
@@ -36,6 +36,7 @@ use Rattle.zt_laws.proofs.Keeping.{next_is_sent}
 use Rattle.zt_theorem_soundness.proofs.Opening.{speaks_one}
 use Rattle.zt_laws.proofs.Lists.{by_test, each_always, each_append, each_both, each_map, each_weaker, map-map, never, of_cond, rise_map}
 use Rattle.zt_laws.proofs.PartsOrder.{each_flat_map, each_message_for}
+use Rattle.zt_laws.proofs.Telling.{seeks_alike}
 use Rattle.zt_theorem_soundness.specs.Ran.{ran}
 use Rattle.zt_theorem_soundness.proofs.CallsRun.{call_runs, own_rows_leave}
 use Rattle.zt_theorem_sparing.proofs.Gone.{each_but}
@@ -44,7 +45,7 @@ use Rattle.zt_theorem_visibility.proofs.Saying.{SaysEach, answering_says, closin
 module _ {K : Type 0} (cmp : K → K → Ordering) (matching : K → K → Bool) where
   -- a token that answers nobody is told a face outside router regions that seeks it, with a real id
   abbrev pub TellsRight : Rows K → Face K → Message K → Type 0
-  TellsRight g f (message.DeclareToken id e None node) = is_routed g f ≡ false → (nat_lt 0 id ≡ true) × (seeks matching f e ≡ true)
+  TellsRight g f (message.DeclareToken id e None node) = is_routed g f ≡ false → (nat_lt 0 id ≡ true) × (seeks matching g.mode f e ≡ true)
   TellsRight g f m = Unit {0}
 
   -- faces stay where they are, and hold what they held
@@ -91,11 +92,10 @@ module _ {K : Type 0} (cmp : K → K → Ordering) (matching : K → K → Bool)
       at_least a b real = omega arith
 
   right_same : (g h : Rows K) (f k : Face K) (m : Message K) → h.mode ≡ g.mode → k.region ≡ f.region → k.held ≡ f.held → TellsRight g f m → TellsRight h k m
-  unfolding seeks wants
   right_same g h f k (message.DeclareToken id e None node) mode_ region_ held_ right =
       λ plain.
-      let both = right (ap (λ (w : WhatAmI). is_router_hat (strategy_of w f.region)) (sym mode_) ∙ ap (λ (r : Region). is_router_hat (strategy_of h.mode r)) (sym region_) ∙ plain) in
-      (both.0, ap (λ (r : Region). is_north r || list_any (λ row. asks_token matching row.1 e) k.held) region_ ∙ ap (λ (rows : ById (InterestRow K)). is_north f.region || list_any (λ row. asks_token matching row.1 e) rows) held_ ∙ both.1)
+      let both = right (ap (λ (w : WhatAmI). (hat_of w f.region).goes_by_trees) (sym mode_) ∙ ap (λ (r : Region). (hat_of h.mode r).goes_by_trees) (sym region_) ∙ plain) in
+      (both.0, seeks_alike matching h.mode k f e region_ held_ ∙ ap (λ (w : WhatAmI). seeks matching w f e) mode_ ∙ both.1)
   right_same g h f k (message.DeclareToken id e (Some i) node) mode_ region_ held_ right = tt
   right_same g h f k (message.UndeclareToken id e node) mode_ region_ held_ right = tt
   right_same g h f k (message.DeclareFinal interest) mode_ region_ held_ right = tt
@@ -193,8 +193,8 @@ module _ {K : Type 0} (cmp : K → K → Ordering) (matching : K → K → Bool)
   told_right g source e f real =
       of_cond (Each (TellsRight g f)) (is_told cmp matching g source e f) (message.DeclareToken f.next e None 0 ∷ []) []
       (λ told.
-      let one = and_parts (not (is_routed g f)) (admits g.refused source f.region && shows f.region source && not (keeps cmp f e) && seeks matching f e) told in
-      let two = and_parts (admits g.refused source f.region && shows f.region source && not (keeps cmp f e)) (seeks matching f e) one.1 in
+      let one = and_parts (not (is_routed g f)) (admits g.refused source f.region && shows g.mode f.region source && not (keeps cmp f e) && seeks matching g.mode f e) told in
+      let two = and_parts (admits g.refused source f.region && shows g.mode f.region source && not (keeps cmp f e)) (seeks matching g.mode f e) one.1 in
       ((λ plain. (lt-ltb 0 f.next real, two.1)), tt))
       (λ _. tt)
 
@@ -204,18 +204,18 @@ module _ {K : Type 0} (cmp : K → K → Ordering) (matching : K → K → Bool)
   unfolding show_to is_newly_shown
   shows_routed g source e f plain = rw plain refl
 
-  passes_routed : (g : Rows K) (region : Region) (source : Zid) (e : K) (f : Face K) → is_router_hat (strategy_of g.mode region) ≡ true → is_routed g f ≡ false → pass_to cmp g region source e f ≡ []
+  passes_routed : (g : Rows K) (region : Region) (source : Zid) (e : K) (f : Face K) → (hat_of g.mode region).goes_by_trees ≡ true → is_routed g f ≡ false → pass_to cmp g region source e f ≡ []
   unfolding pass_to
   passes_routed g region source e f routed plain =
       by_test (region_eq f.region region)
-      (λ here. never (ap (λ (r : Region). is_router_hat (strategy_of g.mode r)) (region_eq-same f.region region here) ∙ routed) plain)
+      (λ here. never (ap (λ (r : Region). (hat_of g.mode r).goes_by_trees) (region_eq-same f.region region here) ∙ routed) plain)
       (λ here. rw here refl)
 
-  greets_routed : (g : Rows K) (region : Region) (before : Trees) (f : Face K) → is_router_hat (strategy_of g.mode region) ≡ true → is_routed g f ≡ false → greet_to cmp g region before f ≡ []
+  greets_routed : (g : Rows K) (region : Region) (before : Trees) (f : Face K) → (hat_of g.mode region).goes_by_trees ≡ true → is_routed g f ≡ false → greet_to cmp g region before f ≡ []
   unfolding greet_to
   greets_routed g region before f routed plain =
       by_test (region_eq f.region region)
-      (λ here. never (ap (λ (r : Region). is_router_hat (strategy_of g.mode r)) (region_eq-same f.region region here) ∙ routed) plain)
+      (λ here. never (ap (λ (r : Region). (hat_of g.mode r).goes_by_trees) (region_eq-same f.region region here) ∙ routed) plain)
       (λ here. rw here (nothing (routers_in_order cmp (table_of g region))))
     where
       nothing : (rs : List (ℕ × Zid)) → flat_map (λ (r : ℕ × Zid). (let none : List (Message K) = [] in none)) rs ≡ []
@@ -254,7 +254,7 @@ module _ {K : Type 0} (cmp : K → K → Ordering) (matching : K → K → Bool)
       each_weaker (λ f. Each (TellsRight g f) (messages_for f.number (rule g))) (λ f. Each (TellsRight g f) (messages_for f.number (filter (λ s. not (n == s.0)) (rule g))))
       (λ f own. each_but cmp matching (TellsRight g f) n f.number (rule g) own) g.faces (one g mode_ up real)
 
-  declaring_of_tells : (w : WhatAmI) (n : ℕ) (source : Option Zid) (e : K) (f : Face K) → is_router_hat (strategy_of w f.region) ≡ true → Each (PartTells w) (declaring_of cmp matching n source e f)
+  declaring_of_tells : (w : WhatAmI) (n : ℕ) (source : Option Zid) (e : K) (f : Face K) → (hat_of w f.region).goes_by_trees ≡ true → Each (PartTells w) (declaring_of cmp matching n source e f)
   unfolding with_routed
   declaring_of_tells w n None e f routed = tt
   declaring_of_tells w n (Some zid) e f routed = (
@@ -262,7 +262,7 @@ module _ {K : Type 0} (cmp : K → K → Ordering) (matching : K → K → Bool)
     (
       but_for_tells w n (λ g. to_each (pass_to cmp g f.region zid e) g.faces)
           (each_rule w (λ g. pass_to cmp g f.region zid e)
-          (λ g h mode_ real. routed_right g h (pass_to cmp g f.region zid e h) (λ plain. passes_routed g f.region zid e h (ap (λ (v : WhatAmI). is_router_hat (strategy_of v f.region)) mode_ ∙ routed) plain))),
+          (λ g h mode_ real. routed_right g h (pass_to cmp g f.region zid e h) (λ plain. passes_routed g f.region zid e h (ap (λ (v : WhatAmI). (hat_of v f.region).goes_by_trees) mode_ ∙ routed) plain))),
       (telling_tells w f.region e, showing_tells w f.region e),
     ),
   )
@@ -335,12 +335,12 @@ module _ {K : Type 0} (cmp : K → K → Ordering) (matching : K → K → Bool)
   call_tells spent (SetTrees region t) g still accepted ordered =
       let one = no_cause _ _ _ accepted in
       let two = no_cause _ _ _ one.1 in
-      let routed : is_router_hat (strategy_of g.mode region) ≡ true = router_of (not (is_region_of g.regions region)) (is_router_hat (strategy_of g.mode region)) two.0 in
+      let routed : (hat_of g.mode region).goes_by_trees ≡ true = router_of (not (is_region_of g.regions region)) ((hat_of g.mode region).goes_by_trees) two.0 in
       by_parts (SetTrees region t) g (
         (λ h. abides_itself h (without_left_out cmp region (counted_table t) h) refl refl),
         each_append (PartTells g.mode) (forgetting cmp matching region (left_out cmp region (counted_table t) g)) _ (forgetting_tells g.mode region (left_out cmp region (counted_table t) g)) (
           (λ h. abides_itself h (with_table cmp region t h) refl refl),
-          (each_rule g.mode (λ h. greet_to cmp h region (table_of g region)) (λ h f mode_ real. routed_right h f (greet_to cmp h region (table_of g region) f) (λ plain. greets_routed h region (table_of g region) f (ap (λ (v : WhatAmI). is_router_hat (strategy_of v region)) mode_ ∙ routed) plain)), tt),
+          (each_rule g.mode (λ h. greet_to cmp h region (table_of g region)) (λ h f mode_ real. routed_right h f (greet_to cmp h region (table_of g region) f) (λ plain. greets_routed h region (table_of g region) f (ap (λ (v : WhatAmI). (hat_of v region).goes_by_trees) mode_ ∙ routed) plain)), tt),
         ),
       )
       ordered
@@ -354,10 +354,10 @@ module _ {K : Type 0} (cmp : K → K → Ordering) (matching : K → K → Bool)
   -- ---- a transport's face
 
   -- tokens of a face that is greeted
-  greeted_right : (g : Rows K) (f : Face K) (next : ℕ) (es : List K) → 1 ≤ next → is_north f.region ≡ true → Each (TellsRight g f) (tokens_from next es)
+  greeted_right : (g : Rows K) (f : Face K) (next : ℕ) (es : List K) → 1 ≤ next → (hat_of_face g f).is_told_unasked f.region ≡ true → Each (TellsRight g f) (tokens_from next es)
   unfolding tokens_from seeks
   greeted_right g f next [] real up = tt
-  greeted_right g f next (e ∷ es) real up = ((λ plain. (lt-ltb 0 next real, or_left (is_north f.region) (wants matching f e) up)), greeted_right g f (next + 1) es (omega arith) up)
+  greeted_right g f next (e ∷ es) real up = ((λ plain. (lt-ltb 0 next real, or_left ((hat_of_face g f).is_told_unasked f.region) (wants matching f e) up)), greeted_right g f (next + 1) es (omega arith) up)
 
   opening_right : (w : WhatAmI) (n : ℕ) → PartTells w (Say (λ h. to_face n (λ f. tokens_from f.next (opening_tokens cmp matching h f)) h))
   unfolding tokens_from
@@ -370,7 +370,7 @@ module _ {K : Type 0} (cmp : K → K → Ordering) (matching : K → K → Bool)
       (of_cond (Each (TellsRight g f)) (n == f.number) (rule f) []
       (λ _.
       of_cond (λ es. Each (TellsRight g f) (tokens_from f.next es)) (is_greeted cmp matching g f) (visible_expressions cmp g f.region) []
-      (λ greeted. greeted_right g f f.next (visible_expressions cmp g f.region) next_ (and_parts (is_north f.region) (not (whatami_eq g.mode Router)) greeted).0) (λ _. tt))
+      (λ greeted. greeted_right g f f.next (visible_expressions cmp g f.region) next_ (and_parts (not (is_routed g f)) ((hat_of_face g f).is_told_unasked f.region) greeted).1) (λ _. tt))
       (λ _. tt)))
       g.faces (speaks_one n rule g up) real
 
