@@ -80,7 +80,7 @@ module _ {K : Type 0} (cmp : K → K → Ordering) (matching : K → K → Bool)
     show = λ source x. by_each (λ g f. show_to cmp g source x f);
     hide = λ source x. by_each (λ g f. hide_to cmp g source x f);
     finish = λ j i. by_each (λ g f. finish_to g j i f);
-    untell = by_one k (λ g f. untell_to cmp matching f);
+    untell = by_one k (untell_to cmp matching);
     initial = λ i. changed k (initial_finalised i) (λ f. refl);
     shown = λ source x. beside (λ g. with_own_rows cmp (filter (is_newly_shown cmp g source x) (router_regions g)) x g) (λ g. own_rows_faces (filter (is_newly_shown cmp g source x) (router_regions g)) x g);
     hidden = hides_rows;

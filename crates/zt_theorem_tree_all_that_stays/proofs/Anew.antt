@@ -16,6 +16,7 @@ use Rattle.zt_protocol.specs.declared.interests.InterestOptions.{InterestOptions
 use Rattle.zt_protocol.specs.declared.messages.Message.{Message}
 use Rattle.zt_protocol.specs.declared.messages.Message.TheVariants as message
 use Rattle.zt_model.specs.Fabric.{Fabric, Node, printed_for}
+use Rattle.zt_model.specs.Hat.{hat_of}
 use Rattle.zt_model.specs.Hearing.{heard, heard_all, messages_for, put_if}
 use Rattle.zt_model.specs.Linking.{waiting_of}
 use Rattle.zt_model.specs.Lists.{at_id, has_id, is_among, nth, same}
@@ -24,7 +25,6 @@ use Rattle.zt_model.specs.Refusals.{call_causes, first_cause}
 use Rattle.zt_model.specs.Routing.{asked_as, sent_as}
 use Rattle.zt_model.specs.Rows.{Ask, ById, Face, InterestRow, Rows}
 use Rattle.zt_model.specs.Says.{altered, answered_expressions, row_of, said}
-use Rattle.zt_model.specs.Strategy.{is_broker}
 use Rattle.zt_model.specs.Transcript.{Each, FaceAt, face_numbered}
 use Rattle.zt_model.specs.TreePromises.{Here, IsMember, There}
 use Rattle.zt_model.specs.Visible.{is_visible, rows_of_face, routed_rows, shows, visible_expressions}
@@ -100,7 +100,7 @@ module _ {K : Type 0} (cmp : K → K → Ordering) (matching : K → K → Bool)
     abbrev rows : TreeRows cmp g
     rows = tree_rows cmp matching s j node fine agree at_j
 
-    leads_down : LeadsDown u.face
+    leads_down : LeadsDown g.mode u.face
     leads_down = (find_each (IsTreeFace g.mode) (λ (h : Face K). n == h.number) g.faces u.face rows.faces found).down down
 
     printed_b : printed_for b ms ≡ messages_for n (said cmp matching c g)
@@ -112,14 +112,14 @@ module _ {K : Type 0} (cmp : K → K → Ordering) (matching : K → K → Bool)
       seen : is_visible cmp g u.face.region e ≡ true
       unfolding is_visible
       seen =
-          let test = λ (row : Region × K). same cmp e row.1 && shows u.face.region row.0 in
+          let test = λ (row : Region × K). same cmp e row.1 && shows g.mode u.face.region row.0 in
           let found_q = rows_before cmp matching total s fine j node at_j c real ms w prints q lives.own lives.own_is beside in
-          let all_shown : (r : Region) → shows u.face.region r ≡ true = λ r. or_left (is_broker u.face.region) (not (region_eq r u.face.region)) leads_down.broker in
+          let all_shown : (r : Region) → shows g.mode u.face.region r ≡ true = λ r. or_left (hat_of g.mode u.face.region).shares_tokens (not (region_eq r u.face.region)) leads_down.shares in
           any_live_rows test g g.faces
           ∙ or_left (list_any (λ f. list_any test (rows_of_face f)) g.faces) (list_any test (routed_rows g))
           (any_found (λ (h : Face K). lives.own.face.number == h.number) (λ f. list_any test (rows_of_face f)) g.faces lives.own.face found_q
           (any-map test (λ row. (lives.own.face.region, row.1)) lives.own.face.live
-          ∙ any_weaker (λ row. same cmp e row.1) (λ row. same cmp e row.1 && shows u.face.region lives.own.face.region) (λ row same_. and_from (same cmp e row.1) (shows u.face.region lives.own.face.region) same_ (all_shown lives.own.face.region)) lives.own.face.live lives.live))
+          ∙ any_weaker (λ row. same cmp e row.1) (λ row. same cmp e row.1 && shows g.mode u.face.region lives.own.face.region) (λ row same_. and_from (same cmp e row.1) (shows g.mode u.face.region lives.own.face.region) same_ (all_shown lives.own.face.region)) lives.own.face.live lives.live))
 
       among : is_among cmp e (answered_expressions cmp matching g i u.face) ≡ true
       unfolding answered_expressions

@@ -1,5 +1,5 @@
 -- A new ask: it is answered at once what is visible, and is sent no final where it was sent upward.
-use Rattle.std.proofs.Common.{◌≡◌, inl, inr, ℕ, ◌≤◌, ◌+◌, Bool, true, false, ◌&&◌, ◌||◌, ◌==◌, not, cond, List, [], ◌∷◌, ◌++◌, length, map, filter, Option, Some, None, option_map, refl, sym, ap, ◌∙◌, subst, arith, eqb-true, eq-eqb, ⊎_elim}
+use Rattle.std.proofs.Common.{◌≡◌, inl, inr, ℕ, ◌≤◌, ◌+◌, Bool, true, false, if◌then◌else◌, ◌&&◌, ◌||◌, ◌==◌, not, cond, List, [], ◌∷◌, ◌++◌, length, map, filter, Option, Some, None, option_map, refl, sym, ap, ◌∙◌, subst, arith, eqb-true, eq-eqb, ⊎_elim}
 use Rattle.std.proofs.lemmas.Bool.{or_cases, or_left, or_right}
 use Rattle.std.specs.List.{list_any}
 use Rattle.std.specs.declared.cmp.Ordering.{Ordering}
@@ -16,13 +16,14 @@ use Rattle.zt_model.specs.Hearing.{heard_all, messages_for, rows_heard, with_ans
 use Rattle.zt_model.specs.Lists.{at_id, first_where, is_among, same, without_id}
 use Rattle.zt_model.specs.Parts.{Sends, find_face, said_by, to_each, to_face, told_id, with_face}
 use Rattle.zt_model.specs.Promises.{answered_by, answers_in}
-use Rattle.zt_model.specs.Routing.{asked_as, final_of, is_target, route_to, sent_as}
+use Rattle.zt_model.specs.Routing.{asked_as, final_of, is_asked, is_target, route_to, sent_as}
 use Rattle.zt_model.specs.Rows.{Ask, ById, Face, InterestRow, Rows}
 use Rattle.zt_model.specs.Says.{answered_expressions, asking, parts_of, row_of, said}
 use Rattle.zt_model.specs.Telling.{answers_from, answers_of}
 use Rattle.zt_model.specs.Transcript.{Each}
+use Rattle.zt_model.proofs.Hats.{asked_in, asked_is}
 use Rattle.zt_laws.proofs.Hearing.{each_ruled, each_ruled_one, find_passes, messages_for-append, messages_for_other, messages_for_own}
-use Rattle.zt_laws.proofs.Lists.{any-append, by_test, each_append, never, of_cond}
+use Rattle.zt_laws.proofs.Lists.{any-append, by_test, each_always, each_append, filter_alike, never, of_cond}
 use Rattle.zt_laws.proofs.PartsOrder.{each_message_for}
 use Rattle.zt_theorem_answers.proofs.AtOnce.{answered_at_once}
 use Rattle.zt_theorem_soundness.proofs.ById.{at_put, at_without_other}
@@ -273,14 +274,15 @@ module _ {K : Type 0} (cmp : K → K → Ordering) (matching : K → K → Bool)
   -- ---- what is sent upward
 
   module _ (p : ℕ) (up : Face K) (at_p : find_face p g ≡ Some up) (north : is_north up.region ≡ true) (few : length (filter (λ h. is_north h.region) g.faces) ≤ 1) (client : g.mode ≡ Client) (down : is_north f.region ≡ false) where
-    targets : (fs : List (Face K)) → filter (is_target g f.region mode) fs ≡ filter (λ h. is_north h.region) fs
+    -- at a client gateway the interest of a face that leads down goes to each face that leads up
+    target_is : (r : Rows K) → r.mode ≡ g.mode → (h : Face K) → is_target r f.region mode h ≡ is_north h.region
     unfolding is_target
-    targets [] = refl
-    targets (h ∷ fs) = rw (down, client) (by_test (is_north h.region) (λ here. rw here (ap (λ hs. h ∷ hs) (more fs))) (λ here. rw here (more fs)))
-      where
-        more : (fs : List (Face K)) → filter (is_target g f.region mode) fs ≡ filter (λ h. is_north h.region) fs
-        more [] = refl
-        more (h ∷ fs) = rw (down, client) (by_test (is_north h.region) (λ here. rw here (ap (λ hs. h ∷ hs) (more fs))) (λ here. rw here (more fs)))
+    target_is r mode_ h = ap (λ b. not b && is_asked r mode h) down ∙ asked_is r mode h ∙ ap (λ m. asked_in m r mode h) (mode_ ∙ client)
+
+    targets : (fs : List (Face K)) → filter (is_target g f.region mode) fs ≡ filter (λ h. is_north h.region) fs
+    targets fs =
+        filter_alike (is_target g f.region mode) (λ h. is_north h.region) fs
+        (each_always (λ h. is_target g f.region mode h ≡ is_north h.region) (target_is g refl) fs)
 
     pub sent_up : sent_as g f.region mode ≡ (p, up.next) ∷ []
     unfolding sent_as
@@ -289,8 +291,10 @@ module _ {K : Type 0} (cmp : K → K → Ordering) (matching : K → K → Bool)
         ∙ ap (λ k. (k, up.next) ∷ []) (sym (eqb-true p up.number (find_passes (λ h. p == h.number) g.faces up at_p)))
 
     routed_up : messages_for p routes ≡ message.Interest up.next mode asks_for.options x ∷ []
-    unfolding route_to is_target
-    routed_up = sent_each cmp matching p (route_to numbered f.region asks_for) g up rows.rises at_p ∙ rw (down, north, client) refl
+    unfolding route_to
+    routed_up =
+        sent_each cmp matching p (route_to numbered f.region asks_for) g up rows.rises at_p
+        ∙ ap (λ b. (if b then message.Interest up.next mode asks_for.options x ∷ [] else [])) (target_is numbered refl up ∙ north)
 
     module _ (apart : (p == n) ≡ false) where
       none_of : (rule : Face K → List (Message K)) (h : Rows K) → messages_for p (to_face n rule h) ≡ []

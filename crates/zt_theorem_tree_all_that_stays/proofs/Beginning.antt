@@ -14,7 +14,7 @@ use Rattle.zt_model.specs.Rows.{ById, Face}
 use Rattle.zt_model.specs.Transcript.{Each, FaceAt, face_numbered}
 use Rattle.zt_model.specs.TreePromises.{IsTreeFabric, LeadsUpByLink, ServesClients, are_links_empty, is_live_at, is_plain_number, is_plainly_live_at}
 use Rattle.zt_model.specs.Visible.{keeps, shows}
-use Rattle.zt_model.specs.Wants.{covers}
+use Rattle.zt_model.proofs.Hats.{covers_is, shows_others}
 use Rattle.zt_laws.specs.Keeping.{AllKeepRight, FacesKeepRight, KeepsRight}
 use Rattle.zt_laws.specs.Order.{FabricIsInOrder}
 use Rattle.zt_laws.specs.Sound.{IsToldInOrder, RiseFrom}
@@ -93,7 +93,6 @@ module _ {K : Type 0} (cmp : K → K → Ordering) (matching : K → K → Bool)
 
     module _ (keep : AllKeepRight cmp matching s) (e : K) where
       node_keeps : (g h : ℕ) (step : StepUp s g h) (k : ℕ) (x : FaceAt K) → face_numbered s k ≡ Some x → x.gateway ≡ g → is_north x.face.region ≡ false → is_live cmp e x.face ≡ true → keeps cmp step.x.face e ≡ true
-      unfolding covers
       node_keeps g h step k x found here down live =
           let th = is_there s step.a step.x step.x_is in
           let tx = is_there s k x found in
@@ -106,10 +105,10 @@ module _ {K : Type 0} (cmp : K → K → Ordering) (matching : K → K → Bool)
           let face = find_each (IsTreeFace r.mode) (λ (f : Face K). step.x.face.number == f.number) r.faces step.x.face gateway.faces found_low in
           let keeps_ = find_each (λ f. is_routed r f ≡ false → KeepsRight cmp matching r f) (λ (f : Face K). step.x.face.number == f.number) r.faces step.x.face (each_nth (λ (y : Node K). FacesKeepRight cmp matching y.rows) step.x.gateway s.gateways node keep th.node_is) found_low in
           let refused = (each_gateway_nth ServesClients 1 step.x.gateway step.x.gateway s.gateways node (omega arith) trees.clients th.node_is).1 in
-          let shown : is_shown_by cmp step.x.face.region e x.face ≡ true =
-          and_from (is_live cmp e x.face) (shows step.x.face.region x.face.region) live (ap (λ q. shows q x.face.region) (region_eq-same step.x.face.region North step.up) ∙ ap not down) in
-          let some : list_any (is_shown_by cmp step.x.face.region e) r.faces ≡ true = any_found (λ (f : Face K). x.face.number == f.number) (is_shown_by cmp step.x.face.region e) r.faces x.face found_x shown in
-          (keeps_ (is_no_router r step.x.face face)).admitted_is_kept e (admitted_if_visible cmp r step.x.face.region e refused (visible_by_faces cmp r step.x.face.region e gateway.own_rows ∙ some)) (or_left (is_north step.x.face.region) _ step.up)
+          let shown : is_shown_by cmp r.mode step.x.face.region e x.face ≡ true =
+          and_from (is_live cmp e x.face) (shows r.mode step.x.face.region x.face.region) live (ap (λ q. shows r.mode q x.face.region) (region_eq-same step.x.face.region North step.up) ∙ shows_others r.mode North x.face.region down) in
+          let some : list_any (is_shown_by cmp r.mode step.x.face.region e) r.faces ≡ true = any_found (λ (f : Face K). x.face.number == f.number) (is_shown_by cmp r.mode step.x.face.region e) r.faces x.face found_x shown in
+          (keeps_ (is_no_router r step.x.face face)).admitted_is_kept e (admitted_if_visible cmp r step.x.face.region e refused (visible_by_faces cmp r step.x.face.region e gateway.own_rows ∙ some)) (covers_is matching r.mode step.x.face e ∙ or_left (is_north step.x.face.region) _ step.up)
 
       -- some row of what was told, under an id of its own
       pub record ToldRow (f : Face K) : Type 0 where

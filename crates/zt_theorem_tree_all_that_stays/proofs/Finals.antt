@@ -16,13 +16,13 @@ use Rattle.zt_protocol.specs.declared.messages.QueryableInfo.{QueryableInfo}
 use Rattle.zt_protocol.specs.declared.messages.Message.TheVariants as message
 use Rattle.zt_model.specs.Closing.{without_asks, without_face}
 use Rattle.zt_model.specs.Entities.{entities_for, entity_expressions, numbered_by, with_entities, with_numbers}
+use Rattle.zt_model.specs.Hat.{hat_of_face}
 use Rattle.zt_model.specs.Hearing.{heard, heard_all, messages_for, put_if, rows_heard, with_answer}
 use Rattle.zt_model.specs.Lists.{at_id, first_where, has_id, in_key_order, is_among, is_some_and, without_id}
 use Rattle.zt_model.specs.Parts.{Alter, Part, Say, Sends, to_each, to_face, told_id, with_face}
 use Rattle.zt_model.specs.Routing.{asked_as, asks_same, end_upstream_to, ended, final_of, final_of_both, finish_to, initial_finalised, is_finished_by, is_held_south, is_target, route_to, sent_as, stands, unheld, untell_to}
 use Rattle.zt_model.specs.Rows.{Ask, ById, Face, InterestRow, Rows}
 use Rattle.zt_model.specs.Says.{answered_expressions, asking, forget_to, forget_untold, is_routed, is_told, row_of, said, tell_to}
-use Rattle.zt_model.specs.Strategy.{is_client_hat, strategy_of}
 use Rattle.zt_model.specs.Telling.{answer_to, answers_from, answers_of, is_answered_by, registered, unregistered, was_sent_as}
 use Rattle.zt_model.specs.Transcript.{Each}
 use Rattle.zt_model.specs.Trees.{counted_table, greet_to, hide_to, is_child, is_hidden, is_newly_shown, node_of, pass_to, routed_expressions, router_regions, routers_in_order, show_to, table_of, unpass_to, with_own_rows, with_routed, with_table, without_left_out, without_own_rows}
@@ -189,13 +189,13 @@ module _ {K : Type 0} (cmp : K → K → Ordering) (matching : K → K → Bool)
     untells None = tt
     untells (Some k) = (tt, tt)
 
-    untell_leaves : (n : ℕ) → Fine (Say (to_face n (untell_to cmp matching)))
+    untell_leaves : (n : ℕ) → Fine (Say (λ g. to_face n (untell_to cmp matching g) g))
     unfolding untell_to
     untell_leaves n =
-        by_one n (λ g f. untell_to cmp matching f)
+        by_one n (untell_to cmp matching)
         (λ g f served asks.
         let gone = filter (λ x. not (wants matching f x)) (in_key_order cmp (map (λ row. row.1) f.told)) in
-        of_cond (Each Leaves) (is_north f.region) [] (flat_map (λ x. elim (told_id cmp x f.told) [ None ↦ [] | Some k ↦ message.UndeclareToken k None 0 ∷ [] ]) gone) (λ _. tt)
+        of_cond (Each Leaves) ((hat_of_face g f).is_told_unasked f.region) [] (flat_map (λ x. elim (told_id cmp x f.told) [ None ↦ [] | Some k ↦ message.UndeclareToken k None 0 ∷ [] ]) gone) (λ _. tt)
         (λ _. each_flat_map Leaves (λ x. elim (told_id cmp x f.told) [ None ↦ [] | Some k ↦ message.UndeclareToken k None 0 ∷ [] ]) gone (λ x. untells (told_id cmp x f.told))))
 
     forget_leaves : Forgets cmp matching Serves (To p Leaves)
@@ -205,7 +205,7 @@ module _ {K : Type 0} (cmp : K → K → Ordering) (matching : K → K → Bool)
         (λ g f served asks. of_cond (Each Leaves) (is_routed g f || is_visible cmp g f.region x) [] (elim (told_id cmp x f.told) [ None ↦ forget_untold cmp matching g source x f | Some k ↦ message.UndeclareToken k None 0 ∷ [] ]) (λ _. tt) (λ _. cases g f (told_id cmp x f.told)))
       where
         cases : (g : Rows K) (f : Face K) (o : Option ℕ) → Each Leaves (elim o [ None ↦ forget_untold cmp matching g source x f | Some k ↦ message.UndeclareToken k None 0 ∷ [] ])
-        cases g f None = of_cond (Each Leaves) (wants matching f x && not (is_client_hat (strategy_of g.mode f.region)) && shows f.region source) (message.UndeclareToken 0 (Some x) 0 ∷ []) [] (λ _. (tt, tt)) (λ _. tt)
+        cases g f None = of_cond (Each Leaves) (wants matching f x && (hat_of_face g f).undeclares_untold && shows g.mode f.region source) (message.UndeclareToken 0 (Some x) 0 ∷ []) [] (λ _. (tt, tt)) (λ _. tt)
         cases g f (Some k) = (tt, tt)
 
     end_leaves : (interest : InterestRow K) → Fine (Say (λ g. to_each (end_upstream_to cmp matching g interest) g.faces))

@@ -18,6 +18,7 @@ use Rattle.zt_protocol.specs.declared.messages.QueryableInfo.{QueryableInfo}
 use Rattle.zt_protocol.specs.declared.messages.Message.TheVariants as message
 use Rattle.zt_model.specs.Closing.{without_asks, without_face}
 use Rattle.zt_model.specs.Entities.{entities_for, entity_expressions, numbered_by, with_entities, with_numbers}
+use Rattle.zt_model.specs.Hat.{hat_of, hat_of_face, north_hat}
 use Rattle.zt_model.specs.Hearing.{asks_answered, heard, heard_all, rows_heard}
 use Rattle.zt_model.specs.Lists.{at_id, is_some_and, same, without_id}
 use Rattle.zt_model.specs.Parts.{Alter, Part, Say, Sends, to_each, to_face, told_id, with_face}
@@ -25,12 +26,12 @@ use Rattle.zt_model.specs.Routing.{asked_as, asks_same, end_upstream_to, ended, 
 use Rattle.zt_model.specs.Rows.{Ask, ById, Face, InterestRow, Rows}
 use Rattle.zt_model.specs.Refusals.{call_causes, first_cause}
 use Rattle.zt_model.specs.Says.{answered_expressions, asking, forget_to, forget_untold, is_routed, is_told, row_of, said, tell_to}
-use Rattle.zt_model.specs.Strategy.{is_client_hat, is_router_hat, strategy_of}
 use Rattle.zt_model.specs.Telling.{answer_to, answers_from, answers_of, registered, unregistered}
 use Rattle.zt_model.specs.Transcript.{Each}
 use Rattle.zt_model.specs.Trees.{counted_table, greet_to, hide_to, is_child, is_hidden, routed_expressions, routers_in_order, table_of, with_table, without_left_out, is_newly_shown, router_regions, show_to, with_own_rows, with_routed, without_own_rows}
 use Rattle.zt_model.specs.Visible.{is_visible, rows_of_face, routed_rows, shows}
 use Rattle.zt_model.specs.Wants.{wants}
+use Rattle.zt_model.proofs.Hats.{untell_is}
 use Rattle.zt_laws.specs.Sound.{rows_after_call}
 use Rattle.zt_laws.proofs.Hearing.{find_each, find_passes, heard_all-live, heard_all-number, heard_all-region}
 use Rattle.zt_laws.proofs.Keys.{same_is, same_itself}
@@ -134,7 +135,7 @@ module _ {K : Type 0} (cmp : K → K → Ordering) (matching : K → K → Bool)
       apart_next : (next : ℕ) (x : K) → id < next → (id == next) ≡ true → same cmp e x ≡ true
       apart_next next x less is = let bad : id ≡ next = eqb-true id next is in absurd (omega arith)
 
-      no_router_hat : (g : Rows K) (f : Face K) → Tells lives g → Told f → is_router_hat (strategy_of g.mode f.region) ≡ false
+      no_router_hat : (g : Rows K) (f : Face K) → Tells lives g → Told f → (hat_of g.mode f.region).goes_by_trees ≡ false
       no_router_hat g f tells told = rw (tells.client, region_eq-same f.region North told.north) refl
 
       tell_leaves : (source : Region) (x : K) → Fine (Say (λ g. to_each (tell_to cmp matching g source x) g.faces))
@@ -165,9 +166,8 @@ module _ {K : Type 0} (cmp : K → K → Ordering) (matching : K → K → Bool)
       unfolding finish_to
       finish_leaves k i = by_each (λ g f. finish_to g k i f) (λ g f tells told. alike (λ row. message.DeclareFinal row.0) (filter (λ row. is_finished_by g k i row.1) f.asks) (λ row. tt))
 
-      untell_leaves : (n : ℕ) → Fine (Say (to_face n (untell_to cmp matching)))
-      unfolding untell_to
-      untell_leaves n = by_one n (λ g f. untell_to cmp matching f) (λ g f tells told. rw (told.north) tt)
+      untell_leaves : (n : ℕ) → Fine (Say (λ g. to_face n (untell_to cmp matching g) g))
+      untell_leaves n = by_one n (untell_to cmp matching) (λ g f tells told. rw (untell_is cmp matching g f, told.north) tt)
 
       greets_leave : (region : Region) (before : Trees) → Fine (Say (λ g. to_each (greet_to cmp g region before) g.faces))
       unfolding greet_to
@@ -182,18 +182,18 @@ module _ {K : Type 0} (cmp : K → K → Ordering) (matching : K → K → Bool)
       seen : (g : Rows K) → list_any is_live_below g.faces ≡ true → is_visible cmp g North e ≡ true
       unfolding is_visible
       seen g some =
-          let test = λ (row : Region × K). same cmp e row.1 && shows North row.0 in
+          let test = λ (row : Region × K). same cmp e row.1 && shows g.mode North row.0 in
           any_live_rows test g g.faces
           ∙ or_left (list_any (λ f. list_any test (rows_of_face f)) g.faces) (list_any test (routed_rows g)) (any_weaker is_live_below (λ f. list_any test (rows_of_face f)) face_shows g.faces some)
         where
-          below : (r : Region) → not (is_north r) ≡ true → shows North r ≡ true
-          below r south = south
+          below : (r : Region) → not (is_north r) ≡ true → shows g.mode North r ≡ true
+          below r south = or_right (north_hat g.mode).shares_tokens (not (is_north r)) south
 
-          face_shows : (f : Face K) → is_live_below f ≡ true → list_any (λ (row : Region × K). same cmp e row.1 && shows North row.0) (rows_of_face f) ≡ true
+          face_shows : (f : Face K) → is_live_below f ≡ true → list_any (λ (row : Region × K). same cmp e row.1 && shows g.mode North row.0) (rows_of_face f) ≡ true
           face_shows f here =
               let both = and_parts (not (is_north f.region)) (is_live cmp e f) (and_parts (q == f.number) _ here).1 in
-              any-map (λ (row : Region × K). same cmp e row.1 && shows North row.0) (λ row. (f.region, row.1)) f.live
-              ∙ any_weaker (λ row. same cmp e row.1) (λ row. same cmp e row.1 && shows North f.region) (λ row own. and_from (same cmp e row.1) (shows North f.region) own (below f.region both.0)) f.live both.1
+              any-map (λ (row : Region × K). same cmp e row.1 && shows g.mode North row.0) (λ row. (f.region, row.1)) f.live
+              ∙ any_weaker (λ row. same cmp e row.1) (λ row. same cmp e row.1 && shows g.mode North f.region) (λ row own. and_from (same cmp e row.1) (shows g.mode North f.region) own (below f.region both.0)) f.live both.1
 
       forget_leaves : lives ≡ true → Forgets cmp matching (Tells lives) (To p Leaves)
       unfolding forget_to
@@ -205,10 +205,10 @@ module _ {K : Type 0} (cmp : K → K → Ordering) (matching : K → K → Bool)
         where
           cases : (g : Rows K) (f : Face K) → Tells lives g → Told f → (is_routed g f || is_visible cmp g f.region x) ≡ false → (o : Option ℕ) → told_id cmp x f.told ≡ o → Each Leaves (elim o [ None ↦ forget_untold cmp matching g source x f | Some k ↦ message.UndeclareToken k None 0 ∷ [] ])
           cases g f tells told unseen None is =
-              of_cond (Each Leaves) (wants matching f x && not (is_client_hat (strategy_of g.mode f.region)) && shows f.region source) (message.UndeclareToken 0 (Some x) 0 ∷ []) []
+              of_cond (Each Leaves) (wants matching f x && (hat_of_face g f).undeclares_untold && shows g.mode f.region source) (message.UndeclareToken 0 (Some x) 0 ∷ []) []
               (λ here.
-              let hat : is_client_hat (strategy_of g.mode f.region) ≡ true = rw (tells.client, region_eq-same f.region North told.north) refl in
-              never (and_parts (wants matching f x) (not (is_client_hat (strategy_of g.mode f.region))) (and_parts (wants matching f x && not (is_client_hat (strategy_of g.mode f.region))) (shows f.region source) here).0).1 (ap not hat))
+              let silent : (hat_of_face g f).undeclares_untold ≡ false = rw (tells.client, region_eq-same f.region North told.north) refl in
+              never (and_parts (wants matching f x) ((hat_of_face g f).undeclares_untold) (and_parts (wants matching f x && (hat_of_face g f).undeclares_untold) (shows g.mode f.region source) here).0).1 silent)
               (λ _. tt)
           cases g f tells told unseen (Some k) is = (
             by_test (id == k)
