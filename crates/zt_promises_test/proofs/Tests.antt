@@ -1,6 +1,6 @@
 -- What the laws of single scripts take: tests that show by evaluation what holds of a whole transcript, and its turns by
 -- their numbers.
-use Rattle.std.proofs.Common.{◌≡◌, ℕ, ◌+◌, ◌-◌, ◌≤◌, ◌==◌, Bool, true, false, ◌&&◌, ◌||◌, not, List, [], ◌∷◌, ◌++◌, take, drop, append_assoc, Option, Some, None, is_some, Ok, refl, sym, ap, ◌∙◌, subst, arith, eqb-true, true≢false, ⊎_elim}
+use Rattle.std.proofs.Common.{◌≡◌, ℕ, ◌+◌, ◌-◌, ◌≤◌, ◌==◌, Bool, true, false, ◌&&◌, ◌||◌, not, List, [], ◌∷◌, ◌++◌, map, take, drop, append_assoc, Option, Some, None, is_some, Ok, refl, sym, ap, ◌∙◌, subst, arith, eqb-true, true≢false, ⊎_elim}
 use Rattle.std.proofs.lemmas.Bool.{and_parts, or_cases}
 use Rattle.std.proofs.lemmas.List.{take-append-drop}
 use Rattle.std.specs.List.{list_all, list_any}
@@ -18,7 +18,7 @@ use Rattle.zt_model.specs.Rows.{ById, Face, InterestRow, Rows}
 use Rattle.zt_model.specs.Transcript.{Each, face_numbered}
 use Rattle.zt_model.specs.TreePromises.{Beyond, Here, IsInTree, IsMember, IsPlainlyLive, Itself, IsTreeFabric, KnowsItsTree, LeadsUpByLink, ServesClients, There, holds_both, is_at_gateway, is_client_region, is_plain, is_plain_number, is_plainly_live_at}
 use Rattle.zt_model.specs.Visible.{keeps}
-use Rattle.zt_model.specs.Wants.{asks_token, covers, is_about}
+use Rattle.zt_model.specs.Seen.{concerns, interests_held, is_owed}
 use Rattle.zt_promises_test.specs.Premises.{FacesKnow}
 use Rattle.zt_promises_test.proofs.Suffices.{by_test, neither}
 
@@ -217,29 +217,33 @@ module _ (matching : ℕ → ℕ → Bool) (k : ℕ) (alone : (e : ℕ) → matc
   is_key None = false
   is_key (Some x) = x == k
 
-  about_key : (o : Option ℕ) (e : ℕ) → is_key o ≡ true → is_about matching o e ≡ true → k ≡ e
+  about_key : (o : Option ℕ) (e : ℕ) → is_key o ≡ true → elim o [ None ↦ true | Some x ↦ matching x e ] ≡ true → k ≡ e
   about_key None e is about = absurd (true≢false (sym is))
   about_key (Some x) e is about = let same_ : x ≡ k = eqb-true x k is in alone e (subst (λ y. matching y e ≡ true) same_ about)
 
-  held_key : (held : ById (InterestRow ℕ)) (e : ℕ) → list_all (λ row. is_key row.1.expr) held ≡ true → list_any (λ row. is_current row.1.mode && asks_token matching row.1 e) held ≡ true → k ≡ e
+  -- what concerns the expression asks for now
+  abbrev is_due : ℕ → InterestRow ℕ → Bool
+  is_due e interest = concerns matching interest e && is_current interest.mode
+
+  held_key : (held : ById (InterestRow ℕ)) (e : ℕ) → list_all (λ row. is_key row.1.expr) held ≡ true → list_any (is_due e) (map (λ row. row.1) held) ≡ true → k ≡ e
   held_key [] e all some = absurd (true≢false (sym some))
   held_key (row ∷ rows) e all some =
       let both = and_parts (is_key row.1.expr) (list_all (λ row. is_key row.1.expr) rows) all in
       ⊎_elim
       (λ here.
-      let asks = (and_parts (is_current row.1.mode) (asks_token matching row.1 e) here).1 in
-      about_key row.1.expr e both.0 (and_parts (has_tokens row.1.options) (is_about matching row.1.expr e) asks).1)
+      let asks = (and_parts (concerns matching row.1 e) (is_current row.1.mode) here).0 in
+      about_key row.1.expr e both.0 (and_parts (has_tokens row.1.options) (elim row.1.expr [ None ↦ true | Some x ↦ matching x e ]) asks).1)
       (λ there. held_key rows e both.1 there)
-      (or_cases (is_current row.1.mode && asks_token matching row.1 e) (list_any (λ row. is_current row.1.mode && asks_token matching row.1 e) rows) some)
+      (or_cases (is_due e row.1) (list_any (is_due e) (map (λ row. row.1) rows)) some)
 
-  covered_key : (f : Face ℕ) (e : ℕ) → (not (is_north f.region) && list_all (λ row. is_key row.1.expr) f.held) ≡ true → covers matching f e ≡ true → k ≡ e
-  unfolding covers
-  covered_key f e keys covered =
+  owed_key : (f : Face ℕ) (e : ℕ) → (not (is_north f.region) && list_all (λ row. is_key row.1.expr) f.held) ≡ true → is_owed matching f e ≡ true → k ≡ e
+  unfolding is_owed
+  owed_key f e keys owed =
       let both = and_parts (not (is_north f.region)) (list_all (λ row. is_key row.1.expr) f.held) keys in
       ⊎_elim
       (λ up. absurd (true≢false (sym (rw up at both.0))))
       (λ held. held_key f.held e both.1 held)
-      (or_cases (is_north f.region) (list_any (λ row. is_current row.1.mode && asks_token matching row.1 e) f.held) covered)
+      (or_cases (is_north f.region) (list_any (is_due e) (interests_held matching f)) owed)
 
   -- of a face: if it is plain and asked for now and later, it is one of the gateway, asks for the key alone, and passes
   abbrev pub is_asker : (Face ℕ → Bool) → ℕ → Rows ℕ → Face ℕ → Bool
@@ -250,7 +254,7 @@ module _ (matching : ℕ → ℕ → Bool) (k : ℕ) (alone : (e : ℕ) → matc
   -- what the test says of such a face
   record Asks (passes : Face ℕ → Bool) (n : ℕ) (f : Face ℕ) : Type 0 where
     own : n ≡ gateway
-    only : (e : ℕ) → covers matching f e ≡ true → k ≡ e
+    only : (e : ℕ) → is_owed matching f e ≡ true → k ≡ e
     passed : passes f ≡ true
 
   asks : (passes : Face ℕ → Bool) (n : ℕ) (g : Rows ℕ) (f : Face ℕ) → is_asker passes n g f ≡ true → is_plain s n f ≡ true → holds_both nat_cmp matching f ≡ true → Asks passes n f
@@ -262,7 +266,7 @@ module _ (matching : ℕ → ℕ → Bool) (k : ℕ) (alone : (e : ℕ) → matc
       (λ h.
       let outer = and_parts (n == gateway) (keys && passes f) h in
       let inner = and_parts keys (passes f) outer.1 in
-      record { own = eqb-true n gateway outer.0; only = λ e covered. covered_key f e inner.0 covered; passed = inner.1 })
+      record { own = eqb-true n gateway outer.0; only = λ e owed. owed_key f e inner.0 owed; passed = inner.1 })
       (or_cases (not (is_plain s n f && holds_both nat_cmp matching f)) which asker)
 
   -- they keep it and that is live ..
@@ -272,8 +276,8 @@ module _ (matching : ℕ → ℕ → Bool) (k : ℕ) (alone : (e : ℕ) → matc
       (λ n g f asker plain both_.
       let own = asks (λ f. keeps nat_cmp f k) n g f asker plain both_ in
       record {
-        kept_is_live = λ e covered keeps_. subst (λ m. IsPlainlyLive nat_cmp matching s m e) (sym own.own) (subst (λ x. IsPlainlyLive nat_cmp matching s gateway x) (own.only e covered) live);
-        live_is_kept = λ e covered lives. subst (λ x. keeps nat_cmp f x ≡ true) (own.only e covered) own.passed;
+        kept_is_live = λ e owed keeps_. subst (λ m. IsPlainlyLive nat_cmp matching s m e) (sym own.own) (subst (λ x. IsPlainlyLive nat_cmp matching s gateway x) (own.only e owed) live);
+        live_is_kept = λ e owed lives. subst (λ x. keeps nat_cmp f x ≡ true) (own.only e owed) own.passed;
       })
       1 s.gateways asking
 
@@ -284,11 +288,11 @@ module _ (matching : ℕ → ℕ → Bool) (k : ℕ) (alone : (e : ℕ) → matc
       (λ n g f asker plain both_.
       let own = asks (λ f. not (keeps nat_cmp f k)) n g f asker plain both_ in
       record {
-        kept_is_live = λ e covered keeps_.
-            let kept : keeps nat_cmp f k ≡ true = subst (λ x. keeps nat_cmp f x ≡ true) (sym (own.only e covered)) keeps_ in
+        kept_is_live = λ e owed keeps_.
+            let kept : keeps nat_cmp f k ≡ true = subst (λ x. keeps nat_cmp f x ≡ true) (sym (own.only e owed)) keeps_ in
             absurd (true≢false (sym (rw kept at own.passed)));
-        live_is_kept = λ e covered lives.
-            let lives_ : is_plainly_live_at nat_cmp matching s lives.face k ≡ true = subst (λ x. is_plainly_live_at nat_cmp matching s lives.face x ≡ true) (sym (own.only e covered)) lives.live in
+        live_is_kept = λ e owed lives.
+            let lives_ : is_plainly_live_at nat_cmp matching s lives.face k ≡ true = subst (λ x. is_plainly_live_at nat_cmp matching s lives.face x ≡ true) (sym (own.only e owed)) lives.live in
             absurd (true≢false (sym lives_ ∙ live_nowhere nat_cmp matching k s nowhere lives.face));
       })
       1 s.gateways asking
