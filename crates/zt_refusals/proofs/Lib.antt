@@ -2,4 +2,5 @@ mod Askers
 pub mod LeftIds
 mod Listing
 pub mod Numbering
+mod Passing
 mod Seekers

@@ -18,7 +18,7 @@ fn names_other_region(regions: &[Region], pair: &(Region, Region)) -> bool
 }
 
 // Whether one of the pairs does.
-fn name_other_region(regions: &[Region], refused: &[(Region, Region)]) -> bool
+fn any_names_other_region(regions: &[Region], refused: &[(Region, Region)]) -> bool
     ensures { result ≡ list_any (names_other_region regions.now) refused.now }
 {
     refused.iter().any(|pair| names_other_region(regions, pair))
@@ -32,7 +32,7 @@ fn is_without_trees_above(mode: WhatAmI, region: Region) -> bool
 }
 
 // Whether one of the regions does.
-fn are_without_trees_above(mode: WhatAmI, regions: &[Region]) -> bool
+fn any_is_without_trees_above(mode: WhatAmI, regions: &[Region]) -> bool
     ensures { result ≡ list_any (is_without_trees_above mode) regions.now }
 {
     regions
@@ -49,10 +49,10 @@ pub fn cause_of_making(
 ) -> Option<Refusal>
     ensures { result ≡ first_cause (making_causes mode regions.now refused.now) }
 {
-    if name_other_region(regions, refused) {
+    if any_names_other_region(regions, refused) {
         return Some(Refusal::NoSuchRegion);
     }
-    if are_without_trees_above(mode, regions) {
+    if any_is_without_trees_above(mode, regions) {
         return Some(Refusal::RegionConflict);
     }
     None

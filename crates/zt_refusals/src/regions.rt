@@ -3,7 +3,7 @@ ghost use Rattle.std.specs.Prelude.{◌≡◌};
 ghost use Rattle.std.specs.List.{list_any};
 ghost use Rattle.zt_model.specs.Refusals.{are_numbers_spent, is_north_taken};
 ghost use Rattle.zt_model.specs.Strategy.{is_region_of};
-ghost use Rattle.zt_region.specs.Region.{region_eq};
+ghost use Rattle.zt_region.specs.Region.{is_north, region_eq};
 
 use zt_hats::hat_of;
 use zt_keys::Key;
@@ -34,11 +34,21 @@ fn is_in<K: Key>(f: &FaceState<K>, region: Region) -> bool
     f.region() == region
 }
 
-// Whether a face of the gateway is of the region.
+// Whether a face of the gateway leads to the north.
+fn has_north<K: Key>(g: &GatewayState<K>) -> bool
+    ensures { result ≡ list_any (λ f. is_north f.region) g.now.faces }
+{
+    !g.north().is_empty()
+}
+
+// Whether a face of the gateway is of the region. To the north this is a look-up.
 fn has_face<K: Key>(g: &GatewayState<K>, region: Region) -> bool
     ensures { result ≡ list_any (λ f. region_eq f.region region) g.now.faces }
 {
-    g.faces().iter().any(|f| is_in(f, region))
+    match region {
+        Region::North => has_north(g),
+        Region::Local | Region::South { .. } => g.faces().iter().any(|f| is_in(f, region)),
+    }
 }
 
 /// Whether the region has one face at most, and has it already.
