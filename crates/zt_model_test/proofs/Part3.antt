@@ -53,6 +53,10 @@ pub what_matches_is_answered : ComesOut part.what_matches_is_answered
 unfolding opened
 what_matches_is_answered = (refl, refl)
 
+pub who_may_have_a_face : ComesOut part.who_may_have_a_face
+unfolding opened
+who_may_have_a_face = (refl, refl)
+
 pub who_may_not_speak : ComesOut part.who_may_not_speak
 unfolding opened
 who_may_not_speak = (refl, refl)

@@ -2,7 +2,7 @@
 -- Written by tools/scripts_to_antt.py; change the scripts or the tool, and not this file.
 use Rattle.std.specs.Prelude.{true, false, [], ◌∷◌, Some, None, Ok, Err}
 use Rattle.zt_region.specs.declared.region.Bound.TheVariants as bound
-use Rattle.zt_region.specs.declared.region.Region.TheVariants.{North, South}
+use Rattle.zt_region.specs.declared.region.Region.TheVariants.{North, Local, South}
 use Rattle.zt_region.specs.declared.region.WhatAmI.TheVariants.{Router, Peer, Client}
 use Rattle.zt_protocol.specs.Plain.{DeclareToken, UndeclareToken, Interest, DeclareFinal, CloseFace, Gateway, Session, Face as FaceLine, Link as LinkLine, Unlink, Step, Speak, SetTreesAt}
 use Rattle.zt_protocol.specs.declared.errors.Refusal.TheVariants as refusal
@@ -438,6 +438,51 @@ what_matches_is_answered = record {
       ∷ Ok (sent 1 1 (message.UndeclareToken 2 None 0) ∷ sent 1 1 (message.UndeclareToken 3 None 0) ∷ sent 1 1 (message.InterestFinal 7) ∷ [])
       ∷ [];
   totals = Some (record { lines = 14; messages = 19; refusals = 0 });
+}
+
+-- who-may-have-a-face
+abbrev pub who_may_have_a_face : Script
+who_may_have_a_face = record {
+  matches = [];
+  lines =
+      Gateway Client (zid 1) (South 0 Client ∷ []) None None 10000 []
+      ∷ FaceLine 1 Client (zid 9) (South 0 Client) bound.South 1
+      ∷ FaceLine 1 Peer (zid 8) (South 0 Client) bound.North 1
+      ∷ FaceLine 1 Client (zid 9) Local bound.North 1
+      ∷ FaceLine 1 Client (zid 9) (South 0 Client) bound.North 1
+      ∷ FaceLine 1 Router (zid 7) North bound.North 1
+      ∷ FaceLine 1 Router (zid 7) North bound.South 1
+      ∷ FaceLine 1 Router (zid 6) North bound.South 1
+      ∷ Gateway Peer (zid 2) (South 0 Peer ∷ []) None None 10000 []
+      ∷ FaceLine 2 Client (zid 5) North bound.North 1
+      ∷ FaceLine 2 Client (zid 5) (South 0 Peer) bound.North 1
+      ∷ FaceLine 2 Peer (zid 5) (South 0 Peer) bound.South 1
+      ∷ FaceLine 2 Peer (zid 5) (South 0 Peer) bound.North 1
+      ∷ FaceLine 2 Peer (zid 4) North bound.North 1
+      ∷ Speak (Interest 4 1 Current (options 8) None)
+      ∷ FaceLine 2 Client (zid 3) North bound.South 1
+      ∷ Speak (Interest 5 1 Current (options 8) None)
+      ∷ [];
+  entries =
+      Ok []
+      ∷ Err refusal.RegionConflict
+      ∷ Err refusal.RegionConflict
+      ∷ Err refusal.RegionConflict
+      ∷ Ok []
+      ∷ Err refusal.RegionConflict
+      ∷ Ok []
+      ∷ Err refusal.NorthTaken
+      ∷ Ok []
+      ∷ Err refusal.RegionConflict
+      ∷ Err refusal.RegionConflict
+      ∷ Err refusal.RegionConflict
+      ∷ Ok []
+      ∷ Ok (sent 2 4 (message.DeclareFinal 0) ∷ [])
+      ∷ Ok (sent 2 4 (message.DeclareFinal 1) ∷ [])
+      ∷ Ok []
+      ∷ Err refusal.InterestFromNorth
+      ∷ [];
+  totals = Some (record { lines = 17; messages = 2; refusals = 9 });
 }
 
 -- who-may-not-speak: 0 is k

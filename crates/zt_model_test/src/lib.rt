@@ -80,6 +80,7 @@ pub fn part_3_comes_out()
     ensures two_links_of_a_face { ComesOut part3.two_links_of_a_face }
     ensures undeclaring_the_untold { ComesOut part3.undeclaring_the_untold }
     ensures what_matches_is_answered { ComesOut part3.what_matches_is_answered }
+    ensures who_may_have_a_face { ComesOut part3.who_may_have_a_face }
     ensures who_may_not_speak { ComesOut part3.who_may_not_speak }
     ensures word_run { ComesOut part3.word_run }
 {}

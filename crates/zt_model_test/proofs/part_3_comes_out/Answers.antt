@@ -16,6 +16,7 @@ returns g = record {
   two_links_of_a_face = law.two_links_of_a_face;
   undeclaring_the_untold = law.undeclaring_the_untold;
   what_matches_is_answered = law.what_matches_is_answered;
+  who_may_have_a_face = law.who_may_have_a_face;
   who_may_not_speak = law.who_may_not_speak;
   word_run = law.word_run;
 }
