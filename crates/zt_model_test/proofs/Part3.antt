@@ -33,6 +33,10 @@ pub three_routers : ComesOut part.three_routers
 unfolding opened
 three_routers = (refl, refl)
 
+pub token_of_a_router_and_a_session : ComesOut part.token_of_a_router_and_a_session
+unfolding opened
+token_of_a_router_and_a_session = (refl, refl)
+
 pub tree_echo : ComesOut part.tree_echo
 unfolding opened
 tree_echo = (refl, refl)

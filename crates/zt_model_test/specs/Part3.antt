@@ -233,6 +233,31 @@ three_routers = record {
   totals = Some (record { lines = 15; messages = 4; refusals = 0 });
 }
 
+-- token-of-a-router-and-a-session: 0 is k
+abbrev pub token_of_a_router_and_a_session : Script
+token_of_a_router_and_a_session = record {
+  matches = [];
+  lines =
+      Gateway Router (zid 1) [] None None 10000 []
+      ∷ FaceLine 1 Router (zid 2) North bound.North 1
+      ∷ SetTreesAt 1 North (record { routers = ((0, zid 1) ∷ (1, zid 2) ∷ []); links = ((1, 0, zid 2) ∷ (1, 1, zid 1) ∷ []); children = ((zid 1, zid 2) ∷ []) })
+      ∷ Session 1 1
+      ∷ Speak (DeclareToken 1 1 0 0 None)
+      ∷ Speak (DeclareToken 2 1 0 0 None)
+      ∷ Speak (UndeclareToken 2 1 None 0)
+      ∷ [];
+  entries =
+      Ok []
+      ∷ Ok []
+      ∷ Ok []
+      ∷ Ok []
+      ∷ Ok []
+      ∷ Ok (sent 1 1 (message.DeclareToken 0 0 None 0) ∷ [])
+      ∷ Ok (sent 1 1 (message.UndeclareToken 0 (Some 0) 0) ∷ [])
+      ∷ [];
+  totals = Some (record { lines = 7; messages = 2; refusals = 0 });
+}
+
 -- tree-echo: 0 is k
 abbrev pub tree_echo : Script
 tree_echo = record {

@@ -75,6 +75,7 @@ pub fn part_3_comes_out()
     ensures sessions_alone { ComesOut part3.sessions_alone }
     ensures tables_and_their_trees { ComesOut part3.tables_and_their_trees }
     ensures three_routers { ComesOut part3.three_routers }
+    ensures token_of_a_router_and_a_session { ComesOut part3.token_of_a_router_and_a_session }
     ensures tree_echo { ComesOut part3.tree_echo }
     ensures two_declarers_one_holder { ComesOut part3.two_declarers_one_holder }
     ensures two_links_of_a_face { ComesOut part3.two_links_of_a_face }

@@ -11,6 +11,7 @@ returns g = record {
   sessions_alone = law.sessions_alone;
   tables_and_their_trees = law.tables_and_their_trees;
   three_routers = law.three_routers;
+  token_of_a_router_and_a_session = law.token_of_a_router_and_a_session;
   tree_echo = law.tree_echo;
   two_declarers_one_holder = law.two_declarers_one_holder;
   two_links_of_a_face = law.two_links_of_a_face;
