@@ -4,6 +4,7 @@ use Rattle.std.proofs.lemmas.Bool.{false≢true}
 use Rattle.std.proofs.lemmas.Bool.Decides.{nat_tests}
 use Rattle.std.proofs.lemmas.List.{take_all}
 use Rattle.std.specs.Prelude.{Option, nat_lt}
+use Rattle.std.specs.declared.cmp.Ordering.{Ordering}
 use Rattle.std.specs.Io.KnownBytes.{Consumes, IsAtEnd}
 use Rattle.zt_keys.specs.declared.error.KeyError.{KeyError}
 use Rattle.zt_streams.proofs.LineLemmas.{by_test}
@@ -38,12 +39,12 @@ whole_input left left' bytes longer front whole end =
     same : bytes ≡ front.read
     same = front.front ∙ take_all 16777216 front.read short
 
-module _ {K : Type 0} (reading : List ℕ → Result K KeyError) (printed : K → List ℕ) where
-  pub answers_error : (left left' written : Option (List ℕ)) (bytes shown : List ℕ) (error : CheckError) → IsWholeInput left left' bytes → shown ≡ bytes → JudgesInput reading printed shown (Err error)
-      → Answers reading printed left left' written written (Err error)
-  answers_error left left' written bytes shown errors.TooLong whole is h = inr (bytes, whole, subst (λ (b : List ℕ). JudgesInput reading printed b (Err errors.TooLong)) is h)
-  answers_error left left' written bytes shown errors.NoTrace whole is h = (bytes, whole, subst (λ (b : List ℕ). JudgesInput reading printed b (Err errors.NoTrace)) is h)
-  answers_error left left' written bytes shown (errors.BadScript number) whole is h = (bytes, whole, subst (λ (b : List ℕ). JudgesInput reading printed b (Err (errors.BadScript number))) is h)
+module _ {K : Type 0} (cmp : K → K → Ordering) (matching : K → K → Bool) (reading : List ℕ → Result K KeyError) (printed : K → List ℕ) where
+  pub answers_error : (left left' written : Option (List ℕ)) (bytes shown : List ℕ) (error : CheckError) → IsWholeInput left left' bytes → shown ≡ bytes → JudgesInput cmp matching reading printed shown (Err error)
+      → Answers cmp matching reading printed left left' written written (Err error)
+  answers_error left left' written bytes shown errors.TooLong whole is h = inr (bytes, whole, subst (λ (b : List ℕ). JudgesInput cmp matching reading printed b (Err errors.TooLong)) is h)
+  answers_error left left' written bytes shown errors.NoTrace whole is h = (bytes, whole, subst (λ (b : List ℕ). JudgesInput cmp matching reading printed b (Err errors.NoTrace)) is h)
+  answers_error left left' written bytes shown (errors.BadScript number) whole is h = (bytes, whole, subst (λ (b : List ℕ). JudgesInput cmp matching reading printed b (Err (errors.BadScript number))) is h)
   answers_error left left' written bytes shown errors.Alloc whole is h = tt
   answers_error left left' written bytes shown errors.ReadFault whole is h = absurd h
   answers_error left left' written bytes shown errors.WriteFault whole is h = absurd h

@@ -6,14 +6,20 @@ use Rattle.zt_protocol.specs.Plain.{PlainEntry, PlainLine}
 use Rattle.zt_protocol.specs.declared.entries.Report.{Report}
 use Rattle.zt_text.specs.Sent.{IsPrinted}
 use Rattle.zt_text.specs.Text.{entries_text, entry_text, report_text}
-use Rattle.zt_model.specs.Transcript.{IsEntry, messages_in, refusals_in, report_of}
+use Rattle.std.specs.Prelude.{Bool}
+use Rattle.std.specs.List.{AllByRecursion}
+use Rattle.std.specs.declared.cmp.Ordering.{Ordering}
+use Rattle.zt_model.specs.Fabric.{Fabric, empty_fabric}
+use Rattle.zt_model.specs.Promises.{turns_from}
+use Rattle.zt_model.specs.Transcript.{Each, IsEntry, fabric_shown, messages_in, refusals_in, report_of}
 use Rattle.zt_check_trace.specs.Entries.{BeginsWithEntry, FindsEntry}
 use Rattle.zt_check_trace.proofs.MessageLemmas.{all_more}
-use Rattle.zt_check.specs.Judging.{BeginsWithEntries, BreaksText, Judges, JudgesTotals}
+use Rattle.zt_check.specs.Clauses.{MeetsAll, decided}
+use Rattle.zt_check.specs.Judging.{BeginsWell, BeginsWithEntries, Breaks, Judges, JudgesTotals}
 use Rattle.zt_check.specs.Totals.{IsInRange, with_entry}
 use Rattle.zt_check.specs.declared.verdict.Clause.TheVariants.{Text}
 use Rattle.zt_check.specs.declared.verdict.Verdict.{Verdict}
-use Rattle.zt_check.specs.declared.verdict.Verdict.TheVariants.{Holds, Breaks}
+use Rattle.zt_check.specs.declared.verdict.Verdict.TheVariants as verdict
 
 abbrev no_totals : Report
 no_totals = record { lines = 0; messages = 0; refusals = 0 }
@@ -94,35 +100,45 @@ module _ {K : Type 0} (printed : K → List ℕ) where
     range = range;
   }
 
-  pub underway_breaks : (lines : List (PlainLine K)) (claimed rest : List ℕ) (report : Report) (done number : ℕ) → IsUnderway claimed rest report done → done < length lines → number ≡ report.lines + 1
-      → FindsEntry printed number rest None → BreaksText printed lines claimed number
+module _ {K : Type 0} (cmp : K → K → Ordering) (matching : K → K → Bool) (printed : K → List ℕ) where
+  entries_met : (lines : List (PlainLine K)) (entries : List (PlainEntry K)) (s : Fabric K) → AllByRecursion IsEntry entries → Each (MeetsAll cmp matching decided) (turns_from cmp matching lines entries s)
+  unfolding turns_from
+  entries_met [] entries s h = tt
+  entries_met (line ∷ lines) [] s h = tt
+  entries_met (line ∷ lines) (entry ∷ entries) s h = ((h.0, tt), entries_met lines entries (fabric_shown cmp matching line entry s) h.1)
+
+  begins_well : (lines : List (PlainLine K)) (claimed : List ℕ) (entries : List (PlainEntry K)) (rest : List ℕ) → BeginsWithEntries printed claimed entries rest → BeginsWell cmp matching printed decided lines claimed entries rest
+  begins_well lines claimed entries rest begins = record { begins = begins; met = entries_met lines entries empty_fabric begins.are_entries }
+
+  pub underway_breaks : (lines : List (PlainLine K)) (claimed rest : List ℕ) (report : Report) (done number : ℕ) → IsUnderway printed claimed rest report done → done < length lines → number ≡ report.lines + 1
+      → FindsEntry printed number rest None → Breaks cmp matching printed decided lines claimed number Text
   underway_breaks lines claimed rest report done number under more is none =
       let same : number ≡ length under.entries + 1 = omega (arith, is, under.lines, under.is_done) in
       record {
         entries = under.entries;
         rest = rest;
-        begins = under.begins;
-        breaks = inl (omega (arith, under.is_done), subst (λ (k : ℕ). FindsEntry printed k rest None) same none);
+        well = begins_well lines claimed under.entries rest under.begins;
+        breaks = inl (refl, inl (omega (arith, under.is_done), subst (λ (k : ℕ). FindsEntry printed k rest None) same none));
         is_line = same;
       }
 
-  pub underway_last : (lines : List (PlainLine K)) (claimed rest : List ℕ) (report : Report) (done : ℕ) (verdict : Verdict) → IsUnderway claimed rest report done → done ≡ length lines
-      → JudgesTotals report rest verdict → Judges printed lines claimed verdict
-  underway_last lines claimed rest report done (Holds totals) under all h = record {
+  pub underway_last : (lines : List (PlainLine K)) (claimed rest : List ℕ) (report : Report) (done : ℕ) (verdict : Verdict) → IsUnderway printed claimed rest report done → done ≡ length lines
+      → JudgesTotals report rest verdict → Judges cmp matching printed decided lines claimed verdict
+  underway_last lines claimed rest report done (verdict.Holds totals) under all h = record {
     entries = under.entries;
-    begins = subst (λ (t : List ℕ). BeginsWithEntries printed claimed under.entries t) (h.1 ∙ ap report_text (sym h.0)) under.begins;
+    well = begins_well lines claimed under.entries (report_text totals) (subst (λ (t : List ℕ). BeginsWithEntries printed claimed under.entries t) (h.1 ∙ ap report_text (sym h.0)) under.begins);
     is_whole = under.is_done ∙ all;
     totals = h.0 ∙ under.totals;
   }
-  underway_last lines claimed rest report done (Breaks line Text) under all h = record {
+  underway_last lines claimed rest report done (verdict.Breaks line clause) under all h = record {
     entries = under.entries;
     rest = rest;
-    begins = under.begins;
-    breaks = inr (under.is_done ∙ all, λ is. h.1 (is ∙ ap report_text (sym under.totals)));
+    well = begins_well lines claimed under.entries rest under.begins;
+    breaks = inl (h.1, inr (under.is_done ∙ all, λ is. h.2 (is ∙ ap report_text (sym under.totals))));
     is_line = omega (arith, h.0, under.lines, under.is_done);
   }
 
-  pub totals_result : (lines : List (PlainLine K)) (claimed rest : List ℕ) (report : Report) (done : ℕ) {E : Type 0} (result : Result Verdict E) → IsUnderway claimed rest report done → done ≡ length lines
-      → IfOk result (λ verdict. JudgesTotals report rest verdict) → IfOk result (λ verdict. Judges printed lines claimed verdict)
+  pub totals_result : (lines : List (PlainLine K)) (claimed rest : List ℕ) (report : Report) (done : ℕ) {E : Type 0} (result : Result Verdict E) → IsUnderway printed claimed rest report done → done ≡ length lines
+      → IfOk result (λ verdict. JudgesTotals report rest verdict) → IfOk result (λ verdict. Judges cmp matching printed decided lines claimed verdict)
   totals_result lines claimed rest report done (Ok verdict) under all h = underway_last lines claimed rest report done verdict under all h
   totals_result lines claimed rest report done (Err e) under all h = tt

@@ -1,2 +1,5 @@
 pub mod JudgingLemmas
 pub mod CheckingLemmas
+pub mod ClauseLemmas
+pub mod PlaceLemmas
+pub mod VerdictLemmas

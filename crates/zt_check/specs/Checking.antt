@@ -1,5 +1,6 @@
 -- What a check reads, writes and answers.
-use Rattle.std.specs.Prelude.{◌⊎◌, ℕ, ◌<◌, ◌≤◌, List, length, Option, Result, Ok, Err}
+use Rattle.std.specs.Prelude.{◌⊎◌, ℕ, Bool, ◌<◌, ◌≤◌, List, length, Option, Result, Ok, Err}
+use Rattle.std.specs.declared.cmp.Ordering.{Ordering}
 use Rattle.std.specs.Io.KnownBytes.{Appends, Consumes, IsAtEnd}
 use Rattle.zt_keys.specs.declared.error.KeyError.{KeyError}
 use Rattle.zt_streams.specs.Streams.{AppendsPart}
@@ -26,10 +27,10 @@ pub record IsLongInput (left left' : Option (List ℕ)) : Type 0 where
   pub taken : Consumes left left' input
   pub is_long : most_input_bytes < length input
 
-module _ {K : Type 0} (reading : List ℕ → Result K KeyError) (printed : K → List ℕ) where
+module _ {K : Type 0} (cmp : K → K → Ordering) (matching : K → K → Bool) (reading : List ℕ → Result K KeyError) (printed : K → List ℕ) where
   -- the source was read to its end, and of what was read this is said
   abbrev pub ReadsAndJudges : Option (List ℕ) → Option (List ℕ) → Result Verdict CheckError → Type 0
-  ReadsAndJudges left left' answer = (input : List ℕ) × IsWholeInput left left' input × JudgesInput reading printed input answer
+  ReadsAndJudges left left' answer = (input : List ℕ) × IsWholeInput left left' input × JudgesInput cmp matching reading printed input answer
 
   -- What each answer of a check says, by the bytes that the source has left and those that the sink was given, where
   -- they tell them.

@@ -1,4 +1,6 @@
 pub mod Verdicts
 pub mod Totals
+pub mod Clauses
 pub mod Judging
 pub mod Checking
+pub mod Laws

@@ -2,6 +2,7 @@
 ghost use Rattle.std.specs.Prelude.{◌≡◌, ◌<◌, IfOk, map, length};
 ghost use Rattle.zt_keys.specs.Key.{OneSpelling};
 ghost use Rattle.zt_protocol.specs.Plain.{plain_entry, plain_line};
+ghost use Rattle.zt_check.specs.Clauses.{decided};
 ghost use Rattle.zt_check.specs.Totals.{IsInRange, with_entry};
 ghost use Rattle.zt_check.specs.Judging.{Judges, JudgesInput, JudgesTotals};
 
@@ -49,7 +50,7 @@ fn judge_claim<K: Key>(alloc: Global, lines: &[Line<K>], claimed: &[u8]) -> Resu
     requires spelling { OneSpelling K.reading K.printed }
     requires room { length lines.now < 18446744073709551615 }
     ensures { IfOk result
-        (λ verdict. Judges K.printed (map plain_line lines.now) claimed.now verdict) }
+        (λ verdict. Judges K.cmp K.matching K.printed decided (map plain_line lines.now) claimed.now verdict) }
 {
     let mut report = Report {
         lines: 0,
@@ -79,7 +80,7 @@ fn judge_claim<K: Key>(alloc: Global, lines: &[Line<K>], claimed: &[u8]) -> Resu
 /// line of the script isn't in the grammar, unless memory runs out. No other error comes.
 pub fn judge<K: Key>(alloc: Global, input: &[u8]) -> Result<Verdict, CheckError>
     requires spelling { OneSpelling K.reading K.printed }
-    ensures { JudgesInput K.reading K.printed input.now result }
+    ensures { JudgesInput K.cmp K.matching K.reading K.printed input.now result }
 {
     let Some((script, claimed)) = cut(input) else {
         return Err(CheckError::NoTrace);

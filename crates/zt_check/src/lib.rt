@@ -7,10 +7,12 @@
 
 mod checking;
 mod judging;
+mod laws;
 mod program;
 mod verdict;
 
 pub use checking::check;
 pub use judging::judge;
+pub use laws::{a_claim_has_one_verdict, clauses_are_the_promises};
 pub use program::check_tool;
 pub use verdict::{CheckError, Clause, Verdict, print_verdict};

@@ -14,6 +14,16 @@ pub enum Clause {
     /// The printed form: an entry for each line, with its messages in order of face, and the
     /// totals behind them.
     Text,
+    /// The line is refused exactly by its first cause.
+    Cause,
+    /// Faces outside router regions keep only visible tokens that they seek.
+    Upper,
+    /// They keep every admitted token that is owed to them.
+    Lower,
+    /// Asks are answered what they ask for, each expression once.
+    Answers,
+    /// Each ask gets its one final when it ends, and nothing behind it.
+    Finals,
 }
 
 impl Clause {
@@ -23,6 +33,11 @@ impl Clause {
     {
         match self {
             Clause::Text => "text",
+            Clause::Cause => "cause",
+            Clause::Upper => "upper",
+            Clause::Lower => "lower",
+            Clause::Answers => "answers",
+            Clause::Finals => "finals",
         }
     }
 }

@@ -2,9 +2,10 @@
 use Rattle.std.proofs.Common.{◌≡◌, ◌≢◌, ℕ, ◌<◌, ◌^◌, true, false, List, [], ◌∷◌, ◌++◌, get_or, Some, None, Result, Ok, Err, refl, sym, ap, subst, ◌∙◌, append_assoc, arith}
 use Rattle.std.proofs.lemmas.Bool.{false≢true}
 use Rattle.std.proofs.lemmas.List.{append-nil, append_cancel_left}
-use Rattle.std.specs.Prelude.{codes, decimal, IfOk, IsUtf8, Option}
+use Rattle.std.specs.Prelude.{Bool, codes, decimal, IfOk, IsUtf8, Option}
 use Rattle.std.specs.List.{AllByRecursion, flat_map, list_any}
 use Rattle.std.specs.Option.{option_map}
+use Rattle.std.specs.declared.cmp.Ordering.{Ordering}
 use Rattle.zt_protocol.specs.Plain.{PlainEntry}
 use Rattle.zt_protocol.specs.Refusal.{name_of}
 use Rattle.zt_protocol.specs.declared.entries.Sent.{Sent}
@@ -13,13 +14,17 @@ use Rattle.zt_protocol.specs.declared.errors.Refusal.TheVariants.{UnknownGateway
 use Rattle.zt_streams.specs.Lines.{HasNoFeed, is_feed}
 use Rattle.zt_fields.specs.Fields.{behind, is_byte}
 use Rattle.zt_fields.proofs.FieldLemmas.{behind_of, behind_is}
-use Rattle.zt_text.specs.Text.{entry_text, sent_text, spaced}
+use Rattle.zt_keys.specs.Key.{KeyLaws}
+use Rattle.zt_keys.specs.declared.anchor.Anchor.{Anchor}
+use Rattle.zt_keys.specs.declared.error.KeyError.{KeyError}
+use Rattle.zt_text.specs.Text.{entries_text, entry_text, sent_text, spaced}
+use Rattle.zt_text.proofs.TranscriptLaws.{fronts_apart}
 use Rattle.zt_text.proofs.Clean.{clean_decimal, clean_plain, feedless_line, first_lines, is_plain, text_of_line}
 use Rattle.zt_model.specs.Transcript.{StandInOrderOfFace}
 use Rattle.zt_check_trace.specs.Names.{FindsRefusal}
 use Rattle.zt_check_trace.specs.Parts.{FindsLine, begins_with_mark}
 use Rattle.zt_check_trace.specs.Entries.{BeginsWithEntry, BeginsWithMessages, FindsAccepted, FindsEntry, FindsHead, FindsRefused, head_text}
-use Rattle.zt_check_trace.proofs.MessageLemmas.{feedless, has_feed, named}
+use Rattle.zt_check_trace.proofs.MessageLemmas.{feedless, has_feed, named, same_messages}
 
 abbrev Head : Type 0
 Head = Result (Unit {0}) Refusal
@@ -216,3 +221,35 @@ module _ {K : Type 0} (printed : K → List ℕ) where
       → (entry : Option (PlainEntry K × List ℕ)) → FindsRefused r more entry → FindsEntry printed number text entry
   refused_entry number small text line more r found is None h = refused_none number small text line more r found is h
   refused_entry number small text line more r found is (Some e) h = refused_some number text line more r found is e.0 e.1 h.0 h.1 h.2
+
+-- ---- at most one entry stands at the front of a text
+
+module _ {K : Type 0} (cmp : K → K → Ordering) (matching : K → K → Bool) (reading : List ℕ → Result K KeyError) (printed : K → List ℕ) (anchored : Anchor → K → Option ℕ) (laws : KeyLaws cmp matching reading printed anchored) where
+  heads_apart : (r q : Refusal) (number : ℕ) → head_text number (Err r) ≡ head_text number (Err q) → r ≡ q
+  unfolding entries_text
+  heads_apart r q number h =
+      let texts : entries_text printed number (Err r ∷ []) ≡ entries_text printed number (Err q ∷ []) =
+      ap (λ (t : List ℕ). t ++ []) (lines r ∙ (ap (λ (t : List ℕ). t ++ 10 ∷ []) h ∙ sym (lines q))) in
+      let same = fronts_apart cmp matching reading printed anchored laws (Err r ∷ []) (Err q ∷ []) number (tt, tt) (tt, tt) texts in
+      cc
+    where
+      lines : (r : Refusal) → entry_text printed number (Err r) ≡ head_text number (Err r) ++ 10 ∷ []
+      lines r = sym (append_assoc (decimal number) (spaced (codes "refused" ∷ name_of r ∷ [])) (10 ∷ []))
+
+  pub one_entry : (number : ℕ) → number < 2 ^ 64 → (text : List ℕ) (e f : PlainEntry K) (more rest : List ℕ) → BeginsWithEntry printed number text e more → BeginsWithEntry printed number text f rest → (e ≡ f) × (more ≡ rest)
+  one_entry number small text e f more rest one two =
+      let lines = first_lines (head_text number (head printed e)) (head_text number (head printed f)) (body printed e ++ more) (body printed f ++ rest)
+      (head_feedless number small (head printed e)) (head_feedless number small (head printed f))
+      (sym (entry_parts printed number e more) ∙ ((sym one.stands ∙ two.stands) ∙ entry_parts printed number f rest)) in
+      by_parts e f one two lines.0 lines.1
+    where
+      by_parts : (e f : PlainEntry K) → BeginsWithEntry printed number text e more → BeginsWithEntry printed number text f rest → head_text number (head printed e) ≡ head_text number (head printed f)
+          → body printed e ++ more ≡ body printed f ++ rest → (e ≡ f) × (more ≡ rest)
+      by_parts (Ok ss) (Ok ts) one two h b =
+          let same = same_messages cmp matching reading printed anchored laws ss ts more rest one.is_printed two.is_printed one.is_all two.is_all b in (
+            ap (λ (x : List (Sent K)). Ok x) same,
+            append_cancel_left (flat_map (sent_text printed) ts) more rest (sym (ap (λ (x : List (Sent K)). flat_map (sent_text printed) x ++ more) same) ∙ b),
+          )
+      by_parts (Ok ss) (Err q) one two h b = absurd (accepted_and_refused number tt q h)
+      by_parts (Err r) (Ok ts) one two h b = absurd (accepted_and_refused number tt r (sym h))
+      by_parts (Err r) (Err q) one two h b = (ap (λ (x : Refusal). Err x) (heads_apart r q number h), b)

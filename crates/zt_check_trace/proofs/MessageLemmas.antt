@@ -199,7 +199,7 @@ module _ {K : Type 0} (cmp : K → K → Ordering) (matching : K → K → Bool)
 
   -- ---- messages in another order
 
-  same_messages : (ss ts : List (Sent K)) (more rest : List ℕ) → AllByRecursion IsSent ss → AllByRecursion IsSent ts → begins_with_mark more ≡ false → begins_with_mark rest ≡ false
+  pub same_messages : (ss ts : List (Sent K)) (more rest : List ℕ) → AllByRecursion IsSent ss → AllByRecursion IsSent ts → begins_with_mark more ≡ false → begins_with_mark rest ≡ false
       → flat_map (sent_text printed) ss ++ more ≡ flat_map (sent_text printed) ts ++ rest → ss ≡ ts
   same_messages [] [] more rest p q m r h = refl
   same_messages [] (t ∷ ts) more rest p q m r h = absurd (marked more _ m h)

@@ -9,7 +9,7 @@ loop-line-init g c = underway_first g.K.Key.printed c.args.claimed.now
 
 pub returns-in_default : goal.returns-in_default
 returns-in_default g c =
-    underway_breaks g.K.Key.printed (map plain_line c.args.lines.now) c.args.claimed.now c.loop-line.rest.now c.loop-line.report c.loop-line._line-index (c.loop-line.report.lines + 1)
+    underway_breaks g.K.Ord.cmp g.K.Key.matching g.K.Key.printed (map plain_line c.args.lines.now) c.args.claimed.now c.loop-line.rest.now c.loop-line.report c.loop-line._line-index (c.loop-line.report.lines + 1)
     c.loop-line.invariant (omega (arith, c.loop-line-test.true, length-map c.args.lines.now plain_line)) refl (rw c.in_default.is at c.in_ok-entry.ensures)
 
 pub loop-line-preserved : goal.loop-line-preserved
@@ -19,7 +19,7 @@ loop-line-preserved g c =
 
 pub returns : goal.returns
 returns g c =
-    totals_result g.K.Key.printed (map plain_line c.args.lines.now) c.args.claimed.now c.loop-line.rest.now c.loop-line.report c.loop-line._line-index c.judge_totals.result
+    totals_result g.K.Ord.cmp g.K.Key.matching g.K.Key.printed (map plain_line c.args.lines.now) c.args.claimed.now c.loop-line.rest.now c.loop-line.report c.loop-line._line-index c.judge_totals.result
     c.loop-line.invariant (omega (arith, c.loop-line-test.false, c.loop-line.auto._line-index-end, length-map c.args.lines.now plain_line)) c.judge_totals.ensures
 
 pub judge_totals-requires : goal.judge_totals-requires

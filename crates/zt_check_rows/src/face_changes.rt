@@ -1,0 +1,156 @@
+// What calls change at faces.
+use crate::changes::Change;
+use crate::face::ShownFace;
+use crate::interest::ShownInterest;
+use std::alloc::Global;
+use zt_keys::{Key, Memory};
+
+// The face has a token under an id.
+#[derive(Drop)]
+pub(crate) struct AddToken<'a, K: Key> {
+    pub(crate) face: u32,
+    pub(crate) id: u32,
+    pub(crate) expr: &'a K,
+}
+
+impl<'a, K: Key> Change<ShownFace<K>> for AddToken<'a, K> {
+    ghost use Rattle.zt_model.specs.Shown.{with_token};
+    ghost use Rattle.zt_check_rows.specs.Faces.{if_number};
+
+    ghost changed = { λ c. if_number c.face (with_token c.id c.expr.now) };
+
+    fn change(&self, alloc: Global, face: &mut ShownFace<K>) -> Result<(), Memory> {
+        if self.face == face.number() {
+            face.add_token(alloc, self.id, self.expr)?;
+        }
+        Ok(())
+    }
+}
+
+// The token of an id goes.
+#[derive(Drop)]
+pub(crate) struct DropToken {
+    pub(crate) face: u32,
+    pub(crate) id: u32,
+}
+
+impl<K: Key> Change<ShownFace<K>> for DropToken {
+    ghost use Rattle.zt_model.specs.Shown.{without_token};
+    ghost use Rattle.zt_check_rows.specs.Faces.{if_number};
+
+    ghost changed = { λ c. if_number c.face (without_token c.id) };
+
+    fn change(&self, _alloc: Global, face: &mut ShownFace<K>) -> Result<(), Memory> {
+        if self.face == face.number() {
+            face.drop_token(self.id);
+        }
+        Ok(())
+    }
+}
+
+// The face asks and holds an interest, which was sent upstream as these.
+#[derive(Drop)]
+pub(crate) struct AddInterest<'a, K: Key> {
+    pub(crate) face: u32,
+    pub(crate) id: u32,
+    pub(crate) interest: &'a ShownInterest<K>,
+    pub(crate) pendings: &'a [(u32, u32)],
+}
+
+impl<'a, K: Key> Change<ShownFace<K>> for AddInterest<'a, K> {
+    ghost use Rattle.zt_model.specs.Shown.{with_held, with_question};
+    ghost use Rattle.zt_check_rows.specs.Faces.{if_number};
+
+    ghost changed = { λ c. if_number c.face
+        (λ f. with_question c.pendings.now c.id c.interest.now
+        (with_held c.id c.interest.now f)) };
+
+    fn change(&self, alloc: Global, face: &mut ShownFace<K>) -> Result<(), Memory> {
+        if self.face == face.number() {
+            face.hold(alloc, self.id, self.interest)?;
+            face.ask(alloc, self.pendings, self.id, self.interest)?;
+        }
+        Ok(())
+    }
+}
+
+// The face holds the interest of an id no more.
+#[derive(Drop)]
+pub(crate) struct DropInterest {
+    pub(crate) face: u32,
+    pub(crate) id: u32,
+}
+
+impl<K: Key> Change<ShownFace<K>> for DropInterest {
+    ghost use Rattle.zt_model.specs.Shown.{without_held};
+    ghost use Rattle.zt_check_rows.specs.Faces.{if_number};
+
+    ghost changed = { λ c. if_number c.face (without_held c.id) };
+
+    fn change(&self, _alloc: Global, face: &mut ShownFace<K>) -> Result<(), Memory> {
+        if self.face == face.number() {
+            face.unhold(self.id);
+        }
+        Ok(())
+    }
+}
+
+// A final with the id 0 is that of the initial interest.
+#[derive(Drop)]
+pub(crate) struct EndInitial {
+    pub(crate) face: u32,
+    pub(crate) id: u32,
+}
+
+impl<K: Key> Change<ShownFace<K>> for EndInitial {
+    ghost use Rattle.zt_model.specs.Shown.{with_initial_final};
+    ghost use Rattle.zt_check_rows.specs.Faces.{if_number};
+
+    ghost changed = { λ c. if_number c.face (with_initial_final c.id) };
+
+    fn change(&self, _alloc: Global, face: &mut ShownFace<K>) -> Result<(), Memory> {
+        if self.face == face.number() {
+            face.end_initial(self.id);
+        }
+        Ok(())
+    }
+}
+
+// What was asked of the face by an id has its final.
+#[derive(Drop)]
+pub(crate) struct EndPending {
+    pub(crate) face: u32,
+    pub(crate) id: u32,
+}
+
+impl<K: Key> Change<ShownFace<K>> for EndPending {
+    ghost use Rattle.zt_model.specs.Shown.{without_pending};
+    ghost use Rattle.zt_check_rows.specs.Faces.{if_number};
+
+    ghost changed = { λ c. if_number c.face (without_pending c.id) };
+
+    fn change(&self, _alloc: Global, face: &mut ShownFace<K>) -> Result<(), Memory> {
+        if self.face == face.number() {
+            face.end_pending(self.id);
+        }
+        Ok(())
+    }
+}
+
+// The pendings of each face go that have waited for the timeout.
+#[derive(Drop)]
+pub(crate) struct ExpirePendings {
+    pub(crate) now: u64,
+    pub(crate) timeout: u64,
+}
+
+impl<K: Key> Change<ShownFace<K>> for ExpirePendings {
+    ghost use Rattle.zt_model.specs.Shown.{without_expired};
+
+    ghost changed = { λ c. without_expired c.now c.timeout };
+
+    fn change(&self, _alloc: Global, face: &mut ShownFace<K>) -> Result<(), Memory> {
+        face.expire(self.now, self.timeout);
+        Ok(())
+    }
+}

@@ -1,0 +1,24 @@
+//! The rows of one gateway that a claimed transcript shows: what its accepted calls leave, and what
+//! its printed messages change, by cases on the calls alone. What a call says isn't asked.
+//!
+//! The changes of faces are there, with opening and closing. What calls change of routers' tokens,
+//! of their tables and of entities isn't yet.
+//!
+//! It stands on the definitions, and shares no code with the gateway that it judges. Rows stand in
+//! plain lists, in the order of the definitions.
+#![tactic(auto)]
+
+mod by_id;
+mod changes;
+mod copies;
+mod face;
+mod face_changes;
+mod hearing;
+mod interest;
+mod routed;
+mod rows;
+
+pub use face::ShownFace;
+pub use interest::{ShownAsk, ShownInterest, ShownPending};
+pub use routed::{ShownRouted, ShownTable};
+pub use rows::ShownRows;
