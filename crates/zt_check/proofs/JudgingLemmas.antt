@@ -130,7 +130,7 @@ module _ {K : Type 0} (cmp : K → K → Ordering) (matching : K → K → Bool)
     is_whole = under.is_done ∙ all;
     totals = h.0 ∙ under.totals;
   }
-  underway_last lines claimed rest report done (verdict.Breaks line clause) under all h = record {
+  underway_last lines claimed rest report done (verdict.Breaks line failed) under all h = record {
     entries = under.entries;
     rest = rest;
     well = begins_well lines claimed under.entries rest under.begins;

@@ -55,10 +55,10 @@ module _ {K : Type 0} (cmp : K → K → Ordering) (matching : K → K → Bool)
 
   -- ---- clauses
 
-  fails_none : (clauses : List Clause) (t : Turn K) (clause : Clause) → FailsFirst cmp matching clauses t clause → MeetsAll cmp matching clauses t → ⊥
-  fails_none [] t clause h all = h
-  fails_none (c ∷ clauses) t clause (inl h) all = h.1 all.0
-  fails_none (c ∷ clauses) t clause (inr h) all = fails_none clauses t clause h.1 all.1
+  fails_none : (clauses : List Clause) (t : Turn K) (failed : Clause) → FailsFirst cmp matching clauses t failed → MeetsAll cmp matching clauses t → ⊥
+  fails_none [] t failed h all = h
+  fails_none (c ∷ clauses) t failed (inl h) all = h.1 all.0
+  fails_none (c ∷ clauses) t failed (inr h) all = fails_none clauses t failed h.1 all.1
 
   fails_one : (clauses : List Clause) (t : Turn K) (one other : Clause) → FailsFirst cmp matching clauses t one → FailsFirst cmp matching clauses t other → one ≡ other
   fails_one [] t one other h k = absurd h
@@ -71,12 +71,12 @@ module _ {K : Type 0} (cmp : K → K → Ordering) (matching : K → K → Bool)
 
 module _ {K : Type 0} (cmp : K → K → Ordering) (matching : K → K → Bool) (reading : List ℕ → Result K KeyError) (printed : K → List ℕ) (anchored : Anchor → K → Option ℕ) (laws : KeyLaws cmp matching reading printed anchored) (asked : List Clause) (lines : List (PlainLine K)) (claimed : List ℕ) (small : length lines < 18446744073709551615) where
   abbrev Why : List (PlainEntry K) → List ℕ → Clause → Type 0
-  Why es rest clause = ((clause ≡ Text) × BreaksForm printed lines es rest) ⊎ FailsNext cmp matching printed asked lines es rest clause
+  Why es rest failed = ((failed ≡ Text) × BreaksForm printed lines es rest) ⊎ FailsNext cmp matching printed asked lines es rest failed
 
   -- behind these entries it says this
   abbrev Stops : List (PlainEntry K) → List ℕ → Verdict → Type 0
   Stops es rest (verdict.Holds report) = (length es ≡ length lines) × (rest ≡ report_text report) × (report ≡ report_of es)
-  Stops es rest (verdict.Breaks line clause) = (line ≡ length es + 1) × Why es rest clause
+  Stops es rest (verdict.Breaks line failed) = (line ≡ length es + 1) × Why es rest failed
 
   record At (es : List (PlainEntry K)) (rest : List ℕ) (v : Verdict) : Type 0 where
     well : BeginsWell cmp matching printed asked lines claimed es rest
@@ -87,28 +87,28 @@ module _ {K : Type 0} (cmp : K → K → Ordering) (matching : K → K → Bool)
 
   at : (v : Verdict) → Judges cmp matching printed asked lines claimed v → IsAt v
   at (verdict.Holds report) h = (h.entries, report_text report, record { well = h.well; stops = (h.is_whole, refl, h.totals) })
-  at (verdict.Breaks line clause) h = (h.entries, h.rest, record { well = h.well; stops = (h.is_line, h.breaks) })
+  at (verdict.Breaks line failed) h = (h.entries, h.rest, record { well = h.well; stops = (h.is_line, h.breaks) })
 
   not_itself : {A : Type 0} (xs : List A) (x : A) → xs ++ x ∷ [] ≡ xs → ⊥
   not_itself xs x h = absurd (omega (arith, ap length h, length-append xs (x ∷ [])))
 
   -- a next turn that fails is one of a further line
-  fails_within : (es : List (PlainEntry K)) (rest : List ℕ) (clause : Clause) → FailsNext cmp matching printed asked lines es rest clause → length es < length lines
-  fails_within es rest clause h =
+  fails_within : (es : List (PlainEntry K)) (rest : List ℕ) (failed : Clause) → FailsNext cmp matching printed asked lines es rest failed → length es < length lines
+  fails_within es rest failed h =
       by_test (nat_lt (length es) (length lines))
       (λ e. grind (arith, nat_tests, e))
       (λ e.
       let past : length lines ≤ length es = grind (arith, nat_tests, e) in
       absurd (not_itself (turns_of cmp matching printed asked lines es) h.turn (sym h.is_next ∙ no_turn cmp matching lines es (h.entry ∷ []) empty_fabric past)))
 
-  why_within : (es : List (PlainEntry K)) (rest : List ℕ) (clause : Clause) → Why es rest clause → length es ≤ length lines
-  why_within es rest clause (inl (text, inl h)) = omega (arith, h.0)
-  why_within es rest clause (inl (text, inr h)) = omega (arith, h.0)
-  why_within es rest clause (inr h) = omega (arith, fails_within es rest clause h)
+  why_within : (es : List (PlainEntry K)) (rest : List ℕ) (failed : Clause) → Why es rest failed → length es ≤ length lines
+  why_within es rest failed (inl (text, inl h)) = omega (arith, h.0)
+  why_within es rest failed (inl (text, inr h)) = omega (arith, h.0)
+  why_within es rest failed (inr h) = omega (arith, fails_within es rest failed h)
 
   within : (es : List (PlainEntry K)) (rest : List ℕ) (v : Verdict) → Stops es rest v → length es ≤ length lines
   within es rest (verdict.Holds report) h = omega (arith, h.0)
-  within es rest (verdict.Breaks line clause) h = why_within es rest clause h.1
+  within es rest (verdict.Breaks line failed) h = why_within es rest failed h.1
 
   -- no verdict stops where the entries of another go on
   abbrev Beyond : List (PlainEntry K) → List ℕ → List (PlainEntry K) → Type 0
@@ -117,20 +117,20 @@ module _ {K : Type 0} (cmp : K → K → Ordering) (matching : K → K → Bool)
   longer : (es : List (PlainEntry K)) (rest : List ℕ) (fs : List (PlainEntry K)) → Beyond es rest fs → length es < length fs
   longer es rest fs on = omega (arith, ap length on.is_all, length-append es (on.entry ∷ on.more))
 
-  why_not : (es : List (PlainEntry K)) (rest : List ℕ) (fs : List (PlainEntry K)) (clause : Clause) → Beyond es rest fs → length fs ≤ length lines → Each (MeetsAll cmp matching asked) (turns_of cmp matching printed asked lines fs)
-      → Why es rest clause → ⊥
-  why_not es rest fs clause on short met (inl (text, inl h)) = h.1 on.entry on.behind (on.stands (length es + 1) (omega arith))
-  why_not es rest fs clause on short met (inl (text, inr h)) = absurd (omega (arith, h.0, longer es rest fs on, short))
-  why_not es rest fs clause on short met (inr h) =
+  why_not : (es : List (PlainEntry K)) (rest : List ℕ) (fs : List (PlainEntry K)) (failed : Clause) → Beyond es rest fs → length fs ≤ length lines → Each (MeetsAll cmp matching asked) (turns_of cmp matching printed asked lines fs)
+      → Why es rest failed → ⊥
+  why_not es rest fs failed on short met (inl (text, inl h)) = h.1 on.entry on.behind (on.stands (length es + 1) (omega arith))
+  why_not es rest fs failed on short met (inl (text, inr h)) = absurd (omega (arith, h.0, longer es rest fs on, short))
+  why_not es rest fs failed on short met (inr h) =
       let same = one_entry cmp matching reading printed anchored laws (length es + 1) (omega (arith, small, short, longer es rest fs on)) rest h.entry on.entry h.behind on.behind h.stands (on.stands (length es + 1) (omega arith)) in
       let front : fs ≡ (es ++ h.entry ∷ []) ++ on.more = on.is_all ∙ (ap (λ (x : PlainEntry K). es ++ x ∷ on.more) (sym same.0) ∙ sym (append_assoc es (h.entry ∷ []) on.more)) in
       let some = front_turns cmp matching (MeetsAll cmp matching asked) lines (es ++ h.entry ∷ []) on.more empty_fabric (subst (λ (x : List (PlainEntry K)). Each (MeetsAll cmp matching asked) (turns_of cmp matching printed asked lines x)) front met) in
-      fails_none cmp matching asked h.turn clause h.fails
+      fails_none cmp matching asked h.turn failed h.fails
       (each_last (MeetsAll cmp matching asked) (turns_of cmp matching printed asked lines es) h.turn (subst (λ (ts : List (Turn K)). Each (MeetsAll cmp matching asked) ts) h.is_next some))
 
   not_beyond : (es : List (PlainEntry K)) (rest : List ℕ) (v : Verdict) (fs : List (PlainEntry K)) (end : List ℕ) (w : Verdict) → At es rest v → At fs end w → Beyond es rest fs → ⊥
   not_beyond es rest (verdict.Holds report) fs end w one two on = absurd (omega (arith, one.stops.0, longer es rest fs on, within fs end w two.stops))
-  not_beyond es rest (verdict.Breaks line clause) fs end w one two on = why_not es rest fs clause on (within fs end w two.stops) two.well.met one.stops.1
+  not_beyond es rest (verdict.Breaks line failed) fs end w one two on = why_not es rest fs failed on (within fs end w two.stops) two.well.met one.stops.1
 
   -- behind the same entries two verdicts say the same
   why_same : (es : List (PlainEntry K)) (rest : List ℕ) (c d : Clause) → Why es rest c → Why es rest d → c ≡ d
@@ -154,8 +154,8 @@ module _ {K : Type 0} (cmp : K → K → Ordering) (matching : K → K → Bool)
 
   stops_same : (es : List (PlainEntry K)) (rest : List ℕ) (v w : Verdict) → Stops es rest v → Stops es rest w → v ≡ w
   stops_same es rest (verdict.Holds report) (verdict.Holds other) h k = ap (λ (r : Report). verdict.Holds r) (h.2 ∙ sym k.2)
-  stops_same es rest (verdict.Holds report) (verdict.Breaks line clause) h k = absurd (holds_or es rest report clause h k.1)
-  stops_same es rest (verdict.Breaks line clause) (verdict.Holds report) h k = absurd (holds_or es rest report clause k h.1)
+  stops_same es rest (verdict.Holds report) (verdict.Breaks line failed) h k = absurd (holds_or es rest report failed h k.1)
+  stops_same es rest (verdict.Breaks line failed) (verdict.Holds report) h k = absurd (holds_or es rest report failed k h.1)
   stops_same es rest (verdict.Breaks line c) (verdict.Breaks other d) h k = rw (h.0 ∙ sym k.0, why_same es rest c d h.1 k.1) refl
 
   stand : (es : List (PlainEntry K)) (rest : List ℕ) → BeginsWithEntries printed claimed es rest → Stand printed 1 claimed es rest

@@ -47,7 +47,7 @@ module _ {K : Type 0} (cmp : K → K → Ordering) (matching : K → K → Bool)
 -- the status that a program ends with after a check
 abbrev pub status_of : Result Verdict CheckError → ℕ
 status_of (Ok (Holds report)) = 0
-status_of (Ok (Breaks line clause)) = 1
+status_of (Ok (Breaks line failed)) = 1
 status_of (Err (errors.BadScript number)) = 2
 status_of (Err errors.TooLong) = 3
 status_of (Err errors.NoTrace) = 4

@@ -50,5 +50,5 @@ module _ {K : Type 0} (cmp : K → K → Ordering) (matching : K → K → Bool)
 
   -- this is the first of these clauses that a turn fails
   abbrev pub FailsFirst : List Clause → Turn K → Clause → Type 0
-  FailsFirst [] t clause = ⊥
-  FailsFirst (c ∷ clauses) t clause = ((c ≡ clause) × (Meets t c → ⊥)) ⊎ (Meets t c × FailsFirst clauses t clause)
+  FailsFirst [] t failed = ⊥
+  FailsFirst (c ∷ clauses) t failed = ((c ≡ failed) × (Meets t c → ⊥)) ⊎ (Meets t c × FailsFirst clauses t failed)

@@ -63,33 +63,33 @@ module _ {K : Type 0} (cmp : K → K → Ordering) (matching : K → K → Bool)
     pub totals : report ≡ report_of entries
 
   -- The next line's entry stands behind these, and its turn fails this clause first.
-  pub record FailsNext (lines : List (PlainLine K)) (entries : List (PlainEntry K)) (rest : List ℕ) (clause : Clause) : Type 0 where
+  pub record FailsNext (lines : List (PlainLine K)) (entries : List (PlainEntry K)) (rest : List ℕ) (failed : Clause) : Type 0 where
     pub entry : PlainEntry K
     pub behind : List ℕ
     pub stands : BeginsWithEntry printed (length entries + 1) rest entry behind
     pub turn : Turn K
     pub is_next : turns_of lines (entries ++ entry ∷ []) ≡ turns_of lines entries ++ turn ∷ []
-    pub fails : FailsFirst cmp matching asked turn clause
+    pub fails : FailsFirst cmp matching asked turn failed
 
   -- This line is the first at which a clause fails, and there this clause is the first. Text fails where the entry isn't
   -- in the printed form, and where the totals are wrong or missing, or more follows them: then the line is one more than
   -- the last.
-  pub record Breaks (lines : List (PlainLine K)) (claimed : List ℕ) (line : ℕ) (clause : Clause) : Type 0 where
+  pub record Breaks (lines : List (PlainLine K)) (claimed : List ℕ) (line : ℕ) (failed : Clause) : Type 0 where
     pub entries : List (PlainEntry K)
     pub rest : List ℕ
     pub well : BeginsWell lines claimed entries rest
-    pub breaks : ((clause ≡ Text) × BreaksForm printed lines entries rest) ⊎ FailsNext lines entries rest clause
+    pub breaks : ((failed ≡ Text) × BreaksForm printed lines entries rest) ⊎ FailsNext lines entries rest failed
     pub is_line : line ≡ length entries + 1
 
   -- what a verdict says of the text that is claimed for these lines
   abbrev pub Judges : List (PlainLine K) → List ℕ → Verdict → Type 0
   Judges lines claimed (Holds report) = IsRight lines claimed report
-  Judges lines claimed (verdict.Breaks line clause) = Breaks lines claimed line clause
+  Judges lines claimed (verdict.Breaks line failed) = Breaks lines claimed line failed
 
 -- what is said where all entries were read, by their totals
 abbrev pub JudgesTotals : Report → List ℕ → Verdict → Type 0
 JudgesTotals report rest (Holds totals) = (totals ≡ report) × (rest ≡ report_text report)
-JudgesTotals report rest (verdict.Breaks line clause) = (line ≡ report.lines + 1) × (clause ≡ Text) × (rest ≢ report_text report)
+JudgesTotals report rest (verdict.Breaks line failed) = (line ≡ report.lines + 1) × (failed ≡ Text) × (rest ≢ report_text report)
 
 module _ {K : Type 0} (cmp : K → K → Ordering) (matching : K → K → Bool) (reading : List ℕ → Result K KeyError) (printed : K → List ℕ) where
   -- The input is a script of at most 2^20 bytes, each line of which is one of the grammar, a line `---` and a claimed

@@ -16,4 +16,4 @@ clause_name Finals = codes "finals"
 
 abbrev pub verdict_text : Verdict → List ℕ
 verdict_text (Holds report) = line_of (codes "holds") (decimal report.lines ∷ decimal report.messages ∷ decimal report.refusals ∷ [])
-verdict_text (Breaks line clause) = line_of (codes "breaks") (decimal line ∷ clause_name clause ∷ [])
+verdict_text (Breaks line failed) = line_of (codes "breaks") (decimal line ∷ clause_name failed ∷ [])
