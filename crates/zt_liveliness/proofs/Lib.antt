@@ -1,0 +1,6 @@
+mod AtOnce
+mod Given
+mod Gone
+mod Opened
+mod Sent
+mod Walks

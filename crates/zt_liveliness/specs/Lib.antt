@@ -1,0 +1,4 @@
+pub mod Books
+pub mod Queues
+pub mod Lively
+pub mod Replies

@@ -1,0 +1,353 @@
+// A gateway with its sessions and uplinks, and the calls on them.
+ghost use Rattle.std.specs.Prelude.{◌≡◌, ◌+◌, [], None, IfErr, IfOk, OnErr, OnOk, false};
+ghost use Rattle.zt_liveliness.specs.Lively.{Close, DeclareToken, Expire, Get, IsErrorOf};
+ghost use Rattle.zt_liveliness.specs.Lively.{OpenSession, OpenUplink, Receive, TakeReply, TakeSent};
+ghost use Rattle.zt_liveliness.specs.Lively.{UndeclareToken, begun, done_by, error_in, has_token};
+ghost use Rattle.zt_liveliness.specs.Lively.{interests_made, left_after, reply_of, sent_of};
+ghost use Rattle.zt_liveliness.specs.Lively.{tokens_made};
+
+use crate::answers::{Reply, Token};
+use crate::books::{
+    Query, Session, count_interest, count_token, drop_queries, drop_session, drop_uplink,
+    end_query, find_session, has_query, has_uplink, push_within,
+};
+use crate::carrying::{call_named, carry};
+use crate::errors::{ApiError, UndeclareError, api_error, token_error};
+use crate::queues::{take_answer, take_oldest};
+use std::alloc::Global;
+use std::marker::Model;
+use zt_gateway::Gateway;
+use zt_keys::Key;
+use zt_protocol::{Call, InterestMode, InterestOptions, Message};
+use zt_region::{Bound, Region, WhatAmI, Zid};
+
+/// A gateway with its sessions and uplinks. Sessions and uplinks are named by the numbers of their
+/// faces, from 1 in order of making; a number isn't used again.
+#[derive(Drop)]
+pub struct Liveliness<K: Key> {
+    alloc: Global,
+    gateway: Gateway<K>,
+    // Each with the number of its face, the oldest first.
+    waiting: Vec<(u32, Message<K>)>,
+    sessions: Vec<Session>,
+    uplinks: Vec<u32>,
+    queries: Vec<Query>,
+}
+
+impl<K: Key> Model for Liveliness<K> {
+    ghost use Rattle.zt_liveliness.specs.Lively.{Lively};
+
+    ghost Value = { Lively K };
+
+    ghost view = { λ l. record {
+      rows = l.gateway.rows;
+      waiting = l.waiting.items;
+      sessions = l.sessions.items;
+      uplinks = l.uplinks.items;
+      queries = l.queries.items;
+    } };
+}
+
+impl<K: Key> Liveliness<K> {
+    /// Sessions and uplinks over a gateway that has no open face. Messages that wait there are for
+    /// faces that are closed, and go.
+    pub fn new(alloc: Global, gateway: Gateway<K>) -> Self
+        requires { gateway.rows.faces ≡ [] }
+        ensures { result ≡ begun gateway.rows }
+    {
+        let mut gateway = gateway;
+        gateway.clear_outbox();
+        Liveliness {
+            alloc,
+            gateway,
+            waiting: Vec::new(alloc),
+            sessions: Vec::new(alloc),
+            uplinks: Vec::new(alloc),
+            queries: Vec::new(alloc),
+        }
+    }
+
+    /// Opens a session, and answers its number: in Zenoh a session of the application. Refused
+    /// where all numbers are given out.
+    pub fn session(&mut self) -> Result<u32, ApiError>
+        ensures refused { IfErr result
+            (IsErrorOf (error_in K.cmp K.matching OpenSession self.old)) }
+        ensures accepted { OnOk result (error_in K.cmp K.matching OpenSession self.old ≡ None) }
+        ensures done { OnOk result
+            (self.new ≡ done_by K.cmp K.matching OpenSession self.old) }
+        ensures made { IfOk result (λ number. number ≡ self.old.rows.made + 1) }
+        ensures err { OnErr result (self.new ≡ self.old) }
+    {
+        let Ok(()) = self.sessions.reserve(1) else {
+            return Err(ApiError::Memory);
+        };
+        let call = Call::NewSession { first: 1 };
+        match carry(self.alloc, &mut self.gateway, &mut self.waiting, &call) {
+            Ok(Some(number)) => {
+                let session = Session {
+                    number,
+                    tokens: 0,
+                    interests: 0,
+                };
+                push_within(&mut self.sessions, session);
+                Ok(number)
+            }
+            Ok(None) => unreachable!(),
+            Err(error) => Err(api_error(error)),
+        }
+    }
+
+    /// Opens an uplink, a face to a gateway above, and answers its number. `remote_bound` is the
+    /// bound of the region in which that gateway has this one. Refused are a remote that doesn't
+    /// fit, a second uplink of a client gateway, and one for which there are too few ids or no
+    /// number.
+    pub fn uplink(
+        &mut self,
+        zid: Zid,
+        whatami: WhatAmI,
+        remote_bound: Bound,
+    ) -> Result<u32, ApiError>
+        ensures refused { IfErr result
+            (IsErrorOf (error_in K.cmp K.matching (OpenUplink zid whatami remote_bound) self.old)) }
+        ensures accepted { OnOk result
+            (error_in K.cmp K.matching (OpenUplink zid whatami remote_bound) self.old ≡ None) }
+        ensures done { OnOk result (self.new
+            ≡ done_by K.cmp K.matching (OpenUplink zid whatami remote_bound) self.old) }
+        ensures made { IfOk result (λ number. number ≡ self.old.rows.made + 1) }
+        ensures err { OnErr result (self.new ≡ self.old) }
+    {
+        let Ok(()) = self.uplinks.reserve(1) else {
+            return Err(ApiError::Memory);
+        };
+        let call = Call::NewTransport {
+            zid,
+            whatami,
+            region: Region::North,
+            remote_bound,
+            first: 1,
+        };
+        match carry(self.alloc, &mut self.gateway, &mut self.waiting, &call) {
+            Ok(Some(number)) => {
+                push_within(&mut self.uplinks, number);
+                Ok(number)
+            }
+            Ok(None) => unreachable!(),
+            Err(error) => Err(api_error(error)),
+        }
+    }
+
+    /// Declares a token of the session, under a new id: Zenoh's `liveliness().declare_token`. The
+    /// errors are a number that is no open session's, no id that is left, and the gateway's
+    /// refusal.
+    pub fn declare_token(&mut self, session: u32, key: &K) -> Result<Token, ApiError>
+        ensures refused { IfErr result
+            (IsErrorOf (error_in K.cmp K.matching (DeclareToken session key.now) self.old)) }
+        ensures accepted { OnOk result
+            (error_in K.cmp K.matching (DeclareToken session key.now) self.old ≡ None) }
+        ensures done { OnOk result
+            (self.new ≡ done_by K.cmp K.matching (DeclareToken session key.now) self.old) }
+        ensures token { IfOk result
+            (λ token. token ≡ record { session = session; id = tokens_made session self.old + 1 }) }
+        ensures err { OnErr result (self.new ≡ self.old) }
+    {
+        let Some(found) = find_session(self.sessions.as_slice(), session) else {
+            return Err(ApiError::NoSuchFace);
+        };
+        if found.tokens == u32::MAX {
+            return Err(ApiError::Spent);
+        }
+        let id = found.tokens + 1;
+        let Ok(expr) = key.copy(self.alloc) else {
+            return Err(ApiError::Memory);
+        };
+        let call = Call::DeclareToken {
+            face: session,
+            id,
+            expr,
+            node_id: 0,
+            interest_id: None,
+        };
+        match carry(self.alloc, &mut self.gateway, &mut self.waiting, &call) {
+            Ok(_) => {
+                count_token(&mut self.sessions, session);
+                Ok(Token { session, id })
+            }
+            Err(error) => Err(api_error(error)),
+        }
+    }
+
+    /// The token is gone: Zenoh's `undeclare` of a token. The error NoSuchToken comes where its
+    /// session is closed or its id isn't live there, and gives the token back.
+    pub fn undeclare_token(&mut self, token: Token) -> Result<(), UndeclareError>
+        ensures refused { IfErr result (λ error. IsErrorOf
+            (error_in K.cmp K.matching (UndeclareToken token.session token.id) self.old)
+            error.error) }
+        ensures token { IfErr result (λ error. error.token ≡ token) }
+        ensures accepted { OnOk result
+            (error_in K.cmp K.matching (UndeclareToken token.session token.id) self.old ≡ None) }
+        ensures done { OnOk result (self.new
+            ≡ done_by K.cmp K.matching (UndeclareToken token.session token.id) self.old) }
+        ensures gone { OnOk result (has_token token.session token.id self.new ≡ false) }
+        ensures err { OnErr result (self.new ≡ self.old) }
+    {
+        if find_session(self.sessions.as_slice(), token.session).is_none() {
+            let error = ApiError::NoSuchToken;
+            return Err(UndeclareError { token, error });
+        }
+        let call = Call::UndeclareToken {
+            face: token.session,
+            id: token.id,
+            expr: None,
+            node_id: 0,
+        };
+        match carry(self.alloc, &mut self.gateway, &mut self.waiting, &call) {
+            Ok(_) => Ok(()),
+            Err(error) => Err(UndeclareError {
+                token,
+                error: token_error(error),
+            }),
+        }
+    }
+
+    /// Asks which tokens are there that match the expression, and answers the id of the query:
+    /// Zenoh's `liveliness().get`. The errors are a number that is no open session's, no id that is
+    /// left, and the gateway's refusal.
+    pub fn get(&mut self, session: u32, expr: &K) -> Result<u32, ApiError>
+        ensures refused { IfErr result
+            (IsErrorOf (error_in K.cmp K.matching (Get session expr.now) self.old)) }
+        ensures accepted { OnOk result
+            (error_in K.cmp K.matching (Get session expr.now) self.old ≡ None) }
+        ensures done { OnOk result
+            (self.new ≡ done_by K.cmp K.matching (Get session expr.now) self.old) }
+        ensures id { IfOk result (λ id. id ≡ interests_made session self.old + 1) }
+        ensures err { OnErr result (self.new ≡ self.old) }
+    {
+        let Some(found) = find_session(self.sessions.as_slice(), session) else {
+            return Err(ApiError::NoSuchFace);
+        };
+        if found.interests == u32::MAX {
+            return Err(ApiError::Spent);
+        }
+        let id = found.interests + 1;
+        let Ok(()) = self.queries.reserve(1) else {
+            return Err(ApiError::Memory);
+        };
+        let Ok(expr) = expr.copy(self.alloc) else {
+            return Err(ApiError::Memory);
+        };
+        let call = Call::Interest {
+            face: session,
+            id,
+            mode: InterestMode::Current,
+            options: InterestOptions::TOKENS,
+            expr: Some(expr),
+        };
+        match carry(self.alloc, &mut self.gateway, &mut self.waiting, &call) {
+            Ok(_) => {
+                count_interest(&mut self.sessions, session);
+                push_within(&mut self.queries, Query { session, id });
+                Ok(id)
+            }
+            Err(error) => Err(api_error(error)),
+        }
+    }
+
+    /// The next reply of a query, the oldest first, and then its end. This takes no memory.
+    pub fn reply(&mut self, session: u32, get: u32) -> Reply<K>
+        ensures answer { result ≡ reply_of session get self.old }
+        ensures left { self.new
+            ≡ left_after K.cmp K.matching (TakeReply session get) self.old }
+    {
+        if !has_query(self.queries.as_slice(), session, get) {
+            return Reply::NoSuchGet;
+        }
+        match take_answer(&mut self.waiting, session, get) {
+            None => Reply::NotYet,
+            Some(Some(expr)) => Reply::Live(expr),
+            Some(None) => {
+                end_query(&mut self.queries, session, get);
+                Reply::Done
+            }
+        }
+    }
+
+    /// Takes a message that the gateway above the uplink sent, as the call that it names; a
+    /// declaration of a subscriber or of a queryable does nothing. The errors are a number that is
+    /// no open uplink's, and the gateway's refusal of that call.
+    pub fn receive(&mut self, uplink: u32, message: &Message<K>) -> Result<(), ApiError>
+        ensures refused { IfErr result
+            (IsErrorOf (error_in K.cmp K.matching (Receive uplink message.now) self.old)) }
+        ensures accepted { OnOk result
+            (error_in K.cmp K.matching (Receive uplink message.now) self.old ≡ None) }
+        ensures done { OnOk result
+            (self.new ≡ done_by K.cmp K.matching (Receive uplink message.now) self.old) }
+        ensures err { OnErr result (self.new ≡ self.old) }
+    {
+        if !has_uplink(self.uplinks.as_slice(), uplink) {
+            return Err(ApiError::NoSuchFace);
+        }
+        match call_named(self.alloc, uplink, message) {
+            Err(_) => Err(ApiError::Memory),
+            Ok(None) => Ok(()),
+            Ok(Some(call)) => {
+                match carry(self.alloc, &mut self.gateway, &mut self.waiting, &call) {
+                    Ok(_) => Ok(()),
+                    Err(error) => Err(api_error(error)),
+                }
+            }
+        }
+    }
+
+    /// Takes the oldest message for the gateway above the uplink. None exactly where there is none,
+    /// or where the number is no open uplink's. This takes no memory.
+    pub fn send(&mut self, uplink: u32) -> Option<Message<K>>
+        ensures message { result ≡ sent_of uplink self.old }
+        ensures left { self.new ≡ left_after K.cmp K.matching (TakeSent uplink) self.old }
+    {
+        if !has_uplink(self.uplinks.as_slice(), uplink) {
+            return None;
+        }
+        take_oldest(&mut self.waiting, uplink)
+    }
+
+    /// Closes a session or an uplink: all that it declared and asked for is gone, and what waits for
+    /// it. The error NoSuchFace comes where the number is that of neither.
+    pub fn close(&mut self, face: u32) -> Result<(), ApiError>
+        ensures refused { IfErr result
+            (IsErrorOf (error_in K.cmp K.matching (Close face) self.old)) }
+        ensures accepted { OnOk result (error_in K.cmp K.matching (Close face) self.old ≡ None) }
+        ensures done { OnOk result (self.new ≡ done_by K.cmp K.matching (Close face) self.old) }
+        ensures err { OnErr result (self.new ≡ self.old) }
+    {
+        let is_session = find_session(self.sessions.as_slice(), face).is_some();
+        if !is_session && !has_uplink(self.uplinks.as_slice(), face) {
+            return Err(ApiError::NoSuchFace);
+        }
+        let call = Call::CloseFace { face };
+        match carry(self.alloc, &mut self.gateway, &mut self.waiting, &call) {
+            Ok(_) => {
+                drop_session(&mut self.sessions, face);
+                drop_uplink(&mut self.uplinks, face);
+                drop_queries(&mut self.queries, face);
+                Ok(())
+            }
+            Err(error) => Err(api_error(error)),
+        }
+    }
+
+    /// Sets the gateway's moment, and ends what has waited for the timeout. Refused is a moment
+    /// before the last one.
+    pub fn expire(&mut self, now: u64) -> Result<(), ApiError>
+        ensures refused { IfErr result
+            (IsErrorOf (error_in K.cmp K.matching (Expire now) self.old)) }
+        ensures accepted { OnOk result (error_in K.cmp K.matching (Expire now) self.old ≡ None) }
+        ensures done { OnOk result (self.new ≡ done_by K.cmp K.matching (Expire now) self.old) }
+        ensures err { OnErr result (self.new ≡ self.old) }
+    {
+        let call = Call::Expire { now };
+        match carry(self.alloc, &mut self.gateway, &mut self.waiting, &call) {
+            Ok(_) => Ok(()),
+            Err(error) => Err(api_error(error)),
+        }
+    }
+}
