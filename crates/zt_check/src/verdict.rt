@@ -45,7 +45,7 @@ impl Clause {
 /// What a judge says of a claimed transcript.
 #[derive(Clone, Copy, PartialEq, Eq, Debug)]
 pub enum Verdict {
-    /// No clause fails, and these are the totals.
+    /// No clause that is decided fails, and these are the totals.
     Holds(Report),
     /// A clause fails, at this line first.
     Breaks {

@@ -1,10 +1,12 @@
 // What calls answer.
 
-/// A token that a session declared. Letting it go doesn't undeclare it, as in Zenoh it does: the
-/// token is alive until `undeclare_token`, or until its session is closed.
+/// A token that a session declared. Letting it go doesn't undeclare it, unlike in Zenoh: the token
+/// is alive until `undeclare_token`, or until its session is closed.
 #[derive(Clone, Copy, PartialEq, Eq, Debug)]
 pub struct Token {
+    /// The number of the session.
     pub session: u32,
+    /// The id under which the session declared it.
     pub id: u32,
 }
 

@@ -6,7 +6,7 @@ use crate::answers::Token;
 use zt_protocol::{CallError, Refusal};
 
 /// Why a call on sessions and uplinks failed, and changed nothing. The first that applies is the
-/// answer; want of memory can come in place of one that the gateway would have found.
+/// answer; want of memory can come in place of any of them.
 #[derive(Clone, Copy, PartialEq, Eq, Debug)]
 pub enum ApiError {
     /// The number isn't that of an open face of the kind that the call takes.
@@ -24,7 +24,9 @@ pub enum ApiError {
 /// Why a token wasn't undeclared, with the token.
 #[derive(Clone, Copy, PartialEq, Eq, Debug)]
 pub struct UndeclareError {
+    /// The token, given back.
     pub token: Token,
+    /// Why it stays.
     pub error: ApiError,
 }
 

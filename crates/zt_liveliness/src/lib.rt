@@ -9,7 +9,8 @@
 //! query's own call.
 //!
 //! Subscribers aren't there yet: `declare_subscriber`, `sample` and `undeclare_subscriber` of
-//! Zenoh's interface have no counterpart here.
+//! Zenoh's interface have no counterpart here. Uplinks serve gateways of the modes client and peer:
+//! among routers tokens go along trees, and no call here hands in their tables.
 #![tactic(auto)]
 
 mod answers;

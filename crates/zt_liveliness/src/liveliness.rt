@@ -210,8 +210,8 @@ impl<K: Key> Liveliness<K> {
     }
 
     /// Asks which tokens are there that match the expression, and answers the id of the query:
-    /// Zenoh's `liveliness().get`. The errors are a number that is no open session's, no id that is
-    /// left, and the gateway's refusal.
+    /// Zenoh's `liveliness().get`. The id is what `reply` is asked with. The errors are a number that
+    /// is no open session's, no id that is left, and the gateway's refusal.
     pub fn get(&mut self, session: u32, expr: &K) -> Result<u32, ApiError>
         ensures refused { IfErr result
             (IsErrorOf (error_in K.cmp K.matching (Get session expr.now) self.old)) }
@@ -335,8 +335,8 @@ impl<K: Key> Liveliness<K> {
         }
     }
 
-    /// Sets the gateway's moment, and ends what has waited for the timeout. Refused is a moment
-    /// before the last one.
+    /// Sets the gateway's moment, in the unit of its timeout, and ends what has waited for the
+    /// timeout. Refused is a moment before the last one.
     pub fn expire(&mut self, now: u64) -> Result<(), ApiError>
         ensures refused { IfErr result
             (IsErrorOf (error_in K.cmp K.matching (Expire now) self.old)) }

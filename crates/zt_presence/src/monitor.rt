@@ -15,7 +15,7 @@ use zt_keys::{Key, Memory};
 use zt_protocol::{Call, InterestMode, InterestOptions, Refusal, Sent, copy_expression};
 use zt_shared::{JournalEntry, Pass, Receipt, SharedGateway};
 
-/// Why a monitor wasn't opened, or a poll found nothing. The table is as before.
+/// Why a monitor wasn't opened, or a poll failed. The table is as before.
 #[derive(Clone, Copy, PartialEq, Eq, Debug)]
 pub enum PresenceError {
     /// The call that was made is refused. Its entry stands at the place.
@@ -87,7 +87,8 @@ fn read_sent<R: Wait, K: Key>(
 impl<K: Key> Monitor<K> {
     /// Opens a session for a monitor of the tokens that match the expression, or without one of
     /// all. The pass is one of the gateway, and makes one entry, which the monitor's face comes
-    /// from, but none where memory runs out.
+    /// from, but none where memory runs out. `Refused` comes where the gateway has given out all
+    /// numbers of faces; `PollsSpent` never does. It waits while others hold the gateway.
     pub fn open<R: Wait>(
         rt: &R,
         alloc: Global,
@@ -203,8 +204,10 @@ impl<K: Key> Monitor<K> {
     /// that this monitor made. What is found holds where the poll's entry stands in the journal,
     /// which is behind all that the pass had seen; the change says how it differs from the table
     /// before. `PollsSpent` comes exactly where 4294967295 polls were made, and makes no entry.
-    /// After an error the table is as before; after want of memory the poll's number is used where
-    /// its entry was made.
+    /// `Refused` comes where the gateway refuses the ask, as where another caller closed the
+    /// monitor's face or took the poll's number there, or where no id is left upstream. After an
+    /// error the table is as before; after want of memory the poll's number is used where its entry
+    /// was made. It waits while others hold the gateway.
     pub fn poll<R: Wait>(
         &mut self,
         rt: &R,
