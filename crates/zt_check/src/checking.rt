@@ -24,7 +24,8 @@ pub fn check<K: Key, S: Source, T: Sink>(
     sink: &mut T,
 ) -> Result<Verdict, CheckError>
     requires spelling { OneSpelling K.reading K.printed }
-    ensures answers { Answers K.cmp K.matching K.reading K.printed (S.left source.old) (S.left source.new)
+    ensures answers { Answers K.cmp K.matching K.reading K.printed
+        (S.left source.old) (S.left source.new)
         (T.written sink.old) (T.written sink.new) result }
     ensures unwritten { IfErr result
         (λ error. (error ≡ CheckError.WriteFault → ⊥) → sink.new ≡ sink.old) }

@@ -50,7 +50,8 @@ fn judge_claim<K: Key>(alloc: Global, lines: &[Line<K>], claimed: &[u8]) -> Resu
     requires spelling { OneSpelling K.reading K.printed }
     requires room { length lines.now < 18446744073709551615 }
     ensures { IfOk result
-        (λ verdict. Judges K.cmp K.matching K.printed decided (map plain_line lines.now) claimed.now verdict) }
+        (λ verdict. Judges K.cmp K.matching K.printed decided
+        (map plain_line lines.now) claimed.now verdict) }
 {
     let mut report = Report {
         lines: 0,

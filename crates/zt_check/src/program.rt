@@ -27,7 +27,8 @@ pub fn check_tool<S: Source, T: Sink>(
 ) -> u8
     ensures checks { words.now ≡ [] → (answer : Result Verdict CheckError)
         × (result ≡ status_of answer)
-        × Answers ⟦<KeyExpr as Ord>⟧.cmp ⟦<KeyExpr as Key>⟧.matching ⟦<KeyExpr as Key>⟧.reading ⟦<KeyExpr as Key>⟧.printed
+        × Answers ⟦<KeyExpr as Ord>⟧.cmp ⟦<KeyExpr as Key>⟧.matching
+        ⟦<KeyExpr as Key>⟧.reading ⟦<KeyExpr as Key>⟧.printed
         (S.left source.old) (S.left source.new) (T.written sink.old) (T.written sink.new) answer }
     ensures read_fault { result ≡ 5 → HasRisen (S.faults source.old) (S.faults source.new) }
     ensures write_fault { result ≡ 6 → HasRisen (T.faults sink.old) (T.faults sink.new) }

@@ -5,7 +5,6 @@ ghost use Rattle.zt_model.specs.Shown.{without_expired, without_held, without_pe
 ghost use Rattle.zt_model.specs.Shown.{without_token};
 
 use crate::by_id::{put, remove};
-use crate::copies::{copy_keys, copy_queryables};
 use crate::interest::{ShownAsk, ShownInterest, ShownPending};
 use std::alloc::Global;
 use std::marker::Model;
@@ -227,20 +226,5 @@ impl<K: Key> ShownFace<K> {
         ensures { self.new ≡ without_expired now timeout self.old }
     {
         drop_expired(&mut self.pendings, now, timeout);
-    }
-
-    /// The face's subscribers and queryables are replaced. The only error is want of memory.
-    pub(crate) fn set_entities(
-        &mut self,
-        alloc: Global,
-        subscribers: &[K],
-        queryables: &[(K, QueryableInfo)],
-    ) -> Result<(), Memory>
-        ensures { OnOk result (self.new
-            ≡ record self.old { subscribers = subscribers.now; queryables = queryables.now }) }
-    {
-        self.subscribers = copy_keys(alloc, subscribers)?;
-        self.queryables = copy_queryables(alloc, queryables)?;
-        Ok(())
     }
 }

@@ -6,9 +6,9 @@ ghost use Rattle.zt_model.specs.Hearing.{asks_answered, heard, next_after, put_i
 ghost use Rattle.zt_model.specs.Hearing.{untold};
 ghost use Rattle.zt_model.specs.Lists.{same, without_id};
 
+use crate::among::is_among;
 use crate::by_id::{put, remove};
 use crate::changes::{Change, change_each};
-use crate::copies::is_among;
 use crate::face::ShownFace;
 use crate::interest::{ShownAsk, ShownInterest, ShownPending};
 use std::alloc::Global;

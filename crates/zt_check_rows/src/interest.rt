@@ -1,14 +1,10 @@
 // Interests, and what of them isn't finished.
 ghost use Rattle.std.specs.Prelude.{◌≡◌, [], IfOk};
-ghost use Rattle.zt_model.specs.Shown.{options_that_count};
-ghost use Rattle.zt_protocol.specs.Interest.{without_aggregate};
 
-use bitflags::Flags;
 use std::alloc::Global;
 use std::marker::Model;
 use zt_keys::{Key, Memory};
 use zt_protocol::{InterestMode, InterestOptions, copy_expression};
-use zt_region::WhatAmI;
 
 /// An interest, as a face holds it or as it was sent upstream.
 #[derive(Drop)]
@@ -68,24 +64,6 @@ impl<K: Key> ShownInterest<K> {
             options: self.options,
             expr: copy_expression(&self.expr, alloc)?,
         })
-    }
-}
-
-// The options but AGGREGATE.
-fn without_aggregate(options: InterestOptions) -> InterestOptions
-    ensures { result ≡ without_aggregate options }
-{
-    InterestOptions::from_bits_retain(options.bits() & 239)
-}
-
-/// The options that count of an interest of a face whose remote has this mode.
-pub fn options_that_count(mode: WhatAmI, options: InterestOptions) -> InterestOptions
-    ensures { result ≡ options_that_count mode options }
-{
-    if mode == WhatAmI::Peer || options.contains(InterestOptions::TOKENS) {
-        without_aggregate(options)
-    } else {
-        options
     }
 }
 

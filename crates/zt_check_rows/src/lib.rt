@@ -10,9 +10,9 @@
 //! plain lists, in the order of the definitions.
 #![tactic(auto)]
 
+mod among;
 mod by_id;
 mod changes;
-mod copies;
 mod face;
 mod face_changes;
 mod hearing;

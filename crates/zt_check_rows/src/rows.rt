@@ -10,8 +10,8 @@ ghost use Rattle.zt_model.specs.Shown.{with_new_session, with_new_transport, wit
 ghost use Rattle.zt_model.specs.Shown.{without_closed, without_expired, without_held};
 ghost use Rattle.zt_model.specs.Shown.{without_pending, without_token};
 
+use crate::among::is_among;
 use crate::changes::{Change, change_each};
-use crate::copies::is_among;
 use crate::face::ShownFace;
 use crate::face_changes::{
     AddInterest, AddToken, DropInterest, DropToken, EndInitial, EndPending, ExpirePendings,
