@@ -124,7 +124,7 @@ impl<J: Recorder> SharedRecorder<J> {
                 })
             }
             None => {
-                let SharedRecorder { table } = self;
+                let SharedRecorder { table, turn: _ } = self;
                 let seat = joined(&table.shared, passes);
                 Ok(taken_out(table, seat))
             }

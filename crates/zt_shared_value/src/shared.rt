@@ -13,16 +13,21 @@ use atomic_table::{Refused, Table};
 use std::alloc::{AllocError, Global};
 use std::marker::Model;
 use std::snapshot::Snapshot;
-use std::sync::Wait;
+use std::sync::{Mutex, Wait};
 
 /// 4294967295 numbers were drawn: no pass can be made.
 #[derive(Clone, Copy, PartialEq, Eq, Debug)]
 pub struct Spent;
 
 /// A value behind a lock, that passes call. Contracts see the table that it stands in.
+///
+/// The lock is a word of the table, of which the proofs know who holds it. A thread that waits for
+/// it would try again and again. So threads wait for `turn` first, where they sleep, and the thread
+/// that has it finds the table's lock free. No proof rests on `turn`.
 #[derive(Drop)]
 pub struct SharedRecorder<J: Recorder> {
     pub(crate) table: Table<J, View<J>, Snapshot<J>, Passing<J>, Global>,
+    pub(crate) turn: Mutex<()>,
 }
 
 impl<J: Recorder> Model for SharedRecorder<J> {
@@ -49,7 +54,10 @@ impl<J: Recorder> SharedRecorder<J> {
         let mut slots = Vec::new(alloc);
         slots.push(value)?;
         match Table::new(alloc, &[0, 1, 0], slots, &opening) {
-            Ok((table, seat)) => Ok((SharedRecorder { table }, Pass::first(seat))),
+            Ok((table, seat)) => {
+                let turn = Mutex::new(());
+                Ok((SharedRecorder { table, turn }, Pass::first(seat)))
+            }
             Err(Refused { slots: _ }) => Err(AllocError),
         }
     }
@@ -65,10 +73,8 @@ impl<J: Recorder> SharedRecorder<J> {
         length
     }
 
-    /// Waits for the lock and makes the call. The receipt tells of the entry that was added, whose
-    /// place is at least what the pass had seen. The only error is want of memory: then nothing was
-    /// added, and the call is dropped. Either way the pass then has the journal.
-    pub fn call<R: Wait>(
+    // Makes the call, by a thread whose turn it is.
+    fn call_in_turn<R: Wait>(
         &self,
         rt: &R,
         pass: &mut Pass<J>,
@@ -96,6 +102,31 @@ impl<J: Recorder> SharedRecorder<J> {
         }
     }
 
+    /// Waits for the lock and makes the call. The receipt tells of the entry that was added, whose
+    /// place is at least what the pass had seen. The only error is want of memory: then nothing was
+    /// added, and the call is dropped. Either way the pass then has the journal.
+    pub fn call<R: Wait>(
+        &self,
+        rt: &R,
+        pass: &mut Pass<J>,
+        call: J::Call,
+    ) -> Result<J::Receipt, AllocError>
+        requires own { pass.old.table ≡ self.now }
+        requires valid { J.is_valid call }
+        ensures ok { IfOk result (λ receipt. (place : ℕ) × (entry : J.Entered)
+            × Adds J.journal J.author pass.old pass.new place entry
+            × (J.author entry ≡ pass.old.number) × J.is_entry_of call entry
+            × J.tells place entry receipt
+            × J.is_replay (J.state pass.new.opening) (J.journal pass.new.found)) }
+        ensures err { IfErr result (λ _. Finds J.journal J.author pass.old pass.new.found
+            × (pass.new ≡ record pass.old { found = pass.new.found })) }
+        ensures replay { IfErr result (λ _.
+            J.is_replay (J.state pass.new.opening) (J.journal pass.new.found)) }
+    {
+        let _turn = self.turn.lock(rt);
+        self.call_in_turn(rt, pass, call)
+    }
+
     /// Waits for the lock and copies the entry at the place, or answers `None` where the journal is
     /// no longer. The pass has then seen the journal. The only error is want of memory.
     pub fn read_entry<R: Wait>(
@@ -114,6 +145,7 @@ impl<J: Recorder> SharedRecorder<J> {
         ensures replay { J.is_replay (J.state pass.new.opening) (J.journal pass.new.found) }
     {
         let shared = &self.table.shared;
+        let _turn = self.turn.lock(rt);
         let (length, entry) = steps::read(rt, shared, &mut pass.seat, alloc, place);
         pass.seen = length;
         entry

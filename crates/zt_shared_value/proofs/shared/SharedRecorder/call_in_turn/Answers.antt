@@ -2,7 +2,7 @@ use Rattle.std.proofs.Common.{rules, ◌≡◌, ℕ, ◌+◌, refl, sym, ap, ◌
 use Rattle.zt_shared_value.specs.Plays.{part_left}
 use Rattle.zt_shared_value.specs.Passes.{Standing, standing, Adds, Finds}
 use Rattle.zt_shared_value.proofs.Standings.{seen_so, adds_of, finds_of, standing_left}
-use Rattle.zt_shared_value.proofs.shared.SharedRecorder.call.Goals as goal
+use Rattle.zt_shared_value.proofs.shared.SharedRecorder.call_in_turn.Goals as goal
 
 pub overflow_add-pass : goal.overflow_add-pass
 overflow_add-pass g c = let one = c.pass.inside.one in
