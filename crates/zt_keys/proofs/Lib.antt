@@ -1,5 +1,7 @@
 pub mod Alone
+pub mod Common
 pub mod Folds
+pub mod Listed
 pub mod Passing
 pub mod Pieces
 pub mod Scan

@@ -1,6 +1,6 @@
 -- The walk takes the chunks of a key expression.
 use Rattle.std.proofs.Common.{◌≡◌, ℕ, Bool, true, false, cond, List, [], ◌∷◌, drop, map, refl, sym, ap, ◌∙◌, eqb}
-use Rattle.std.specs.Prelude.{◌↔◌, IsTrue}
+use Rattle.std.specs.Prelude.{◌↔◌, IsTrue, None}
 use Rattle.std.specs.List.{list_any, list_all, onto_first}
 use Rattle.std.proofs.lemmas.Bool.{false≢true}
 use Rattle.std.proofs.lemmas.List.Splits.{slice_split-cons_yes, slice_split-cons_no}
@@ -12,6 +12,7 @@ use Rattle.zt_keys.specs.Members.{matching-intersect}
 use Rattle.zt_keys.specs.Laws.{good_chunks, prints_some}
 use Rattle.zt_keys.specs.Test.{by_test}
 use Rattle.zt_keys.specs.Walking.{pieces, walked}
+use Rattle.zt_keys.specs.Numbers.{numbered, numbers_from}
 
 abbrev is_slash : ℕ → Bool
 is_slash b = eqb b 47
@@ -78,3 +79,7 @@ texts-matching a b x y e f = ap (λ t. parts_match (walked t) (walked y)) e ∙ 
 
 pub answer-member : (a b : Expression) (answer : Bool) → answer ≡ matching a b → IsTrue answer ↔ Intersect (chunks a.bytes) (chunks b.bytes)
 answer-member a b answer e = let law = matching-intersect a b in (λ h. law.0 (sym e ∙ h), λ i. e ∙ law.1 i)
+
+pub text-numbered : (key : Expression) (x : List ℕ) → x ≡ key.bytes → numbers_from None (walked x) ≡ numbered key
+unfolding numbered
+text-numbered key x e = ap (λ t. numbers_from None (walked t)) e ∙ ap (numbers_from None) (walked-parts key)

@@ -33,7 +33,7 @@ any-chunks p h (b ∷ text) =
 
 -- a text that has a number has no `*`
 
-starless : (text : List ℕ) (m : ℕ) → number_of text ≡ Some m → list_any is_star text ≡ false
+pub starless : (text : List ℕ) (m : ℕ) → number_of text ≡ Some m → list_any is_star text ≡ false
 starless text m e = by_test (list_any is_star text) (λ s. let f : None ≡ Some m = rw s at e in cc) (λ s. s)
 
 -- what a part without wildcards stands for
@@ -43,12 +43,12 @@ text_of one = None
 text_of (marked chunk) = Some chunk
 text_of (plain chunk) = Some chunk
 
-starless-single : (c : List ℕ) → list_any is_star c ≡ false → is_single c ≡ false
+pub starless-single : (c : List ℕ) → list_any is_star c ≡ false → is_single c ≡ false
 starless-single [] h = refl
 starless-single (a ∷ []) h = by_test (is_star a) (λ e. absurd (false≢true (sym (rw e at h)))) (λ e. e)
 starless-single (a ∷ b ∷ c) h = refl
 
-starless-double : (c : List ℕ) → list_any is_star c ≡ false → is_double c ≡ false
+pub starless-double : (c : List ℕ) → list_any is_star c ≡ false → is_double c ≡ false
 starless-double [] h = refl
 starless-double (a ∷ []) h = refl
 starless-double (a ∷ b ∷ []) h = by_test (is_star a) (λ e. absurd (false≢true (sym (rw e at h)))) (λ e. rw e refl)
@@ -109,10 +109,10 @@ meet-last c d (both {xs = x ∷ xs} {ys = y ∷ ys} g m) e f = meet-last c d m e
 
 -- the same of chunks
 
-abbrev Starless : List (List ℕ) → Type 0
+abbrev pub Starless : List (List ℕ) → Type 0
 Starless es = list_any (list_any is_star) es ≡ false
 
-or-false : (a b : Bool) → (a || b) ≡ false → (a ≡ false) × (b ≡ false)
+pub or-false : (a b : Bool) → (a || b) ≡ false → (a ≡ false) × (b ≡ false)
 or-false true b h = absurd (false≢true (sym h))
 or-false false b h = (refl, h)
 
@@ -184,7 +184,7 @@ same_number s t m n e f g =
     let k : Some m ≡ Some n = sym e ∙ h ∙ f in
     cc
 
-is_star-slash : is_star 47 ≡ false
+pub is_star-slash : is_star 47 ≡ false
 is_star-slash = refl
 
 same_chunks : (s t : List ℕ) → chunks s ≡ chunks t → s ≡ t

@@ -1,6 +1,6 @@
 -- What holds of every type of keys.
-use Rattle.std.specs.Prelude.{◌≡◌, ◌≢◌, ℕ, Bool, true, false, ◌||◌, List, [], Option, Some, Result, Ok, Err, ◌==◌, MatchResult}
-use Rattle.std.specs.List.{All}
+use Rattle.std.specs.Prelude.{◌≡◌, ◌≢◌, ℕ, Bool, true, false, ◌||◌, List, [], Option, Some, Result, Ok, Err, ◌==◌, MatchResult, nat_eq}
+use Rattle.std.specs.List.{All, list_any}
 use Rattle.std.specs.Str.{IsUtf8}
 use Rattle.std.specs.declared.cmp.Ordering.{Ordering}
 use Rattle.std.specs.declared.cmp.Ordering.TheVariants.{Equal}
@@ -36,6 +36,11 @@ pub record KeyLaws {K : Type 0} (cmp : K → K → Ordering) (matching : K → K
   pub anchors_agree : (at : Anchor) (a b : K) (m n : ℕ) → matching a b ≡ true → anchored at a ≡ Some m → anchored at b ≡ Some n → m ≡ n
   -- keys that match and both have a number as a whole are the same value
   pub plain_is_same : (a b : K) (m n : ℕ) → matching a b ≡ true → anchored Whole a ≡ Some m → anchored Whole b ≡ Some n → a ≡ b
+
+-- each number of a key is one of each key that it matches and that has a number as a whole
+abbrev pub NumbersAgree : {K : Type 0} → (K → K → Bool) → (Anchor → K → Option ℕ) → (K → List ℕ) → Type 0
+NumbersAgree {K} matching anchored numbered =
+    (a b : K) (m n : ℕ) → matching a b ≡ true → anchored Whole b ≡ Some n → list_any (nat_eq m) (numbered a) ≡ true → list_any (nat_eq m) (numbered b) ≡ true
 
 -- a key is read from its printed text alone. No law of keys: a type of keys may normalise what it reads
 abbrev pub OneSpelling : {K : Type 0} → (List ℕ → Result K KeyError) → (K → List ℕ) → Type 0

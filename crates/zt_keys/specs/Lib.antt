@@ -7,6 +7,7 @@ pub mod Laws
 pub mod Matching
 pub mod Meet
 pub mod Members
+pub mod Numbers
 pub mod Parts
 pub mod Scan
 pub mod Shared

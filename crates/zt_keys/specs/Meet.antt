@@ -146,7 +146,7 @@ no_match {xs} {ys} never = by_test (parts_match xs ys) (λ e. absurd (never (mat
 pub parts_match-sym : (xs ys : List Part) → parts_match xs ys ≡ parts_match ys xs
 parts_match-sym xs ys = same_match flip flip
 
-meets-itself : (x : Part) → is_many x ≡ false → meets x x ≡ true
+pub meets-itself : (x : Part) → is_many x ≡ false → meets x x ≡ true
 meets-itself many h = absurd (false≢true (sym h))
 meets-itself one h = refl
 meets-itself (marked c) h = nat_list_eq_equiv.refl c

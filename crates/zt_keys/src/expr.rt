@@ -16,9 +16,11 @@ ghost use Rattle.zt_keys.specs.Chunks.{chunks, refusal};
 ghost use Rattle.zt_keys.specs.Matching.{matching, Intersect};
 ghost use Rattle.zt_keys.specs.Anchors.{anchored, hash_of};
 ghost use Rattle.zt_keys.specs.Laws.{expression_laws};
+ghost use Rattle.zt_keys.specs.Numbers.{numbered, numbers_agree};
 
 use crate::anchor::Anchor;
 use crate::check::check;
+use crate::chunk_numbers::text_numbers;
 use crate::error::{KeyError, Memory};
 use crate::key::Key;
 use crate::numbers::{first_chunk, first_two, last_chunk, number_of};
@@ -114,6 +116,8 @@ impl Key for KeyExpr {
 
     ghost anchored = { anchored };
 
+    ghost numbered = { numbered };
+
     /// Whether some plain list of chunks is a member of both. The two texts are walked together,
     /// and the number of chunks that are looked at is at most a fixed multiple of the product of
     /// the two numbers of chunks, however many `**` there are.
@@ -137,6 +141,13 @@ impl Key for KeyExpr {
             Anchor::FirstTwo => number_of(first_two(text)),
             Anchor::Last => number_of(last_chunk(text)),
         }
+    }
+
+    /// The number of each chunk without a wildcard, each followed by that of the chunk and the one
+    /// before it, if that has none either.
+    fn numbers(&self, alloc: Global) -> Result<Vec<u64>, Memory> {
+        let numbers = text_numbers(alloc, self.text().as_bytes())?;
+        Ok(numbers)
     }
 
     /// Refuses a text by the first rule that it breaks: `Empty` for the empty text, else `BadChunk`
@@ -170,4 +181,6 @@ impl Key for KeyExpr {
     }
 
     ghost laws = { expression_laws };
+
+    ghost numbers_agree = { numbers_agree };
 }

@@ -3,7 +3,7 @@ ghost use Rattle.std.specs.Prelude.{◌≡◌, ℕ, Bool, List, ◌++◌, Option
 ghost use Rattle.std.specs.Prelude.{if◌then◌else◌, string_bytes};
 ghost use Rattle.zt_keys.specs.declared.anchor.Anchor.{Anchor};
 ghost use Rattle.zt_keys.specs.declared.error.KeyError.{KeyError};
-ghost use Rattle.zt_keys.specs.Key.{KeyLaws, Reads};
+ghost use Rattle.zt_keys.specs.Key.{KeyLaws, NumbersAgree, Reads};
 
 use crate::anchor::Anchor;
 use crate::error::{KeyError, Memory};
@@ -24,6 +24,9 @@ pub trait Key: Ord + Eq + Hash + Drop + Sized {
     /// The number that a key has at an anchor, if it has one there.
     ghost anchored: { Anchor → Self → Option ℕ };
 
+    /// The numbers of a key's parts.
+    ghost numbered: { Self → List ℕ };
+
     /// Whether the two keys match: a relation of the keys alone, reflexive and symmetric. Takes no
     /// memory.
     fn matches(&self, other: &Self) -> bool
@@ -33,6 +36,12 @@ pub trait Key: Ord + Eq + Hash + Drop + Sized {
     /// have the same one, so that keys with another number need not be tried. Takes no memory.
     fn anchor(&self, at: Anchor) -> Option<u64>
         ensures { result ≡ anchored at self.now };
+
+    /// The numbers of the key's parts that have no wildcard. A key that matches one without
+    /// wildcards has no number that the other lacks: so keys with wildcards are found by any of
+    /// their numbers. The only error is want of memory.
+    fn numbers(&self, alloc: Global) -> Result<Vec<u64>, Memory>
+        ensures { IfOk result (λ numbers. numbers.items ≡ numbered self.now) };
 
     /// The key that the text spells. The answer is a function of the text, unless memory runs out.
     fn read(alloc: Global, text: &str) -> Result<Self, KeyError>
@@ -64,4 +73,7 @@ pub trait Key: Ord + Eq + Hash + Drop + Sized {
     /// one, and are the same value where both have one as a whole. That order, equality and hash
     /// agree is said by the laws of `Ord`, `Eq` and `Hash`.
     ghost laws: { KeyLaws Self.cmp matching reading printed anchored };
+
+    /// Each number of a key is one of each key that it matches and that has a number as a whole.
+    ghost numbers_agree: { NumbersAgree matching anchored numbered };
 }

@@ -3,6 +3,7 @@
 
 mod anchor;
 mod check;
+mod chunk_numbers;
 mod error;
 mod expr;
 mod key;

@@ -10,7 +10,7 @@ use std::hash::{DefaultHasher, Hasher};
 // SipHash, which keeps 256 bits while it reads: to find many texts of one hash, one has to try texts
 // without end. The seed is the same in each run, since the hash is a function of the text alone.
 #[tactic(auto, unfolding(crate::specs::Anchors::hash_of))]
-fn hash_of(text: &[u8]) -> u64
+pub(crate) fn hash_of(text: &[u8]) -> u64
     ensures { result ≡ hash_of text.now }
 {
     let mut hasher = DefaultHasher::new();

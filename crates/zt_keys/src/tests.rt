@@ -217,6 +217,35 @@ fn keys_have_numbers(rt: HostRuntime) -> Result<(), Fail> {
     Ok(())
 }
 
+// The numbers of the expression's chunks, through the trait.
+fn chunk_numbers<K: Key>(alloc: Global, text: &str) -> Result<Vec<u64>, KeyError> {
+    let key = K::read(alloc, text)?;
+    let numbers = key.numbers(alloc)?;
+    Ok(numbers)
+}
+
+#[test]
+fn chunks_have_numbers(rt: HostRuntime) -> Result<(), Fail> {
+    let whole = chunk_numbers::<KeyExpr>(rt.alloc(), "a/b/w")?;
+    let rows = [
+        ("**/a/**", 1, true),
+        ("a/*/w", 2, true),
+        ("*/a/b/**", 3, true),
+        ("**/b/w", 3, true),
+        ("a/b/w", 5, true),
+        ("*/**", 0, true),
+        ("**/b/a/**", 3, false),
+        ("**/w/x", 3, false),
+    ];
+    for (text, count, are_of_whole) in rows {
+        let numbers = chunk_numbers::<KeyExpr>(rt.alloc(), text)?;
+        assert_eq!(rt; numbers.len(), count, "{text}");
+        let are_all = numbers.iter().all(|number| whole.contains(number));
+        assert_eq!(rt; are_all, are_of_whole, "{text}");
+    }
+    Ok(())
+}
+
 fn hash_value(key: &KeyExpr) -> u64 {
     let mut hasher = DefaultHasher::new();
     key.hash(&mut hasher);

@@ -23,7 +23,7 @@ fn find_slash(rest: &[u8]) -> Option<usize>
 }
 
 // The first chunk, and what follows the `/` behind it.
-fn next_chunk(rest: &[u8]) -> (&[u8], &[u8])
+pub(crate) fn next_chunk(rest: &[u8]) -> (&[u8], &[u8])
     requires { 0 < length rest.now }
     ensures chunk { walked rest.now ≡ part_of result.0.now ∷ walked result.1.now }
     ensures shorter { length result.1.now < length rest.now }
@@ -34,13 +34,13 @@ fn next_chunk(rest: &[u8]) -> (&[u8], &[u8])
     }
 }
 
-fn is_double(chunk: &[u8]) -> bool
+pub(crate) fn is_double(chunk: &[u8]) -> bool
     ensures { result ≡ is_double chunk.now }
 {
     chunk.len() == 2 && chunk[0] == b'*' && chunk[1] == b'*'
 }
 
-fn is_single(chunk: &[u8]) -> bool
+pub(crate) fn is_single(chunk: &[u8]) -> bool
     ensures { result ≡ is_single chunk.now }
 {
     chunk.len() == 1 && chunk[0] == b'*'
@@ -86,6 +86,36 @@ fn stops(rest: &[u8]) -> bool
     rest.is_empty() || after_double(rest).is_some()
 }
 
+// How many bytes both texts begin with alike, in whole chunks without wildcards. These meet one by
+// one, and are compared byte by byte, since that is much less work than chunk by chunk.
+fn common_len(first: &[u8], second: &[u8]) -> usize
+    ensures within { (result ≤ length first.now) × (result ≤ length second.now) }
+    ensures rest { strip (walked (drop result first.now)) (walked (drop result second.now))
+        ≡ strip (walked first.now) (walked second.now) }
+{
+    let mut end = 0;
+    for (place, byte) in first.iter().enumerate() {
+        if place >= second.len() || *byte != second[place] || *byte == b'*' {
+            return end;
+        }
+        if *byte == b'/' {
+            end = place + 1;
+        }
+    }
+    end
+}
+
+// Both texts without the chunks that they begin with alike.
+fn skip_common<'a>(first: &'a [u8], second: &'a [u8]) -> (&'a [u8], &'a [u8])
+    ensures rest { strip (walked result.0.now) (walked result.1.now)
+        ≡ strip (walked first.now) (walked second.now) }
+    ensures first { length result.0.now ≤ length first.now }
+    ensures second { length result.1.now ≤ length second.now }
+{
+    let end = common_len(first, second);
+    (&first[end..], &second[end..])
+}
+
 // Walks both texts while their chunks meet one by one, up to the first `**` of either or the end of
 // both.
 fn walk<'a>(first: &'a [u8], second: &'a [u8]) -> Option<(&'a [u8], &'a [u8])>
@@ -103,8 +133,9 @@ fn walk<'a>(first: &'a [u8], second: &'a [u8]) -> Option<(&'a [u8], &'a [u8])>
         if !meets(x, y) {
             return None;
         }
-        a = after_x;
-        b = after_y;
+        let (rest_x, rest_y) = skip_common(after_x, after_y);
+        a = rest_x;
+        b = rest_y;
     }
     if stops(a) && stops(b) {
         return Some((a, b));
