@@ -1,13 +1,13 @@
 mod Apart
 mod Changed
-mod Copied
+pub mod Copied
 mod Counting
 mod Gathered
-mod Hashed
+pub mod Hashed
 mod InOrder
 mod Kept
 mod Less
-mod Ordered
+pub mod Ordered
 mod Regrouped
 mod Seeking
 mod Sets

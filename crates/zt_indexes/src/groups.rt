@@ -177,24 +177,46 @@ impl<K: Key> KeyGroups<K> {
         }
     }
 
+    /// A copy of a key stands at the number, or at none. The only error is want of memory, and then
+    /// all stays.
+    pub fn put_at(&mut self, alloc: Global, number: Option<u64>, key: &K) -> Result<(), Memory>
+        ensures ok { OnOk result (HasChanged K.cmp number key.now true self.old self.new) }
+        ensures err { OnErr result (self.new ≡ self.old) }
+    {
+        let copy = key.copy(alloc)?;
+        put_in(alloc, &mut self.groups, number, copy)
+    }
+
+    /// A key stands at the number, or at none, no more.
+    pub fn remove_at(&mut self, number: Option<u64>, key: &K)
+        ensures { HasChanged K.cmp number key.now false self.old self.new }
+    {
+        if drop_from(&mut self.groups, number, key) {
+            drop_group(&mut self.groups, number);
+        }
+    }
+
     /// A copy of a key stands at its number. The only error is want of memory, and then all stays.
     pub fn put(&mut self, alloc: Global, at: Anchor, key: &K) -> Result<(), Memory>
         ensures ok { OnOk result
             (HasChanged K.cmp (K.anchored at key.now) key.now true self.old self.new) }
         ensures err { OnErr result (self.new ≡ self.old) }
     {
-        let copy = key.copy(alloc)?;
-        put_in(alloc, &mut self.groups, key.anchor(at), copy)
+        self.put_at(alloc, key.anchor(at), key)
     }
 
     /// A key stands at its number no more.
     pub fn remove(&mut self, at: Anchor, key: &K)
         ensures { HasChanged K.cmp (K.anchored at key.now) key.now false self.old self.new }
     {
-        let number = key.anchor(at);
-        if drop_from(&mut self.groups, number, key) {
-            drop_group(&mut self.groups, number);
-        }
+        self.remove_at(key.anchor(at), key);
+    }
+
+    /// Whether no key stands anywhere. Where one stood, this may answer that one does.
+    pub fn is_empty(&self) -> bool
+        ensures { result ≡ true → self.now ≡ [] }
+    {
+        self.groups.is_empty()
     }
 
     /// The keys at a number, if there are any.

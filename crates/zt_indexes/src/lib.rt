@@ -9,5 +9,7 @@ mod live;
 mod regions;
 mod search;
 
+pub use boxed_keys::BoxedKeys;
+pub use groups::{KeyGroups, KeySet};
 pub use live::{LiveCounts, RegionTest};
 pub use regions::RegionCounts;

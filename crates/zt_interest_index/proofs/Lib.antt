@@ -1,6 +1,6 @@
 mod Alike
 mod Changed
+mod Found
 mod InBucket
 mod InOrder
-mod Looked
-mod Places
+mod Kept

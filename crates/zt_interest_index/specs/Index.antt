@@ -1,38 +1,38 @@
--- An index of interests by bucket, as its interests come and go.
---     rows_at bucket index               the interests of a bucket
---     at_numbers entries                 the buckets of interests at numbers, in order, however they are kept
---     with_any rows buckets              and before them that of the other interests, if there are any
---     ChangesAt bucket change old new    the interests of the bucket change, and no others
---     IsWithout bucket old new           a bucket is gone, and the others stay
-use Rattle.std.specs.Prelude.{◌≡◌, ℕ, if◌then◌else◌, List, [], ◌∷◌, None, unwrap_or}
+-- An index of interests by key, as its interests come and go.
+--     Interests                            interests in all keys, and interests in each key, in order of the key
+--     rows_of cmp e entries                the interests in a key
+--     rows_at cmp about index              the interests in a key, or those in all keys
+--     is_same cmp a b                      both are in one key, or both in all
+--     ChangesOf cmp e change old new       the interests in a key change, and no others
+--     ChangesAt cmp about change old new   the interests in a key, or in all, change, and no others
+use Rattle.std.specs.Prelude.{◌≡◌, ℕ, Bool, true, false, if◌then◌else◌, List, [], Option, Some, None, unwrap_or}
 use Rattle.std.specs.BTreeMap.{is_at}
-use Rattle.std.specs.FinMap.Entries.{put}
 use Rattle.std.specs.Map.{lookup}
 use Rattle.std.specs.declared.cmp.Ordering.{Ordering}
-use Rattle.zt_keys.specs.declared.anchor.Anchor.{Anchor}
-use Rattle.zt_interest_index.specs.Buckets.{at_place}
-use Rattle.zt_interest_index.specs.contracts.bucket.BucketOrd.TheImpl.{ghosts}
-use Rattle.zt_interest_index.specs.declared.bucket.Bucket.{Bucket}
-use Rattle.zt_interest_index.specs.declared.bucket.Bucket.TheVariants.{Any}
 
-abbrev pub bucket_cmp : Bucket → Bucket → Ordering
-bucket_cmp a b = ghosts.cmp a b
+-- an interest in a key, or in all: under a face and an id
+abbrev pub Interest : Type 0 → Type 0
+Interest K = (ℕ × ℕ) × Option K
 
-module _ {X : Type 0} where
-  abbrev pub rows_at : Bucket → List (Bucket × List X) → List X
-  rows_at bucket index = unwrap_or (lookup (is_at (bucket_cmp bucket)) index) []
+abbrev pub Interests : Type 0 → Type 0
+Interests K = List (Interest K) × List (K × List (Interest K))
 
-  abbrev pub at_numbers : List ((Anchor × ℕ) × List X) → List (Bucket × List X)
-  at_numbers [] = []
-  at_numbers (e ∷ es) = put bucket_cmp (at_place e.0) e.1 (at_numbers es)
+module _ {K : Type 0} (cmp : K → K → Ordering) where
+  abbrev pub rows_of : K → List (K × List (Interest K)) → List (Interest K)
+  rows_of e entries = unwrap_or (lookup (is_at (cmp e)) entries) []
 
-  abbrev pub with_any : List X → List (Bucket × List X) → List (Bucket × List X)
-  with_any [] buckets = buckets
-  with_any (row ∷ rows) buckets = (Any, row ∷ rows) ∷ buckets
+  abbrev pub rows_at : Option K → Interests K → List (Interest K)
+  rows_at None index = index.0
+  rows_at (Some e) index = rows_of e index.1
 
-  pub record ChangesAt (bucket : Bucket) (change : List X → List X) (old new : List (Bucket × List X)) : Type 0 where
-    pub at : (q : Bucket) → rows_at q new ≡ (if is_at (bucket_cmp bucket) q then change (rows_at q old) else rows_at q old)
+  abbrev pub is_same : Option K → Option K → Bool
+  is_same None None = true
+  is_same None (Some b) = false
+  is_same (Some a) None = false
+  is_same (Some a) (Some b) = is_at (cmp a) b
 
-  -- a bucket is gone, and the others stay
-  pub record IsWithout (bucket : Bucket) (old new : List (Bucket × List X)) : Type 0 where
-    pub at : (q : Bucket) → lookup (is_at (bucket_cmp q)) new ≡ (if is_at (bucket_cmp bucket) q then None else lookup (is_at (bucket_cmp q)) old)
+  pub record ChangesOf (e : K) (change : List (Interest K) → List (Interest K)) (old new : List (K × List (Interest K))) : Type 0 where
+    pub at : (q : K) → rows_of q new ≡ (if is_at (cmp e) q then change (rows_of q old) else rows_of q old)
+
+  pub record ChangesAt (about : Option K) (change : List (Interest K) → List (Interest K)) (old new : Interests K) : Type 0 where
+    pub at : (q : Option K) → rows_at q new ≡ (if is_same about q then change (rows_at q old) else rows_at q old)

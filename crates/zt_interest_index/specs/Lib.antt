@@ -1,5 +1,5 @@
-pub mod Buckets
+pub mod Held
+pub mod Holders
 pub mod Holdings
 pub mod Index
-pub mod Holders
-pub mod Held
+pub mod Wilds

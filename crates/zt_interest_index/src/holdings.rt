@@ -146,7 +146,7 @@ fn gather_in<K: Key>(
 }
 
 // The same expression, if there is one. The only error is want of memory.
-pub(crate) fn copy_about<K: Key>(alloc: Global, about: &Option<K>) -> Result<Option<K>, Memory>
+fn copy_about<K: Key>(alloc: Global, about: &Option<K>) -> Result<Option<K>, Memory>
     ensures { IfOk result (λ copy. copy ≡ about.now) }
 {
     match about {
@@ -213,6 +213,11 @@ impl<K: Key> Holdings<K> {
             rows,
             are_alike: true,
         })
+    }
+
+    /// Where memory comes from.
+    pub fn allocator(&self) -> Global {
+        *self.rows.allocator()
     }
 
     /// An interest more. The only error is want of memory, and then the interests stay.

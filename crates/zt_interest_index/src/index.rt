@@ -1,40 +1,43 @@
-// Interests by bucket.
-ghost use Rattle.std.specs.Prelude.{◌≡◌, ℕ, ◌++◌, ◌∷◌, ◌||◌, [], filter, not};
+// Interests by key.
+ghost use Rattle.std.specs.Prelude.{◌≡◌, ℕ, ◌++◌, ◌∷◌, ◌||◌, Some, [], filter, not};
 ghost use Rattle.std.specs.Prelude.{IfOk, IfSome, List, Option, OnOk};
 ghost use Rattle.std.specs.List.{list_any};
 ghost use Rattle.std.specs.List.Sorted.{IsStrictlySortedBy};
 ghost use Rattle.std.specs.Ordering.{nat_cmp};
-ghost use Rattle.zt_interest_index.specs.Buckets.{bucket_of};
 ghost use Rattle.zt_interest_index.specs.Holders.{AreHoldersAnd, HasAllIn, IsIndexOf};
 ghost use Rattle.zt_interest_index.specs.Holdings.{asks_from, is_among, is_of};
 ghost use Rattle.zt_interest_index.specs.Index.{ChangesAt};
 
-use crate::bucket::{Bucket, anchors_of, bucket_of, places_of};
-use crate::holdings::{Holdings, copy_about};
-use crate::numbered::{copy_buckets, gather_all, put_in, remove_from, rows_in};
+use crate::holdings::Holdings;
+use crate::keyed::{add_to, copy_keyed, drop_from, drop_key, gather_from, put_first, rows_in};
+use crate::wilds::{drop_wild, gather_wilds, is_plain, put_wild, wilds_of};
 use std::alloc::Global;
 use std::collections::HashMap;
 use std::marker::Model;
-use zt_keys::{Anchor, Key, Memory};
+use zt_indexes::KeyGroups;
+use zt_keys::{Key, Memory};
 
 /// The interests of faces, each under its face and id, found by the key of what they are about. An
-/// index beside interests that are kept elsewhere: contracts see its buckets, and the definitions
-/// say when they are those of a list of interests. Those at no number stand apart: often there are
-/// no others, and then no number of a key need be worked out to find the faces.
+/// index beside interests that are kept elsewhere: contracts see the interests of each key, and
+/// those in all keys, and the definitions say when they are those of a list of interests. A key
+/// with wildcards stands at one of its numbers too, by which it is found.
 #[derive(Drop)]
 pub struct InterestIndex<K: Key> {
     any: Holdings<K>,
-    numbered: HashMap<(Anchor, u64), Holdings<K>>,
+    keyed: HashMap<K, Holdings<K>>,
+    wilds: KeyGroups<K>,
 }
 
 impl<K: Key> Model for InterestIndex<K> {
-    ghost use Rattle.std.specs.Prelude.{ℕ, List, Option};
-    ghost use Rattle.zt_interest_index.specs.Index.{at_numbers, with_any};
-    ghost use Rattle.zt_interest_index.specs.declared.bucket.Bucket.{Bucket};
+    ghost use Rattle.zt_indexes.specs.Ordered.{ordered_entries};
+    ghost use Rattle.zt_interest_index.specs.Index.{Interests};
+    ghost use Rattle.zt_interest_index.specs.Wilds.{AreCovered};
 
-    ghost Value = { List (Bucket × List ((ℕ × ℕ) × Option K)) };
+    ghost Value = { Interests K };
 
-    ghost view = { λ a. with_any a.any (at_numbers a.numbered.entries) };
+    ghost view = { λ a. (a.any, ordered_entries K.cmp a.keyed.entries) };
+
+    ghost invariant = { λ a. AreCovered K.cmp K.anchored K.numbered a.wilds a.keyed.entries };
 }
 
 // Puts numbers in order, each once.
@@ -70,12 +73,26 @@ fn found_in<K: Key>(
 impl<K: Key> InterestIndex<K> {
     /// No interest at all. It takes no memory.
     pub fn new(alloc: Global) -> Self
-        ensures { result ≡ [] }
+        ensures { result ≡ ([], []) }
     {
         InterestIndex {
             any: Holdings::new(alloc),
-            numbered: HashMap::new(alloc),
+            keyed: HashMap::new(alloc),
+            wilds: KeyGroups::new(alloc),
         }
+    }
+
+    // The face holds an interest in the key under an id. The only error is want of memory.
+    fn put_keyed(&mut self, alloc: Global, face: u32, id: u32, key: &K) -> Result<(), Memory>
+        ensures { OnOk result (ChangesAt K.cmp (Some key.now)
+            (λ rows. rows ++ ((face, id), Some key.now) ∷ []) self.old self.new) }
+    {
+        if add_to(alloc, &mut self.keyed, key, face, id)? {
+            return Ok(());
+        }
+        put_wild(alloc, &mut self.wilds, key)?;
+        put_first(alloc, &mut self.keyed, key, face, id)?;
+        Ok(())
     }
 
     /// The face holds an interest in the expression, or in all keys, under an id. The only error is
@@ -87,34 +104,41 @@ impl<K: Key> InterestIndex<K> {
         id: u32,
         about: &Option<K>,
     ) -> Result<(), Memory>
-        ensures { OnOk result (ChangesAt (bucket_of K.anchored about.now)
+        ensures { OnOk result (ChangesAt K.cmp about.now
             (λ rows. rows ++ ((face, id), about.now) ∷ []) self.old self.new) }
     {
-        let copy = copy_about(alloc, about)?;
-        match bucket_of(about) {
-            Bucket::Any => self.any.push(face, id, copy),
-            Bucket::At(anchor, number) => {
-                put_in(alloc, &mut self.numbered, (anchor, number), face, id, copy)
-            }
+        match about {
+            None => self.any.push(face, id, None),
+            Some(key) => self.put_keyed(alloc, face, id, key),
+        }
+    }
+
+    // The face holds its interest in the key no more, that it held under the id.
+    fn remove_keyed(&mut self, face: u32, id: u32, key: &K)
+        ensures { ChangesAt K.cmp (Some key.now) (filter (λ row. not (is_of face id row)))
+            self.old self.new }
+    {
+        if drop_from(&mut self.keyed, key, face, id) {
+            let alloc = self.any.allocator();
+            drop_key(&mut self.keyed, key);
+            drop_wild(alloc, &mut self.wilds, key);
         }
     }
 
     /// The face holds its interest in the expression, or in all keys, no more, that it held under
     /// the id.
     pub fn remove(&mut self, face: u32, id: u32, about: &Option<K>)
-        ensures { ChangesAt (bucket_of K.anchored about.now)
+        ensures { ChangesAt K.cmp about.now
             (filter (λ row. not (is_of face id row))) self.old self.new }
     {
-        match bucket_of(about) {
-            Bucket::Any => self.any.remove(face, id),
-            Bucket::At(anchor, number) => {
-                remove_from(&mut self.numbered, (anchor, number), face, id);
-            }
+        match about {
+            None => self.any.remove(face, id),
+            Some(key) => self.remove_keyed(face, id, key),
         }
     }
 
     /// The faces that hold an interest in the key, and these others, in order of number, each once;
-    /// `None` where an interest is kept at a number, and the key has none at some anchor: any face
+    /// `None` where an interest isn't in all keys, and the key has no number as a whole: any face
     /// may hold one. The only error is want of memory.
     pub fn holders_and(
         &self,
@@ -123,35 +147,35 @@ impl<K: Key> InterestIndex<K> {
         others: &[u32],
     ) -> Result<Option<Vec<u32>>, Memory>
         ensures { IfOk result (λ found. IfSome found (λ faces. (held : List ((ℕ × ℕ) × Option K)) →
-            IsIndexOf K.anchored self.now held →
+            IsIndexOf K.cmp self.now held →
             AreHoldersAnd K.matching expr.now held others.now faces.items)) }
     {
-        // Where no interest stands at a number, those of the key needn't be worked out.
-        if self.numbered.is_empty() {
+        // Where all interests are in all keys, nothing need be known of the key.
+        if self.keyed.is_empty() {
             let room = self.any.as_slice().len().min(FEW);
             let mut found = found_in(alloc, &self.any, expr, others, room)?;
             put_in_order(&mut found);
             return Ok(Some(found));
         }
-        let Some(numbers) = anchors_of(expr) else {
+        if !is_plain(expr) {
             return Ok(None);
-        };
+        }
         let mut found = found_in(alloc, &self.any, expr, others, FEW)?;
-        gather_all(&mut found, &self.numbered, &places_of(numbers), expr)?;
+        gather_from(&mut found, &self.keyed, expr, expr)?;
+        gather_wilds(alloc, &mut found, &self.keyed, &self.wilds, expr)?;
         put_in_order(&mut found);
         Ok(Some(found))
     }
 
     /// The interests in the expression, or those in all keys where it is `None`, each under its
-    /// face and id, and maybe interests in other expressions among them. A look-up, which takes no
-    /// memory.
+    /// face and id. A look-up, which takes no memory.
     pub fn interests_in(&self, about: &Option<K>) -> &[((u32, u32), Option<K>)]
-        ensures { (held : List ((ℕ × ℕ) × Option K)) → IsIndexOf K.anchored self.now held →
+        ensures { (held : List ((ℕ × ℕ) × Option K)) → IsIndexOf K.cmp self.now held →
             HasAllIn about.now held result.now }
     {
-        match bucket_of(about) {
-            Bucket::Any => self.any.as_slice(),
-            Bucket::At(anchor, number) => rows_in(&self.numbered, (anchor, number)),
+        match about {
+            None => self.any.as_slice(),
+            Some(key) => rows_in(&self.keyed, key),
         }
     }
 
@@ -159,9 +183,12 @@ impl<K: Key> InterestIndex<K> {
     pub fn copy(&self, alloc: Global) -> Result<Self, Memory>
         ensures { IfOk result (λ copy. copy ≡ self.now) }
     {
+        let keyed = copy_keyed(alloc, &self.keyed)?;
+        let wilds = wilds_of(alloc, &keyed)?;
         Ok(InterestIndex {
             any: self.any.copy(alloc)?,
-            numbered: copy_buckets(alloc, &self.numbered)?,
+            keyed,
+            wilds,
         })
     }
 }

@@ -5,6 +5,7 @@ use Rattle.std.proofs.lemmas.Bool.Decides.{nat_tests}
 use Rattle.std.proofs.lemmas.List.Elements.{filter-append}
 use Rattle.std.proofs.lemmas.List.Folds.{list_any-append}
 use Rattle.std.proofs.lemmas.Option.{same_Some}
+use Rattle.std.specs.Cmp.{IsTotalOrder}
 use Rattle.std.specs.FinMap.Entries.{put}
 use Rattle.std.specs.List.{AllByRecursion, list_any}
 use Rattle.std.specs.List.Sorted.{IsStrictlySortedBy}
@@ -13,15 +14,12 @@ use Rattle.std.specs.Ordering.{nat_cmp}
 use Rattle.std.specs.declared.cmp.Ordering.{Ordering}
 use Rattle.std.specs.declared.cmp.Ordering.TheVariants.{Less, Equal, Greater}
 use Rattle.zt_keys.specs.Test.{by_test}
-use Rattle.zt_keys.specs.declared.anchor.Anchor.{Anchor}
 use Rattle.zt_protocol.specs.Interest.{has_tokens}
 use Rattle.zt_rows.specs.ById.{IsInOrder}
-use Rattle.zt_interest_index.specs.Buckets.{bucket_of}
 use Rattle.zt_interest_index.specs.Held.{any_kept, belongs-own, indexed-put, indexed-removed}
 use Rattle.zt_interest_index.specs.Holders.{IsIndexOf, any_alike, belongs}
 use Rattle.zt_interest_index.specs.Holdings.{is_of}
-use Rattle.zt_interest_index.specs.Index.{ChangesAt}
-use Rattle.zt_interest_index.specs.declared.bucket.Bucket.{Bucket}
+use Rattle.zt_interest_index.specs.Index.{ChangesAt, Interests}
 use Rattle.zt_model.specs.Lists.{at_id, without_id}
 use Rattle.zt_model.specs.Rows.{ById, Face, InterestRow}
 use Rattle.zt_token_index.specs.Seekers.{TokenRow, token_rows, token_rows_of}
@@ -262,18 +260,20 @@ module _ {K : Type 0} where
       turned true false c = refl
       turned false b c = refl
 
+  -- the face's interests whose ids are left, and those of others
+  abbrev pub stays : ℕ → ById (InterestRow K) → TokenRow K → Bool
+  stays n left row = not (n == row.0.0) || list_any (λ r. r.0 == row.0.1) left
+
   -- ---- an index of them
-  module _ (anchored : Anchor → K → Option ℕ) where
-    abbrev Index : Type 0
-    Index = List (Bucket × List (TokenRow K))
-
+  module _ (cmp : K → K → Ordering) where
     -- it looks at tests of its interests alone
-    pub index_alike : (index : Index) (xs ys : List (TokenRow K)) → ((test : TokenRow K → Bool) → list_any test xs ≡ list_any test ys) → IsIndexOf anchored index xs → IsIndexOf anchored index ys
-    index_alike index xs ys same is = record { at = λ bucket test. is.at bucket test ∙ same (λ row. belongs anchored bucket row && test row) }
+    pub index_alike : (index : Interests K) (xs ys : List (TokenRow K)) → ((test : TokenRow K → Bool) → list_any test xs ≡ list_any test ys) → IsIndexOf cmp index xs → IsIndexOf cmp index ys
+    index_alike index xs ys same is = record { at = λ about test. is.at about test ∙ same (λ row. belongs cmp about row && test row) }
 
-    -- the bucket in which the interest under the id stands has no other than it
+  module _ (cmp : K → K → Ordering) (o : IsTotalOrder cmp) where
+    -- the key in which the interest under the id is has no other under it
     only_rows : (n id m : ℕ) (i : InterestRow K) (rows : ById (InterestRow K)) → AllByRecursion (λ row. (id == row.0) ≡ true → row.1 ≡ i) rows
-        → list_any (λ row. is_of n id row && not (belongs anchored (bucket_of anchored i.expr) row)) (token_rows_of m rows) ≡ false
+        → list_any (λ row. is_of n id row && not (belongs cmp i.expr row)) (token_rows_of m rows) ≡ false
     only_rows n id m i [] all = refl
     only_rows n id m i (row ∷ rows) all =
         let rest = only_rows n id m i rows all.1 in
@@ -282,7 +282,7 @@ module _ {K : Type 0} where
         by_test (id == row.0)
         (λ t.
         let same : row.1.expr ≡ i.expr = ap (λ (r : InterestRow K). r.expr) (all.0 t) in
-        let own : belongs anchored (bucket_of anchored i.expr) ((m, row.0), row.1.expr) ≡ true = ap (λ e. belongs anchored (bucket_of anchored e) ((m, row.0), row.1.expr)) (sym same) ∙ belongs-own anchored ((m, row.0), row.1.expr) in
+        let own : belongs cmp i.expr ((m, row.0), row.1.expr) ≡ true = ap (λ e. belongs cmp e ((m, row.0), row.1.expr)) (sym same) ∙ belongs-own cmp o ((m, row.0), row.1.expr) in
         rw h (both_false _ _ (ap (λ b. (n == m && id == row.0) && not b) own ∙ and_false_second (n == m && id == row.0)) rest))
         (λ t. rw h (both_false _ _ (and_false_first _ _ (ap (λ b. n == m && b) t ∙ and_false_second (n == m))) rest)))
         (λ h. rw h rest)
@@ -294,24 +294,24 @@ module _ {K : Type 0} where
         by_test (has_tokens row.1.options) (λ h. rw (h, apart) rest) (λ h. rw h rest)
 
     pub only_one : (id : ℕ) (i : InterestRow K) (f : Face K) (fs : List (Face K)) → IsInOrder f.held → at_id id f.held ≡ Some i → AllByRecursion (λ x. (f.number == x.number) ≡ true → x ≡ f) fs
-        → list_any (λ row. is_of f.number id row && not (belongs anchored (bucket_of anchored i.expr) row)) (flat_map token_rows fs) ≡ false
+        → list_any (λ row. is_of f.number id row && not (belongs cmp i.expr row)) (flat_map token_rows fs) ≡ false
     only_one id i f [] sorted is only = refl
     only_one id i f (x ∷ xs) sorted is only =
-        let test = λ (row : TokenRow K). is_of f.number id row && not (belongs anchored (bucket_of anchored i.expr) row) in
+        let test = λ (row : TokenRow K). is_of f.number id row && not (belongs cmp i.expr row) in
         let rest = only_one id i f xs sorted is only.1 in
         let here : list_any test (token_rows x) ≡ false =
         by_test (f.number == x.number)
         (λ t. ap (λ (y : Face K). list_any test (token_rows y)) (only.0 t) ∙ only_rows f.number id f.number i f.held (unique id i f.held sorted is))
-        (λ t. other_rows f.number id x.number (λ row. not (belongs anchored (bucket_of anchored i.expr) row)) x.held t)
+        (λ t. other_rows f.number id x.number (λ row. not (belongs cmp i.expr row)) x.held t)
         in
         list_any-append test (token_rows x) (flat_map token_rows xs) ∙ (λ j. here j || rest j)
 
     -- ---- one comes or goes
-    pub removed : (n id : ℕ) (about : Option K) (old new : Index) (held : List (TokenRow K)) → ChangesAt (bucket_of anchored about) (filter (λ row. not (is_of n id row))) old new
-        → list_any (λ row. is_of n id row && not (belongs anchored (bucket_of anchored about) row)) held ≡ false
-        → IsIndexOf anchored old held → IsIndexOf anchored new (filter (λ row. not (is_of n id row)) held)
+    pub removed : (n id : ℕ) (about : Option K) (old new : Interests K) (held : List (TokenRow K)) → ChangesAt cmp about (filter (λ row. not (is_of n id row))) old new
+        → list_any (λ row. is_of n id row && not (belongs cmp about row)) held ≡ false
+        → IsIndexOf cmp old held → IsIndexOf cmp new (filter (λ row. not (is_of n id row)) held)
     removed n id about old new held changed only was =
-        indexed-removed anchored old new held was n id about (filter (λ row. not (is_of n id row)) held) changed (record { at = λ test. any_kept test (λ row. not (is_of n id row)) held }) only
+        indexed-removed cmp o old new held was n id about (filter (λ row. not (is_of n id row)) held) changed (record { at = λ test. any_kept test (λ row. not (is_of n id row)) held }) only
 
     -- nothing goes where nothing is found
     pub none_dropped : (id : ℕ) (f : Face K) (fs : List (Face K)) → at_id id f.held ≡ None → AllByRecursion (λ x. (f.number == x.number) ≡ true → x ≡ f) fs
@@ -329,19 +329,15 @@ module _ {K : Type 0} where
             ∙ ap (token_rows_of x.number) (absent-kept id f.held (not-found id f.held none))
             ∙ ap (λ (y : Face K). token_rows_of x.number y.held) (sym same)
 
-    pub put_one : (n id : ℕ) (i : InterestRow K) (old new : Index) (held : List (TokenRow K)) → has_tokens i.options ≡ true → ChangesAt (bucket_of anchored i.expr) (λ rows. rows ++ ((n, id), i.expr) ∷ []) old new
-        → IsIndexOf anchored old held → IsIndexOf anchored new (token_rows_of n ((id, i) ∷ []) ++ held)
+    pub put_one : (n id : ℕ) (i : InterestRow K) (old new : Interests K) (held : List (TokenRow K)) → has_tokens i.options ≡ true → ChangesAt cmp i.expr (λ rows. rows ++ ((n, id), i.expr) ∷ []) old new
+        → IsIndexOf cmp old held → IsIndexOf cmp new (token_rows_of n ((id, i) ∷ []) ++ held)
     put_one n id i old new held tokens changed was =
-        rw tokens (indexed-put anchored old new held was n id i.expr (((n, id), i.expr) ∷ held) changed (record { at = λ test. refl }))
+        rw tokens (indexed-put cmp o old new held was n id i.expr (((n, id), i.expr) ∷ held) changed (record { at = λ test. refl }))
 
-    pub put_none : (n id : ℕ) (i : InterestRow K) (old : Index) (held : List (TokenRow K)) → has_tokens i.options ≡ false → IsIndexOf anchored old held → IsIndexOf anchored old (token_rows_of n ((id, i) ∷ []) ++ held)
+    pub put_none : (n id : ℕ) (i : InterestRow K) (old : Interests K) (held : List (TokenRow K)) → has_tokens i.options ≡ false → IsIndexOf cmp old held → IsIndexOf cmp old (token_rows_of n ((id, i) ∷ []) ++ held)
     put_none n id i old held tokens was = rw tokens was
 
     -- ---- all of a face go, one after another
-    -- the face's interests whose ids are left, and those of others
-    abbrev pub stays : ℕ → ById (InterestRow K) → TokenRow K → Bool
-    stays n left row = not (n == row.0.0) || list_any (λ r. r.0 == row.0.1) left
-
     found_any : (k : ℕ) (v : InterestRow K) (rows : ById (InterestRow K)) → at_id k rows ≡ Some v → list_any (λ r. r.0 == k) rows ≡ true
     found_any k v [] h = cc
     found_any k v (row ∷ rows) h =

@@ -25,7 +25,7 @@ use Rattle.zt_face.specs.Told.{AreApart, untold_known}
 use Rattle.zt_rows.specs.ById.{IsInOrder}
 use Rattle.zt_face.proofs.Told.{dropped_without, none_dropped, told_at as row-told}
 use Rattle.zt_interest_index.specs.Holdings.{is_of}
-use Rattle.zt_interest_index.specs.declared.bucket.Bucket.{Bucket}
+use Rattle.zt_interest_index.specs.Index.{Interests}
 use Rattle.zt_model.specs.Hearing.{put_if, untold}
 use Rattle.zt_model.specs.Parts.{told_id}
 use Rattle.zt_model.specs.Routing.{asked_as, unheld}
@@ -77,14 +77,14 @@ module _ {K : Type 0} where
 
   module _ (cmp : K → K → Ordering) (anchored : Anchor → K → Option ℕ) where
     pub seekers-none : AreSeekers cmp anchored no_seekers []
-    seekers-none = record { north = refl; index = indexed-none anchored; told = λ e n. refl; apart = tt }
+    seekers-none = record { north = refl; index = indexed-none cmp; told = λ e n. refl; apart = tt }
 
     -- a change that keeps the number, the region, what the face holds and what it was told
     pub seekers-quiet : (n : ℕ) (change : Face K → Face K) → ((x : Face K) → (change x).number ≡ x.number) → ((x : Face K) → (change x).region ≡ x.region) → ((x : Face K) → (change x).held ≡ x.held) → ((x : Face K) → (change x).told ≡ x.told)
         → (seeking : Seeking K) (fs : List (Face K)) → AreSeekers cmp anchored seeking fs → AreSeekers cmp anchored seeking (map (λ x. if n == x.number then change x else x) fs)
     seekers-quiet n change number region held told seeking fs are = record {
       north = are.north ∙ sym (north_kept n change number region fs);
-      index = subst (IsIndexOf anchored seeking.index) (sym (kept n change number held fs)) are.index;
+      index = subst (IsIndexOf cmp seeking.index) (sym (kept n change number held fs)) are.index;
       told = λ e m. are.told e m ∙ at-kept cmp e n change number told m fs;
       apart = all-kept (λ (x : Face K). AreApart cmp x.told) n change (λ x apart. subst (AreApart cmp) (sym (told x)) apart) fs are.apart;
     }
@@ -94,28 +94,28 @@ module _ {K : Type 0} where
         → AreSeekers cmp anchored (record seeking { north = seeking.north ++ north_numbers (f ∷ []) }) (fs ++ f ∷ [])
     seekers-opened f none untold seeking fs are = record {
       north = ap (λ ns. ns ++ north_numbers (f ∷ [])) are.north ∙ sym (north_more fs f);
-      index = subst (IsIndexOf anchored seeking.index) (sym (rows_more fs f none)) are.index;
+      index = subst (IsIndexOf cmp seeking.index) (sym (rows_more fs f none)) are.index;
       told = λ e m. are.told e m ∙ at-more cmp e f untold m fs;
       apart = all-more (λ (x : Face K). AreApart cmp x.told) fs f are.apart (subst (AreApart cmp) (sym untold) tt);
     }
 
     -- the interest of an id goes
     pub seekers-unheld : (f : Face K) (id : ℕ) (old new : Seeking K) → new.north ≡ old.north → new.told ≡ old.told
-        → ((fs : List (Face K)) → IsOnlyOne f fs → IsIndexOf anchored old.index (flat_map token_rows fs) → IsIndexOf anchored new.index (filter (λ row. not (is_of f.number id row)) (flat_map token_rows fs)))
+        → ((fs : List (Face K)) → IsOnlyOne f fs → IsIndexOf cmp old.index (flat_map token_rows fs) → IsIndexOf cmp new.index (filter (λ row. not (is_of f.number id row)) (flat_map token_rows fs)))
         → Reseeks cmp anchored f (unheld id) old new
     seekers-unheld f id old new same still drops = record {
       at = λ fs one are. record {
         north = same ∙ are.north ∙ sym (north_kept f.number (unheld id) (λ x. refl) (λ x. refl) fs);
-        index = subst (IsIndexOf anchored new.index) (dropped f.number id (unheld id) (λ x. refl) (λ x. refl) fs) (drops fs one are.index);
+        index = subst (IsIndexOf cmp new.index) (dropped f.number id (unheld id) (λ x. refl) (λ x. refl) fs) (drops fs one are.index);
         told = λ e m. ap (λ told. id_of m (told_at cmp e told)) still ∙ are.told e m ∙ at-kept cmp e f.number (unheld id) (λ x. refl) (λ x. refl) m fs;
         apart = all-kept (λ (x : Face K). AreApart cmp x.told) f.number (unheld id) (λ x apart. apart) fs are.apart;
       };
     }
 
     -- an interest comes in place of the one of its id
-    pub seekers-held : (f : Face K) (id : ℕ) (i : InterestRow K) (pendings : List (ℕ × ℕ)) → is_future i.mode ≡ true → IsInOrder f.held → (old : Seeking K) (mid : List (Bucket × List (TokenRow K))) (new : Seeking K) → new.north ≡ old.north → new.told ≡ old.told
-        → ((fs : List (Face K)) → IsOnlyOne f fs → IsIndexOf anchored old.index (flat_map token_rows fs) → IsIndexOf anchored mid (filter (λ row. not (is_of f.number id row)) (flat_map token_rows fs)))
-        → ((held : List (TokenRow K)) → IsIndexOf anchored mid held → IsIndexOf anchored new.index (token_rows_of f.number ((id, i) ∷ []) ++ held))
+    pub seekers-held : (f : Face K) (id : ℕ) (i : InterestRow K) (pendings : List (ℕ × ℕ)) → is_future i.mode ≡ true → IsInOrder f.held → (old : Seeking K) (mid : Interests K) (new : Seeking K) → new.north ≡ old.north → new.told ≡ old.told
+        → ((fs : List (Face K)) → IsOnlyOne f fs → IsIndexOf cmp old.index (flat_map token_rows fs) → IsIndexOf cmp mid (filter (λ row. not (is_of f.number id row)) (flat_map token_rows fs)))
+        → ((held : List (TokenRow K)) → IsIndexOf cmp mid held → IsIndexOf cmp new.index (token_rows_of f.number ((id, i) ∷ []) ++ held))
         → Reseeks cmp anchored f (asked_as pendings id i) old new
     seekers-held f id i pendings future sorted old mid new same still drops puts =
         let change = asked_as pendings id i in
@@ -124,7 +124,7 @@ module _ {K : Type 0} where
           at = λ fs one are. record {
             north = same ∙ are.north ∙ sym (north_kept f.number change (λ x. refl) (λ x. refl) fs);
             index =
-                index_alike anchored new.index (token_rows_of f.number ((id, i) ∷ []) ++ filter (λ row. not (is_of f.number id row)) (flat_map token_rows fs)) (flat_map token_rows (map (λ x. if f.number == x.number then change x else x) fs))
+                index_alike cmp new.index (token_rows_of f.number ((id, i) ∷ []) ++ filter (λ row. not (is_of f.number id row)) (flat_map token_rows fs)) (flat_map token_rows (map (λ x. if f.number == x.number then change x else x) fs))
                 (λ test.
                 list_any-append test (token_rows_of f.number ((id, i) ∷ [])) (filter (λ row. not (is_of f.number id row)) (flat_map token_rows fs))
                 ∙ ap (λ b. (b && list_any test (token_rows_of f.number ((id, i) ∷ []))) || list_any test (filter (λ row. not (is_of f.number id row)) (flat_map token_rows fs))) (sym one.found)
@@ -161,7 +161,7 @@ module _ {K : Type 0} where
           let finds = its-found f old fs one are in
           record {
             north = same ∙ are.north ∙ sym (north_kept f.number change number region fs);
-            index = rw still (subst (IsIndexOf anchored old.index) (sym (kept f.number change number held fs)) are.index);
+            index = rw still (subst (IsIndexOf cmp old.index) (sym (kept f.number change number held fs)) are.index);
             told = λ e m. retold.at apart finds e m ∙ ap (λ o. if f.number == m then told_id cmp e (change f).told else o) (are.told e m) ∙ at-changed cmp e f change number fs one.found one.only m;
             apart = all-changed (λ (x : Face K). AreApart cmp x.told) f change (retold.apart apart finds) fs one.only are.apart;
           };
@@ -169,7 +169,7 @@ module _ {K : Type 0} where
 
     -- the face goes
     pub seekers-closed : (f : Face K) (old new : Seeking K) → new.north ≡ filter (λ m. not (f.number == m)) old.north → IsRetold cmp f.number f.told [] old.told new.told
-        → ((fs : List (Face K)) → IsOnlyOne f fs → IsIndexOf anchored old.index (flat_map token_rows fs) → IsIndexOf anchored new.index (flat_map token_rows (filter (λ x. not (f.number == x.number)) fs)))
+        → ((fs : List (Face K)) → IsOnlyOne f fs → IsIndexOf cmp old.index (flat_map token_rows fs) → IsIndexOf cmp new.index (flat_map token_rows (filter (λ x. not (f.number == x.number)) fs)))
         → Leaves cmp anchored f old new
     seekers-closed f old new less retold drops = record {
       at = λ fs one are. record {

@@ -18,7 +18,7 @@ use Rattle.zt_region.specs.Region.{is_north}
 use Rattle.zt_protocol.specs.Interest.{has_tokens}
 use Rattle.zt_protocol.specs.declared.messages.Message.{Message}
 use Rattle.zt_interest_index.specs.Holders.{IsIndexOf}
-use Rattle.zt_interest_index.specs.declared.bucket.Bucket.{Bucket}
+use Rattle.zt_interest_index.specs.Index.{Interests}
 use Rattle.zt_model.specs.Rows.{ById, Face, InterestRow}
 use Rattle.zt_model.specs.Wants.{wants}
 use Rattle.zt_token_index.specs.Told.{id_of, told_at}
@@ -46,16 +46,16 @@ module _ {K : Type 0} where
 
 pub record Seeking (K : Type 0) : Type 0 where
   pub north : List ℕ
-  pub index : List (Bucket × List (TokenRow K))
+  pub index : Interests K
   pub told : Index K
 
 -- where there is no face
 abbrev pub no_seekers : {K : Type 0} → Seeking K
-no_seekers = record { north = []; index = []; told = [] }
+no_seekers = record { north = []; index = ([], []); told = [] }
 
 pub record AreSeekers {K : Type 0} (cmp : K → K → Ordering) (anchored : Anchor → K → Option ℕ) (seeking : Seeking K) (faces : List (Face K)) : Type 0 where
   pub north : seeking.north ≡ north_numbers faces
-  pub index : IsIndexOf anchored seeking.index (flat_map token_rows faces)
+  pub index : IsIndexOf cmp seeking.index (flat_map token_rows faces)
   pub told : (e : K) (n : ℕ) → id_of n (told_at cmp e seeking.told) ≡ told_id_at cmp e faces n
   pub apart : AllByRecursion (λ f. AreApart cmp f.told) faces
 

@@ -19,8 +19,8 @@ use zt_protocol::InterestOptions;
 pub(crate) fn drop_held<K: Key>(index: &mut InterestIndex<K>, f: &FaceState<K>, id: u32)
     ensures ordered { IsInOrder f.now.held }
     ensures drops { (fs : List (Face K)) → IsOnlyOne f.now fs
-        → IsIndexOf K.anchored index.old (flat_map token_rows fs)
-        → IsIndexOf K.anchored index.new
+        → IsIndexOf K.cmp index.old (flat_map token_rows fs)
+        → IsIndexOf K.cmp index.new
         (filter (λ row. not (is_of f.now.number id row)) (flat_map token_rows fs)) }
 {
     if let Some(held) = f.held().at(id) {
@@ -43,8 +43,8 @@ pub(crate) fn put_held<K: Key>(
     id: u32,
     interest: &RemoteInterest<K>,
 ) -> Result<(), Memory>
-    ensures { OnOk result ((held : List (TokenRow K)) → IsIndexOf K.anchored index.old held
-        → IsIndexOf K.anchored index.new (token_rows_of face ((id, interest.now) ∷ []) ++ held)) }
+    ensures { OnOk result ((held : List (TokenRow K)) → IsIndexOf K.cmp index.old held
+        → IsIndexOf K.cmp index.new (token_rows_of face ((id, interest.now) ∷ []) ++ held)) }
 {
     if is_in_tokens(interest) {
         index.put(alloc, face, id, interest.expr())?;
@@ -55,8 +55,8 @@ pub(crate) fn put_held<K: Key>(
 /// All interests that the face holds go.
 pub(crate) fn drop_all<K: Key>(index: &mut InterestIndex<K>, f: &FaceState<K>)
     ensures { (fs : List (Face K)) → IsOnlyOne f.now fs
-        → IsIndexOf K.anchored index.old (flat_map token_rows fs)
-        → IsIndexOf K.anchored index.new
+        → IsIndexOf K.cmp index.old (flat_map token_rows fs)
+        → IsIndexOf K.cmp index.new
         (flat_map token_rows (filter (λ x. not (f.now.number == x.number)) fs)) }
 {
     for (id, held) in f.held().iter() {

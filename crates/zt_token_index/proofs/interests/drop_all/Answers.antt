@@ -28,12 +28,13 @@ loop-id-init g c =
       whole = sorted;
       in_order = sorted;
       among = all-found f.held sorted;
-      index = λ fs one was. subst (IsIndexOf g.K.Key.anchored c.args.index.now) (sym (all_stay g.K.Key.anchored f fs sorted one.only)) was;
+      index = λ fs one was. subst (IsIndexOf g.K.Ord.cmp c.args.index.now) (sym (all_stay g.K.Ord.cmp g.met.K.Ord.total f fs sorted one.only)) was;
     })
 
 pub loop-id-preserved : goal.loop-id-preserved
 loop-id-preserved g c =
-    let anchored = g.K.Key.anchored in
+    let cmp = g.K.Ord.cmp in
+    let total = g.met.K.Ord.total in
     let f = c.args.f.now in
     let row : ℕ × InterestRow g.row.K.Denot = (c.in-Some.id.now, c.in-Some.held.now) in
     let later = c.next.new.self in
@@ -47,12 +48,12 @@ loop-id-preserved g c =
       among = among.1;
       index = λ fs one was.
           let now = rw steps at (c.loop-id.invariant.index fs one was) in
-          index_alike anchored c.remove.new.self _ (filter (stays anchored f.number later) (flat_map token_rows fs)) (λ test. one_less anchored f.number row later (above_of row later sorted) test (flat_map token_rows fs))
-          (removed anchored f.number row.0 row.1.expr c.loop-id.index c.remove.new.self (filter (stays anchored f.number (row ∷ later)) (flat_map token_rows fs)) changed
-          (none_of_kept anchored _ (stays anchored f.number (row ∷ later)) (flat_map token_rows fs) (only_one anchored row.0 row.1 f fs c.loop-id.invariant.whole among.0 one.only)) now);
+          index_alike cmp c.remove.new.self _ (filter (stays f.number later) (flat_map token_rows fs)) (λ test. one_less cmp total f.number row later (above_of row later sorted) test (flat_map token_rows fs))
+          (removed cmp total f.number row.0 row.1.expr c.loop-id.index c.remove.new.self (filter (stays f.number (row ∷ later)) (flat_map token_rows fs)) changed
+          (none_of_kept cmp total _ (stays f.number (row ∷ later)) (flat_map token_rows fs) (only_one cmp total row.0 row.1 f fs c.loop-id.invariant.whole among.0 one.only)) now);
     }
 
 pub returns : goal.returns
 returns g c fs one was =
     let ended = c.in-None.ensures.steps.0 in
-    subst (IsIndexOf g.K.Key.anchored c.loop-id.index) (others_stay g.K.Key.anchored c.args.f.now.number fs) (rw ended at (c.loop-id.invariant.index fs one was))
+    subst (IsIndexOf g.K.Ord.cmp c.loop-id.index) (others_stay g.K.Ord.cmp g.met.K.Ord.total c.args.f.now.number fs) (rw ended at (c.loop-id.invariant.index fs one was))

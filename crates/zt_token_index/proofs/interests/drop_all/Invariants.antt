@@ -14,6 +14,6 @@ invariant-loop-id g l = record {
   whole : IsInOrder l.f.held;
   in_order : IsInOrder l.id-iterator;
   among : AllByRecursion (λ row. at_id row.0 l.f.held ≡ Some row.1) l.id-iterator;
-  index : (fs : List (Face g.row.K.Denot)) → IsOnlyOne l.f fs → IsIndexOf g.K.Key.anchored l.fn.index (flat_map token_rows fs)
-      → IsIndexOf g.K.Key.anchored l.index (filter (stays g.K.Key.anchored l.f.number l.id-iterator) (flat_map token_rows fs));
+  index : (fs : List (Face g.row.K.Denot)) → IsOnlyOne l.f fs → IsIndexOf g.K.Ord.cmp l.fn.index (flat_map token_rows fs)
+      → IsIndexOf g.K.Ord.cmp l.index (filter (stays l.f.number l.id-iterator) (flat_map token_rows fs));
 }

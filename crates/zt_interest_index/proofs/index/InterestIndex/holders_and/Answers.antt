@@ -1,18 +1,21 @@
-use Rattle.std.proofs.Common.{◌||◌, ap, sym, ◌∙◌}
+use Rattle.std.proofs.Common.{sym, ◌∙◌}
 use Rattle.std.specs.Cmp.{unsigned_tied}
-use Rattle.zt_interest_index.specs.Holders.{any_alike, asks_at, holders-found}
+use Rattle.std.specs.List.{list_any}
+use Rattle.zt_interest_index.specs.Holders.{any_alike}
 use Rattle.zt_interest_index.specs.Holdings.{asks_from, is_among}
-use Rattle.zt_interest_index.specs.Index.{at_numbers, with_any}
-use Rattle.zt_interest_index.proofs.InOrder.{or_rest}
-use Rattle.zt_interest_index.proofs.Changed.{nothing-from}
-use Rattle.zt_interest_index.proofs.Looked.{all-in-any, asks-both}
+use Rattle.zt_interest_index.proofs.Changed.{nothing-from, unordered}
+use Rattle.zt_interest_index.proofs.Found.{any_found, found-all, found-any, held-any}
 use Rattle.zt_interest_index.proofs.index.InterestIndex.holders_and.Goals as goal
 
 pub returns-then-is_empty : goal.returns-then-is_empty
 returns-then-is_empty g c held indexed =
-    let there = rw (← c.self.view_is) at indexed in
-    let rows = c.self.inside.any in
-    let entries = c.self.inside.numbered.entries in
+    let cmp = g.K.Ord.cmp in
+    let total = g.met.K.Ord.total in
+    let matching = g.K.Key.matching in
+    let expr = c.args.expr.now in
+    let any = c.self.inside.any in
+    let entries = c.self.inside.keyed.entries in
+    let there = unordered cmp total any entries held (rw (← c.self.view_is) at indexed) in
     let none = nothing-from entries (c.is_empty.ensures.0 c.if-is_empty.true) in
     record {
       in_order = c.put_in_order.ensures.in_order;
@@ -20,26 +23,26 @@ returns-then-is_empty g c held indexed =
           any_alike _ _ (unsigned_tied n) c.put_in_order.new.numbers.items
           ∙ c.put_in_order.ensures.same n
           ∙ c.in_ok-found.ensures n
-          ∙ ap (λ asked. is_among n c.args.others.now || asked) (all-in-any g.K.Key.anchored rows held entries none there (asks_from g.K.Key.matching c.args.expr.now n));
+          ∙ any_found (is_among n c.args.others.now) (list_any (asks_from matching expr n) any) (list_any (asks_from matching expr n) held)
+          (held-any cmp total matching expr n any entries held there) (found-any cmp total matching expr n any entries held there none);
     }
 
 pub returns : goal.returns
 returns g c held indexed =
-    let there = rw (← c.self.view_is) at indexed in
+    let cmp = g.K.Ord.cmp in
+    let total = g.met.K.Ord.total in
     let matching = g.K.Key.matching in
     let expr = c.args.expr.now in
-    let numbers = c.in-Some.numbers in
-    let rows = c.self.inside.any in
-    let entries = c.self.inside.numbered.entries in
+    let any = c.self.inside.any in
+    let entries = c.self.inside.keyed.entries in
+    let there = unordered cmp total any entries held (rw (← c.self.view_is) at indexed) in
     record {
       in_order = c.put_in_order-2.ensures.in_order;
       among = λ n.
           any_alike _ _ (unsigned_tied n) c.put_in_order-2.new.numbers.items
           ∙ c.put_in_order-2.ensures.same n
-          ∙ c.in_ok-gather_all.ensures n
-          ∙ ap (λ b. b || asks_at matching expr n (at_numbers entries) c.places_of.result) (c.in_ok-found-2.ensures n)
-          ∙ or_rest _ _ _ _ (ap (asks_at matching expr n (at_numbers entries)) c.places_of.ensures)
-          ∙ ap (λ asked. is_among n c.args.others.now || asked)
-          (sym (asks-both matching expr n numbers rows entries)
-          ∙ holders-found matching g.K.Key.anchored g.met.K.Key.laws.anchors_agree expr numbers (sym c.in-Some.ensures) (with_any rows (at_numbers entries)) held there n);
+          ∙ c.in_ok-gather_wilds.ensures n
+          ∙ rw (c.in_ok-gather_from.ensures n, c.in_ok-found-2.ensures n)
+          (found-all cmp total matching expr n any entries held there g.K.Key.anchored g.K.Key.numbered g.met.K.Key.laws.equal_is_same g.met.K.Key.laws.plain_is_same g.met.K.Key.numbers_agree
+          c.self.inside.wilds c.self.invariant (sym c.is_plain.ensures ∙ c.if-not-is_plain.false) (is_among n c.args.others.now));
     }
