@@ -1,2 +1,6 @@
 mod Highest
+mod Known
 pub mod Rising
+mod Routers
+pub mod Said
+mod Standings

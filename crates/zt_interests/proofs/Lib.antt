@@ -4,3 +4,4 @@ mod Gone
 mod HeldSouth
 mod Numbered
 mod North
+mod Asked

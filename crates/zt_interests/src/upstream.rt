@@ -1,6 +1,9 @@
 // An interest ends upstream, and the end of what was sent upstream ends asks.
-ghost use Rattle.std.specs.Prelude.{◌≡◌, ℕ, ◌&&◌, ◌++◌, ◌==◌, IfOk, OnOk, map, not};
+ghost use Rattle.std.specs.Prelude.{◌≡◌, ℕ, ◌&&◌, ◌++◌, ◌==◌, IfOk, OnOk, map, not, true};
 ghost use Rattle.std.specs.List.{list_any};
+ghost use Rattle.zt_faces.specs.Asked.{IsAskerOf};
+ghost use Rattle.zt_faces.specs.Rising.{IsRising};
+ghost use Rattle.zt_faces.specs.declared.asked.Asker.TheVariants.{One};
 ghost use Rattle.zt_interests.specs.Chosen.{all_chosen, chosen};
 ghost use Rattle.zt_interests.specs.Held.{holds_south_as, is_held_as};
 ghost use Rattle.zt_model.specs.Routing.{asks_same, end_upstream, finish, finish_to};
@@ -17,7 +20,7 @@ use bitflags::Flags;
 use std::alloc::Global;
 use zt_keys::{Key, Memory};
 use zt_protocol::{InterestId, InterestOptions, Message};
-use zt_state::{AskState, FaceState, GatewayState, RemoteInterest};
+use zt_state::{AskState, Asker, FaceState, GatewayState, RemoteInterest};
 use zt_tokens::{FaceRule, find_face, say_at};
 
 // Whether the face holds such an interest.
@@ -197,25 +200,65 @@ fn stands<K: Key>(g: &GatewayState<K>, pending: (u32, u32)) -> bool
     }
 }
 
-// Whether the ask was sent upstream, to this face under this id.
-fn was_sent_as<K: Key>(ask: &AskState<K>, face: u32, id: InterestId) -> bool
+// Whether the ask was sent upstream to this face, under this id. It is looked for at a place first.
+fn was_sent_as<K: Key>(ask: &AskState<K>, place: usize, face: u32, id: InterestId) -> bool
     ensures { result ≡ was_sent_as face id ask.now }
 {
-    ask.pendings().iter().any(|p| face == p.0 && id == p.1)
+    let pendings = ask.pendings();
+    match pendings.get(place) {
+        Some(p) if face == p.0 && id == p.1 => true,
+        _ => pendings.iter().any(|p| face == p.0 && id == p.1),
+    }
 }
 
-// Whether a pending of the ask stands.
-fn waits<K: Key>(g: &GatewayState<K>, ask: &AskState<K>) -> bool
-    ensures { result ≡ list_any (stands g.now) ask.now.pendings }
+// Whether one of these pendings stands.
+fn does_any_stand<K: Key>(g: &GatewayState<K>, pendings: &[(u32, u32)]) -> bool
+    ensures { result ≡ list_any (stands g.now) pendings.now }
 {
-    ask.pendings().iter().any(|p| stands(g, *p))
+    pendings.iter().any(|p| stands(g, *p))
 }
 
-// Whether the ask had this pending, and has none any more.
-fn is_finished_by<K: Key>(g: &GatewayState<K>, face: u32, id: InterestId, ask: &AskState<K>) -> bool
+// Whether one stands of the pendings that are nearer to a place than `reach`.
+fn does_near_stand<K: Key>(
+    g: &GatewayState<K>,
+    pendings: &[(u32, u32)],
+    place: usize,
+    reach: usize,
+) -> bool
+    ensures { result ≡ true → list_any (stands g.now) pendings.now ≡ true }
+{
+    let from = place.saturating_sub(reach);
+    let to = place.saturating_add(reach).min(pendings.len());
+    from < to && does_any_stand(g, &pendings[from..to])
+}
+
+// Whether one of these pendings stands. It is looked for around a place, ever farther: where one
+// after another ends, in whatever order, the next that stands is near to most of them.
+fn does_one_stand<K: Key>(g: &GatewayState<K>, pendings: &[(u32, u32)], place: usize) -> bool
+    ensures { result ≡ list_any (stands g.now) pendings.now }
+{
+    let mut reach: usize = 4;
+    while reach < pendings.len() {
+        if does_near_stand(g, pendings, place, reach) {
+            return true;
+        }
+        reach = reach.saturating_mul(4);
+    }
+    does_any_stand(g, pendings)
+}
+
+// Whether the ask had this pending, which may be found at a place, and has none any more.
+fn is_finished_by<K: Key>(
+    g: &GatewayState<K>,
+    face: u32,
+    id: InterestId,
+    place: u32,
+    ask: &AskState<K>,
+) -> bool
     ensures { result ≡ is_finished_by g.now face id ask.now }
 {
-    was_sent_as(ask, face, id) && !waits(g, ask)
+    let place = place as usize;
+    was_sent_as(ask, place, face, id) && !does_one_stand(g, ask.pendings(), place)
 }
 
 // Adds the final of the ask under an id, where it is finished.
@@ -223,6 +266,7 @@ fn finish_row<K: Key>(
     g: &GatewayState<K>,
     face: u32,
     id: InterestId,
+    place: u32,
     f: &FaceState<K>,
     under: InterestId,
     ask: &AskState<K>,
@@ -232,7 +276,7 @@ fn finish_row<K: Key>(
         ++ chosen (λ (r : ℕ × Ask K). is_finished_by g.now face id r.1)
         (λ r. (f.now.number, message.DeclareFinal r.0)) (under, ask.now)) }
 {
-    if is_finished_by(g, face, id, ask) {
+    if is_finished_by(g, face, id, place, ask) {
         sends.push((f.number(), Message::DeclareFinal { interest_id: under }))?;
     }
     Ok(())
@@ -250,14 +294,13 @@ fn finish_to<K: Key>(
         ++ map (λ m. (f.now.number, m)) (finish_to g.now face id f.now)) }
 {
     for (under, ask) in f.asks().iter() {
-        finish_row(g, face, id, f, *under, ask, sends)?;
+        finish_row(g, face, id, 0, f, *under, ask, sends)?;
     }
     Ok(())
 }
 
-/// The asks whose last pending was that of the face under this id get their finals. The only error
-/// is want of memory.
-pub fn finish<K: Key>(
+// The finals of all asks that are finished, asking each.
+fn finish_each<K: Key>(
     alloc: Global,
     g: &GatewayState<K>,
     face: u32,
@@ -270,4 +313,50 @@ pub fn finish<K: Key>(
         finish_to(g, face, id, f, &mut sends)?;
     }
     Ok(sends)
+}
+
+// The final of the one ask that was sent so, of a face under an id, where it is finished.
+fn finish_asker<K: Key>(
+    alloc: Global,
+    g: &GatewayState<K>,
+    face: u32,
+    id: InterestId,
+    asker: u32,
+    under: InterestId,
+    place: u32,
+) -> Result<Vec<(u32, Message<K>)>, Memory>
+    requires rising { IsRising (λ f. f.number) g.now.faces }
+    requires asker { IsAskerOf (One asker under place) face id g.now.faces }
+    ensures { IfOk result (λ sends. sends.items ≡ finish face id g.now) }
+{
+    let mut sends = Vec::new(alloc);
+    let Some(f) = find_face(g, asker) else {
+        return Ok(sends);
+    };
+    let Some(ask) = f.asks().at(under) else {
+        return Ok(sends);
+    };
+    finish_row(g, face, id, place, f, under, ask, &mut sends)?;
+    Ok(sends)
+}
+
+/// The asks whose last pending was that of the face under this id get their finals. The only error
+/// is want of memory.
+pub fn finish<K: Key>(
+    alloc: Global,
+    g: &GatewayState<K>,
+    face: u32,
+    id: InterestId,
+) -> Result<Vec<(u32, Message<K>)>, Memory>
+    ensures { IfOk result (λ sends. sends.items ≡ finish face id g.now) }
+{
+    match g.asker(face, id) {
+        Asker::Nobody => Ok(Vec::new(alloc)),
+        Asker::One {
+            face: asker,
+            id: under,
+            place,
+        } => finish_asker(alloc, g, face, id, asker, under, place),
+        Asker::Several => finish_each(alloc, g, face, id),
+    }
 }

@@ -1,9 +1,6 @@
 // Tokens on their way along the trees.
-ghost use Rattle.std.specs.Prelude.{◌≡◌, ◌&&◌, ◌++◌, [], IfOk, OnOk, map};
-ghost use Rattle.std.specs.Option.{option_copied};
-ghost use Rattle.zt_model.specs.Lists.{first_where};
+ghost use Rattle.std.specs.Prelude.{◌≡◌, ◌++◌, [], IfOk, OnOk, map};
 ghost use Rattle.zt_model.specs.Trees.{is_face_of_router, pass_on, unpass};
-ghost use Rattle.zt_region.specs.Region.{region_eq, zid_eq};
 ghost use Rattle.zt_routers.specs.Branches.{IsBranchOf, IsOwnBranch};
 ghost use Rattle.zt_routers.specs.Branches.{is_reached, passed, unpassed};
 
@@ -15,24 +12,11 @@ use zt_protocol::Message;
 use zt_region::{NodeId, Region, Zid};
 use zt_state::{FaceState, GatewayState};
 
-// The lowest open face of a region behind which the router stands.
-fn find_face_of<K: Key>(g: &GatewayState<K>, region: Region, zid: Zid) -> Option<&FaceState<K>>
-    ensures { option_copied result
-        ≡ first_where (λ x. region_eq x.region region && zid_eq x.zid zid) g.now.faces }
-{
-    for f in g.faces() {
-        if f.region() == region && f.zid() == zid {
-            return Some(f);
-        }
-    }
-    None
-}
-
 // Whether the face stands for its router.
 pub(crate) fn is_face_of_router<K: Key>(g: &GatewayState<K>, f: &FaceState<K>) -> bool
     ensures { result ≡ is_face_of_router g.now f.now }
 {
-    match find_face_of(g, f.region(), f.zid()) {
+    match g.find_face_of(f.region(), f.zid()) {
         None => false,
         Some(first) => first.number() == f.number(),
     }

@@ -8,31 +8,10 @@ use crate::changes::empty;
 use crate::gateway::GatewayState;
 use std::alloc::Global;
 use zt_face::{FaceState, RemoteInterest};
-use zt_faces::{FaceAddition, FaceChange, Faces};
+use zt_faces::{FaceChange, Faces};
 use zt_keys::{Key, Memory};
 use zt_protocol::InterestId;
 use zt_token_index::Seekers;
-
-// An interest of a face, which was sent upstream as these.
-#[derive(Drop)]
-struct Asks<'a, K: Key> {
-    id: InterestId,
-    interest: &'a RemoteInterest<K>,
-    pendings: &'a [(u32, u32)],
-}
-
-impl<'a, K: Key> FaceAddition<K> for Asks<'a, K> {
-    ghost use Rattle.std.specs.Prelude.{refl};
-    ghost use Rattle.zt_model.specs.Routing.{asked_as};
-
-    ghost added = { λ c. asked_as c.pendings.now c.id c.interest.now };
-
-    ghost keeps_number = { λ _ _. refl };
-
-    fn add(&self, alloc: Global, f: &mut FaceState<K>) -> Result<(), Memory> {
-        f.ask(alloc, self.id, self.interest, self.pendings)
-    }
-}
 
 // An interest that a face holds no more.
 #[derive(Drop)]
@@ -46,7 +25,11 @@ impl<K: Key> FaceChange<K> for Unhold {
 
     ghost keeps_number = { λ _ _. refl };
 
+    ghost keeps_router = { λ _ _. record { region = refl; zid = refl } };
+
     ghost keeps_next = { λ _ _. refl };
+
+    ghost keeps_asks = { λ _ _ _ known. known };
 
     fn change(&self, f: &mut FaceState<K>) {
         f.unhold(self.0);
@@ -72,12 +55,7 @@ fn ask_in<K: Key>(
         return Ok(());
     };
     seekers.hold(alloc, f, id, interest)?;
-    let asks = Asks {
-        id,
-        interest,
-        pendings,
-    };
-    faces.add(alloc, face, &asks)
+    faces.ask(alloc, face, id, interest, pendings)
 }
 
 // The face of the number holds an interest no more.

@@ -22,7 +22,11 @@ impl<K: Key> FaceChange<K> for EndPending {
 
     ghost keeps_number = { λ _ _. refl };
 
+    ghost keeps_router = { λ _ _. record { region = refl; zid = refl } };
+
     ghost keeps_next = { λ _ _. refl };
+
+    ghost keeps_asks = { λ _ _ _ known. known };
 
     fn change(&self, f: &mut FaceState<K>) {
         f.end_pending(self.0);
@@ -47,7 +51,11 @@ impl<K: Key> FaceChange<K> for FinaliseInitial {
 
     ghost keeps_number = { λ _ _. refl };
 
+    ghost keeps_router = { λ _ _. record { region = refl; zid = refl } };
+
     ghost keeps_next = { λ _ _. refl };
+
+    ghost keeps_asks = { λ _ _ _ known. known };
 
     fn change(&self, f: &mut FaceState<K>) {
         f.finalise_initial(self.0);
@@ -72,7 +80,11 @@ impl<K: Key> FaceChange<K> for DropAsks {
 
     ghost keeps_number = { λ _ _. refl };
 
+    ghost keeps_router = { λ _ _. record { region = refl; zid = refl } };
+
     ghost keeps_next = { λ _ _. refl };
+
+    ghost keeps_asks = { λ _ _ _ _. tt };
 
     fn change(&self, f: &mut FaceState<K>) {
         f.drop_asks();

@@ -1,9 +1,11 @@
 // A gateway with its faces.
-ghost use Rattle.std.specs.Prelude.{◌≡◌, [], filter, map, IfNone, IfOk, IfSome};
+ghost use Rattle.std.specs.Prelude.{◌≡◌, ◌&&◌, [], filter, map, IfNone, IfOk, IfSome};
 ghost use Rattle.std.specs.List.{flat_map};
 ghost use Rattle.std.specs.Option.{option_copied};
+ghost use Rattle.zt_faces.specs.Asked.{IsAskerOf};
 ghost use Rattle.zt_faces.specs.Rising.{AreUpTo, IsRising};
 ghost use Rattle.zt_model.specs.Fabric.{new_rows};
+ghost use Rattle.zt_model.specs.Lists.{first_where};
 ghost use Rattle.zt_model.specs.Parts.{find_face};
 ghost use Rattle.zt_model.specs.Trees.{counted_table, table_of};
 ghost use Rattle.zt_model.specs.Visible.{live_rows};
@@ -13,7 +15,7 @@ ghost use Rattle.zt_interest_index.specs.Holders.{HasAllIn};
 ghost use Rattle.zt_token_index.specs.Seekers.{token_rows};
 ghost use Rattle.zt_token_index.specs.Retold.{told_id_at};
 ghost use Rattle.zt_region.specs.Admission.{admits};
-ghost use Rattle.zt_region.specs.Region.{is_north};
+ghost use Rattle.zt_region.specs.Region.{is_north, region_eq, zid_eq};
 ghost use Rattle.zt_state.specs.Told.{AreToldIds};
 ghost use Rattle.zt_token_index.specs.Told.{AreRising};
 
@@ -21,11 +23,12 @@ use std::alloc::Global;
 use std::collections::BTreeMap;
 use std::marker::Model;
 use zt_face::FaceState;
-use zt_faces::Faces;
+use zt_faces::{Asker, Faces};
 use zt_indexes::LiveCounts;
 use zt_keys::{Key, Memory};
 use zt_link_state::{KeptTable, RoutedTokens};
 use zt_lookups::{Dictionary, RefusedPairs};
+use zt_protocol::InterestId;
 use zt_region::{Admission, Region, WhatAmI, Zid};
 use zt_token_index::Seekers;
 
@@ -258,6 +261,22 @@ impl<K: Key> GatewayState<K> {
         ensures { option_copied result ≡ find_face number self.now }
     {
         self.faces.find(number)
+    }
+
+    /// Whose asks were sent upstream to a face under an id. A look-up.
+    pub fn asker(&self, face: u32, id: InterestId) -> Asker
+        ensures asker { IsAskerOf result face id self.now.faces }
+        ensures rising { IsRising (λ f. f.number) self.now.faces }
+    {
+        self.faces.asker(face, id)
+    }
+
+    /// The lowest open face of a region behind which the router stands. Found by halves.
+    pub fn find_face_of(&self, region: Region, zid: Zid) -> Option<&FaceState<K>>
+        ensures { option_copied result
+            ≡ first_where (λ f. region_eq f.region region && zid_eq f.zid zid) self.now.faces }
+    {
+        self.faces.find_of_router(region, zid)
     }
 
     /// The open faces, in order of number.

@@ -24,11 +24,15 @@ struct Hears<'a, K: Key> {
 
 impl<'a, K: Key> FaceAddition<K> for Hears<'a, K> {
     ghost use Rattle.zt_face.specs.Told.{heard_known};
-    ghost use Rattle.zt_state.specs.Keeps.{known-keeps};
+    ghost use Rattle.zt_state.specs.Keeps.{known-keeps, known-keeps-asks, known-keeps-router};
 
     ghost added = { λ c. heard_known K.cmp c.moment c.message.now c.known };
 
     ghost keeps_number = { λ c f. (known-keeps K.cmp c.moment c.message.now c.known f).number };
+
+    ghost keeps_router = { λ c f. known-keeps-router K.cmp c.moment c.message.now c.known f };
+
+    ghost keeps_asks = { λ c f. known-keeps-asks K.cmp c.moment c.message.now c.known f };
 
     fn add(&self, alloc: Global, f: &mut FaceState<K>) -> Result<(), Memory> {
         f.hear(alloc, self.moment, self.message, self.known)

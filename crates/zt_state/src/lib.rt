@@ -18,3 +18,4 @@ pub use zt_face::{
     AskState, FaceState, LocalInterests, LocalTokens, PendingInterest, RemoteInterest, RowsById,
     is_among,
 };
+pub use zt_faces::Asker;

@@ -39,6 +39,10 @@ impl<'a, K: Key> FaceAddition<K> for Registers<'a, K> {
 
     ghost keeps_number = { λ _ _. refl };
 
+    ghost keeps_router = { λ _ _. record { region = refl; zid = refl } };
+
+    ghost keeps_asks = { λ _ _ _ known. known };
+
     fn add(&self, alloc: Global, f: &mut FaceState<K>) -> Result<(), Memory> {
         f.register(alloc, self.id, self.expr)
     }
@@ -56,7 +60,11 @@ impl<K: Key> FaceChange<K> for Unregisters {
 
     ghost keeps_number = { λ _ _. refl };
 
+    ghost keeps_router = { λ _ _. record { region = refl; zid = refl } };
+
     ghost keeps_next = { λ _ _. refl };
+
+    ghost keeps_asks = { λ _ _ _ known. known };
 
     fn change(&self, f: &mut FaceState<K>) {
         f.unregister(self.0);

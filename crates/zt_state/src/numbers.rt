@@ -60,6 +60,10 @@ impl<'a, K: Key> FaceAddition<K> for SetsEntities<'a, K> {
 
     ghost keeps_number = { λ _ _. refl };
 
+    ghost keeps_router = { λ _ _. record { region = refl; zid = refl } };
+
+    ghost keeps_asks = { λ _ _ _ known. known };
+
     fn add(&self, alloc: Global, f: &mut FaceState<K>) -> Result<(), Memory> {
         f.set_entities(alloc, self.subscribers, self.queryables)
     }

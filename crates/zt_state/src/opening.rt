@@ -18,6 +18,7 @@ use zt_token_index::Seekers;
 // A face opens that holds nothing and was told nothing yet, under a number above `made`. The only
 // error is want of memory.
 fn open_in<K: Key>(
+    alloc: Global,
     faces: &mut Faces<K>,
     seekers: &mut Seekers<K>,
     face: FaceState<K>,
@@ -32,7 +33,7 @@ fn open_in<K: Key>(
     ensures seekers { OnOk result (AreSeekers K.cmp K.anchored seekers.new faces.new) }
 {
     seekers.open(&face)?;
-    faces.push(face, made)
+    faces.push(alloc, face, made)
 }
 
 // Whether the initial interest of a new face is finalised, if it has one: at first it isn't.
@@ -57,7 +58,7 @@ impl<K: Key> GatewayState<K> {
           faces = self.old.faces ++ face ∷ [];
         }) }
     {
-        match open_in(&mut self.faces, &mut self.seekers, face, self.made) {
+        match open_in(alloc, &mut self.faces, &mut self.seekers, face, self.made) {
             Ok(()) => {
                 self.made += 1;
                 Ok(())

@@ -6,3 +6,4 @@ pub mod Unsought
 mod Unheard
 mod Gone
 pub mod Told
+mod Asked

@@ -7,6 +7,9 @@ ghost use Rattle.zt_model.specs.Telling.{answered_expressions, is_answered_by, w
 ghost use Rattle.zt_model.specs.Visible.{visible_expressions};
 ghost use Rattle.zt_model.specs.Wants.{is_about};
 ghost use Rattle.zt_protocol.specs.Interest.{has_tokens, is_current, is_future};
+ghost use Rattle.zt_faces.specs.Asked.{IsAskerOf};
+ghost use Rattle.zt_faces.specs.Rising.{IsRising};
+ghost use Rattle.zt_faces.specs.declared.asked.Asker.TheVariants.{One};
 ghost use Rattle.zt_token_index.specs.Retold.{told_id_at};
 ghost use Rattle.zt_token_index.specs.Told.{AreRising};
 ghost use Rattle.zt_tokens.specs.Answered.{answer_message, answer_of, answer_told, id_after};
@@ -18,7 +21,7 @@ use std::alloc::Global;
 use zt_keys::{Key, Memory};
 use zt_protocol::{InterestId, InterestMode, InterestOptions, Message, TokenId};
 use zt_region::Region;
-use zt_state::{AskState, FaceState, GatewayState, RemoteInterest, is_among};
+use zt_state::{AskState, Asker, FaceState, GatewayState, RemoteInterest, is_among};
 use zt_token_index::id_in;
 
 // Whether the interest asks for tokens that are there now.
@@ -179,11 +182,31 @@ pub fn answer_interest<K: Key>(
     answer_all(alloc, g, face, f, interest.mode(), id, &exprs)
 }
 
-// Whether the ask was sent upstream to this face, under this id.
-fn was_sent_as<K: Key>(face: u32, id: InterestId, ask: &AskState<K>) -> bool
+// Whether the ask was sent upstream to this face, under this id. It is looked for at a place first.
+fn was_sent_as<K: Key>(face: u32, id: InterestId, place: u32, ask: &AskState<K>) -> bool
     ensures { result ≡ was_sent_as face id ask.now }
 {
-    ask.pendings().iter().any(|p| face == p.0 && id == p.1)
+    let pendings = ask.pendings();
+    match pendings.get(place as usize) {
+        Some(p) if face == p.0 && id == p.1 => true,
+        _ => pendings.iter().any(|p| face == p.0 && id == p.1),
+    }
+}
+
+// Whether a token that the face declares for the interest which was sent to it as `id` answers the
+// ask, among whose pendings this may stand at a place.
+fn is_answered_at<K: Key>(
+    face: u32,
+    id: InterestId,
+    place: u32,
+    expr: &K,
+    ask: &AskState<K>,
+) -> bool
+    ensures { result ≡ is_answered_by K.cmp K.matching face id expr.now ask.now }
+{
+    was_sent_as(face, id, place, ask)
+        && ask.interest().asks_token(expr)
+        && !is_among(expr, ask.answered())
 }
 
 /// Whether a token that the face declares for the interest which was sent to it as `id` answers the
@@ -191,7 +214,7 @@ fn was_sent_as<K: Key>(face: u32, id: InterestId, ask: &AskState<K>) -> bool
 pub fn is_answered_by<K: Key>(face: u32, id: InterestId, expr: &K, ask: &AskState<K>) -> bool
     ensures { result ≡ is_answered_by K.cmp K.matching face id expr.now ask.now }
 {
-    was_sent_as(face, id, ask) && ask.interest().asks_token(expr) && !is_among(expr, ask.answered())
+    is_answered_at(face, id, 0, expr, ask)
 }
 
 // Adds the answer of the ask under an id, where the token answers it. `told` has the faces that
@@ -201,6 +224,7 @@ fn answer_ask<K: Key>(
     f: &FaceState<K>,
     face: u32,
     id: InterestId,
+    place: u32,
     expr: &K,
     told: &[(u32, TokenId)],
     under: InterestId,
@@ -211,7 +235,7 @@ fn answer_ask<K: Key>(
     ensures { OnOk result (sends.new.items ≡ sends.old.items ++ map (λ m. (f.now.number, m))
         (answer_of K.cmp K.matching face id expr.now told.now f.now (under, ask.now))) }
 {
-    if is_answered_by(face, id, expr, ask) {
+    if is_answered_at(face, id, place, expr, ask) {
         let known = id_in(told, f.number());
         let mode = ask.interest().mode();
         answer_one(alloc, f.number(), f.next(), known, mode, under, expr, sends)?;
@@ -234,14 +258,13 @@ fn answer_to<K: Key>(
         (answer_told K.cmp K.matching face id expr.now told.now f.now)) }
 {
     for (under, ask) in f.asks().iter() {
-        answer_ask(alloc, f, face, id, expr, told, *under, ask, sends)?;
+        answer_ask(alloc, f, face, id, 0, expr, told, *under, ask, sends)?;
     }
     Ok(())
 }
 
-/// A token that the face declares for the interest which was sent to it as `id` answers the asks
-/// that were sent so. The only error is want of memory.
-pub fn answer<K: Key>(
+// The answers of all asks, asking each.
+fn answer_each<K: Key>(
     alloc: Global,
     g: &GatewayState<K>,
     face: u32,
@@ -257,4 +280,57 @@ pub fn answer<K: Key>(
         answer_to(alloc, face, id, expr, told, f, &mut sends)?;
     }
     Ok(sends)
+}
+
+// The answer of the one ask that was sent so, of a face under an id.
+fn answer_asker<K: Key>(
+    alloc: Global,
+    g: &GatewayState<K>,
+    face: u32,
+    id: InterestId,
+    expr: &K,
+    asker: u32,
+    under: InterestId,
+    place: u32,
+) -> Result<Vec<(u32, Message<K>)>, Memory>
+    requires rising { IsRising (λ f. f.number) g.now.faces }
+    requires asker { IsAskerOf (One asker under place) face id g.now.faces }
+    ensures { IfOk result (λ sends. sends.items
+        ≡ answer K.cmp K.matching face id expr.now g.now) }
+{
+    let told = g.told_at(expr);
+    let mut sends = Vec::new(alloc);
+    let Some(f) = find_face(g, asker) else {
+        return Ok(sends);
+    };
+    let Some(ask) = f.asks().at(under) else {
+        return Ok(sends);
+    };
+    answer_ask(
+        alloc, f, face, id, place, expr, told, under, ask, &mut sends,
+    )?;
+    Ok(sends)
+}
+
+/// A token that the face declares for the interest which was sent to it as `id` answers the asks
+/// that were sent so. The only error is want of memory.
+pub fn answer<K: Key>(
+    alloc: Global,
+    g: &GatewayState<K>,
+    face: u32,
+    id: InterestId,
+    expr: &K,
+) -> Result<Vec<(u32, Message<K>)>, Memory>
+    ensures { IfOk result (λ sends. sends.items
+        ≡ answer K.cmp K.matching face id expr.now g.now) }
+{
+    match g.asker(face, id) {
+        Asker::Nobody => Ok(Vec::new(alloc)),
+        Asker::One {
+            face: asker,
+            id: under,
+            place,
+        } => answer_asker(alloc, g, face, id, expr, asker, under, place),
+        Asker::Several => answer_each(alloc, g, face, id, expr),
+    }
 }

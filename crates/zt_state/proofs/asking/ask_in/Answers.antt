@@ -17,8 +17,8 @@ pub returns-clause-seekers : goal.returns-clause-seekers
 returns-clause-seekers g c =
     let change = asked_as c.args.pendings.now c.args.id c.args.interest.now in
     let fs = c.args.faces.now in
-    on_ok_weaker c.add.result
-    (λ (made : c.add.new.self ≡ map (λ (x : Face g.row.K.Denot). if c.args.face == x.number then change x else x) fs).
+    on_ok_weaker c.ask.result
+    (λ (made : c.ask.new.self ≡ map (λ (x : Face g.row.K.Denot). if c.args.face == x.number then change x else x) fs).
     subst (AreSeekers g.K.Ord.cmp g.K.Key.anchored c.hold.new.self) (sym made)
     (sought-changed g.K.Ord.cmp g.K.Key.anchored c.args.face c.in-Some.f.now fs c.in-Some.ensures.rising (sym c.in-Some.ensures.found) c.args.seekers.now c.hold.new.self c.requires change (c.in_ok-hold.ensures c.args.pendings.now)))
-    c.add.ensures.ok
+    c.ask.ensures.ok

@@ -1,7 +1,7 @@
 use Rattle.std.proofs.Common.{◌≡◌, ◌++◌, drop}
 use Rattle.zt_model.specs.Parts.{to_each}
 use Rattle.zt_tokens.specs.Answered.{answer_told}
-use Rattle.zt_tokens.proofs.answering.answer.Given as goal
+use Rattle.zt_tokens.proofs.answering.answer_each.Given as goal
 
 -- what is sent so far, and to the faces left, is all
 abbrev pub invariant-loop-f : goal.invariant-loop-f

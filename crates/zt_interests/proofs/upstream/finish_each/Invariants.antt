@@ -1,7 +1,7 @@
 use Rattle.std.proofs.Common.{◌≡◌, ◌++◌, drop}
 use Rattle.zt_model.specs.Parts.{to_each}
 use Rattle.zt_model.specs.Routing.{finish_to}
-use Rattle.zt_interests.proofs.upstream.finish.Given as goal
+use Rattle.zt_interests.proofs.upstream.finish_each.Given as goal
 
 -- what is sent so far, and to the faces left, is all
 abbrev pub invariant-loop-f : goal.invariant-loop-f

@@ -1,0 +1,7 @@
+use Rattle.std.proofs.lemmas.Result.{on_ok_weaker}
+use Rattle.zt_faces.proofs.Known.{asked-more}
+use Rattle.zt_faces.proofs.by_number.know.Goals as goal
+
+pub returns-clause-asked : goal.returns-clause-asked
+returns-clause-asked g c =
+    on_ok_weaker c.note_ask.result (λ here. asked-more _ _ c.note_ask.ensures.kept c.args.faces.now c.in_ok-tidy.ensures) c.note_ask.ensures.here
