@@ -68,6 +68,10 @@ BREAKS = {
     'gone': ('UndeclaresWhatIsGone', '', lambda key, entry, m: never_false('(%s refl)' % message('h', m))),
     'was-kept': ('UndeclaresWhatWasKept', '', lambda key, entry, m: never(message('h', m))),
     'ids': ('DrawsNextIds', '', lambda key, entry, g, f, n: never(message(face('h', g, f), n))),
+    'who-wants': ('ToWhoWants', '', lambda key, entry, g, f, n: never(message(face('h', g, f), n))),
+    'entities': ('EntitiesDue', 'each once', lambda key, entry, g, f: 'other_list _ _ %s refl' % face('h', g, f)),
+    'entities-order': ('EntitiesDue', 'in order', lambda key, entry, g, f: 'other_number _ _ (ap first_number %s) refl' % face('h', g, f)),
+    'nodes': ('GivenNodes', '', lambda key, entry, m: never(message('h', m))),
     'ends': ('EndsWhatStands', '', lambda key, entry, g, f, n: never(message(face('h', g, f), n))),
 }
 
@@ -84,8 +88,9 @@ KEEPS = {
         'SendsFinals', 5, 'record { asks = ((tt, ((refl, tt), tt)), tt); no_others = (refl, tt); come_last = ((tt, ((refl, tt), tt)), tt) }'),
 }
 
-# the words of zt_model for those of the crate
-NAMED = {'HasItsCause': 'IsRefusedByCause', 'LacksItsIds': 'LacksIdsByCall', 'IsInForm': 'IsEntry', 'NamesOpen': 'NamesOpenFaces', 'KeepsRightly': 'KeepsWhatItShould',
+# the words of zt_model and of theorems for those of the crate
+NAMED = {'ToWhoWants': 'UndeclaresToWhoWants', 'EntitiesDue': 'AnswersEntities', 'GivenNodes': 'PrintsGivenNodes',
+         'HasItsCause': 'IsRefusedByCause', 'LacksItsIds': 'LacksIdsByCall', 'IsInForm': 'IsEntry', 'NamesOpen': 'NamesOpenFaces', 'KeepsRightly': 'KeepsWhatItShould',
          'LacksEntries': 'IsFaithfulFrom', 'HasOtherTotals': 'report_of', 'IsNotTheMachines': 'entries_from'}
 
 class Wrong:
@@ -143,12 +148,12 @@ use Rattle.zt_model.specs.Promises.{%s}
 use Rattle.zt_model_test.specs.Script.{options}
 use Rattle.zt_promises_test.specs.Wrong.{%s}
 use Rattle.zt_promises_test.specs.Part$n as part
-use Rattle.zt_promises_test.proofs.Apart.{never, differ, other_number, other_list, other_cause, lines_of, messages_of_all}
+use Rattle.zt_promises_test.proofs.Apart.{never, differ, other_number, other_list, other_cause, first_number, lines_of, messages_of_all}
 use Rattle.zt_promises_test.proofs.Opened.{opened}
 '''
 OF_TURNS = ['KeepsExactly', 'IsSparing', 'IsMoreSparing', 'TellsTheFuture', 'TellsOfRouters', 'AnswersAsks', 'SendsFinals', 'FinishesInitial',
             'SendsUpstream', 'EndsUpstream', 'UndeclaresWhatIsGone', 'UndeclaresWhatWasKept', 'DrawsNextIds', 'EndsWhatStands']
-OF_ENTRIES = ['Refuses', 'Allows', 'HasItsCause', 'LacksItsIds', 'IsInForm', 'NamesOpen', 'KeepsRightly', 'LacksEntries', 'HasOtherTotals', 'IsNotTheMachines']
+OF_ENTRIES = ['Refuses', 'Allows', 'ToWhoWants', 'EntitiesDue', 'GivenNodes', 'HasItsCause', 'LacksItsIds', 'IsInForm', 'NamesOpen', 'KeepsRightly', 'LacksEntries', 'HasOtherTotals', 'IsNotTheMachines']
 
 FUNCTION = Template('''
 /// The promises refuse these transcripts.
@@ -165,10 +170,10 @@ returns g = record {
 $clauses}
 ''')
 
-LIBRARY = Template('''//! The wrong transcripts of `tests/wrong`: each breaks a promise of `zt_model`, but for one that has other totals than
-//! its lines and one that no promise forbids, which alone isn't the machine's own. A law is named for its script, and
-//! names the promise and the line whose entry breaks it. In `premises` stand the laws of scripts that lack a premise of the
-//! promises over trees.
+LIBRARY = Template('''//! The wrong transcripts of `tests/wrong`: each breaks a promise of `zt_model` or of `zt_theorem_exact_messages`, but for
+//! one that has other totals than its lines and one that no promise forbids, which alone isn't the machine's own. A law
+//! is named for its script, and names the promise and the line whose entry breaks it. In `premises` stand the laws of
+//! scripts that lack a premise of the promises over trees.
 //!
 //! $made
 #![tactic(auto)]
@@ -219,13 +224,14 @@ def write_part(n, part):
     write('proofs/part_%d_is_refused/Answers.antt' % n, ANSWERS.substitute(made=MADE, n=n, clauses=clauses))
 
 def write_opened():
-    """All that is closed in zt_model, but for changes of plans."""
+    """All that is closed in zt_model, but for changes of plans, and in the promises that stand in a theorem."""
     modules = []
-    for path in sorted(glob.glob(os.path.join(scripts.ROOT, 'crates', 'zt_model', 'specs', '*.antt'))):
-        module = os.path.basename(path)[:-len('.antt')]
-        names = re.findall(r'^\s*unfoldable pub (\w+) :', scripts.read(path), re.M)
-        if names and module not in ('Acts', 'Journal', 'Sessions', 'Sourced'): modules.append((module, names))
-    uses = ''.join('use Rattle.zt_model.specs.%s.{%s}\n' % (module, ', '.join(names)) for module, names in modules)
+    for crate in ('zt_model', 'zt_theorem_exact_messages'):
+        for path in sorted(glob.glob(os.path.join(scripts.ROOT, 'crates', crate, 'specs', '*.antt'))):
+            module = os.path.basename(path)[:-len('.antt')]
+            names = re.findall(r'^\s*unfoldable pub (\w+) :', scripts.read(path), re.M)
+            if names and module not in ('Acts', 'Journal', 'Sessions', 'Sourced'): modules.append((crate + '.specs.' + module, names))
+    uses = ''.join('use Rattle.%s.{%s}\n' % (module, ', '.join(names)) for module, names in modules)
     write('proofs/Opened.antt', OPENED.substitute(made=MADE, uses=uses, names=' '.join(name for _, names in modules for name in names)))
 
 def write_crate(wrongs):

@@ -20,6 +20,8 @@ use Rattle.zt_theorem_sparing.proofs.Kept.{turns_undeclare_kept}
 use Rattle.zt_theorem_sparing.proofs.MoreSparing.{turns_spare_more}
 use Rattle.zt_theorem_sparing.proofs.Sparing.{turns_spare}
 use Rattle.zt_theorem_sparing.proofs.Untelling.{turns_untell}
+use Rattle.zt_theorem_exact_messages.specs.Exact.{PrintsExactly}
+use Rattle.zt_theorem_exact_messages.proofs.Whole.{turns_print}
 use Rattle.zt_theorem_message_ids.specs.Anew.{TellsWhatIsNew}
 use Rattle.zt_theorem_message_ids.proofs.Turns.{turns_draw, turns_end as turns_name, turns_tell_news}
 use Rattle.zt_theorem_finals.proofs.Initial.{turns_finish_initial}
@@ -39,6 +41,7 @@ module _ {K : Type 0} (cmp : K → K → Ordering) (matching : K → K → Bool)
     pub promises : Each (MeetsPromises cmp matching) (turns_from cmp matching lines entries empty_fabric)
     pub stricter_promises : Each (MeetsStricterPromises cmp matching) (turns_from cmp matching lines entries empty_fabric)
     pub news : Each (TellsWhatIsNew cmp matching) (turns_from cmp matching lines entries empty_fabric)
+    pub exactly : Each (PrintsExactly cmp matching) (turns_from cmp matching lines entries empty_fabric)
     pub tree_promises : KeepTreePromises cmp matching (turns_from cmp matching lines entries empty_fabric)
 
   -- each promise of each turn
@@ -136,6 +139,7 @@ module _ {K : Type 0} (cmp : K → K → Ordering) (matching : K → K → Bool)
             ends = turns_name cmp matching total lines empty_fabric real ordered;
           });
           news = turns_tell_news cmp matching total lines empty_fabric real ordered;
+          exactly = turns_print cmp matching total lines empty_fabric real ordered;
           tree_promises = λ trees.
               let agree = agree_at_first cmp matching in
               let none : IsTreeFabric empty_fabric = record { north = tt; clients = tt } in

@@ -123,7 +123,7 @@ module _ {K : Type 0} (cmp : K → K → Ordering) (matching : K → K → Bool)
         → IsTranscript cmp matching reading texts (entries_from cmp matching p.lines empty_fabric)
     transcript_of texts text p =
         let right = law p.lines (first_ids_of reading texts p.lines p.are_read) (named_options_of reading texts p.lines p.are_read) in
-        record { lines = p.lines; are_read = p.are_read; are_the_machines = refl; are_faithful = right.faithful; are_strict = right.strict; keep_promises = right.promises; keep_stricter_promises = right.stricter_promises; tell_what_is_new = right.news; keep_tree_promises = right.tree_promises }
+        record { lines = p.lines; are_read = p.are_read; are_the_machines = refl; are_faithful = right.faithful; are_strict = right.strict; keep_promises = right.promises; keep_stricter_promises = right.stricter_promises; tell_what_is_new = right.news; print_exactly = right.exactly; keep_tree_promises = right.tree_promises }
 
     -- what was shown of a transcript
     record Told (texts : List (List ℕ)) (text : List ℕ) : Type 0 where

@@ -1,9 +1,11 @@
 -- What can't be: two values that a test tells apart.
-use Rattle.std.proofs.Common.{◌≡◌, ℕ, Bool, true, false, ◌==◌, not, if◌then◌else◌, List, length, sum_by, Option, Some, None, sym, ap, ◌∙◌, true≢false, eq-eqb}
+use Rattle.std.proofs.Common.{◌≡◌, ℕ, Bool, true, false, ◌==◌, not, if◌then◌else◌, List, ◌∷◌, length, sum_by, Option, Some, None, sym, ap, ◌∙◌, true≢false, eq-eqb}
 use Rattle.zt_protocol.specs.Plain.{PlainEntry}
 use Rattle.zt_protocol.specs.Refusal.{number_of}
 use Rattle.zt_protocol.specs.declared.entries.Report.{Report}
 use Rattle.zt_protocol.specs.declared.errors.Refusal.{Refusal}
+use Rattle.zt_protocol.specs.declared.messages.Message.{Message}
+use Rattle.zt_protocol.specs.declared.messages.Message.TheVariants.{DeclareSubscriber, DeclareQueryable}
 use Rattle.zt_model.specs.Transcript.{messages_in}
 
 pub never : {b : Bool} → b ≡ true → b ≡ false → ⊥
@@ -28,6 +30,12 @@ number_at (Some refusal) = number_of refusal
 
 pub other_cause : (a b : Option Refusal) → a ≡ b → (number_at a == number_at b) ≡ false → ⊥
 other_cause a b same_ apart = other_number (number_at a) (number_at b) (ap number_at same_) apart
+
+-- the number of the first entity among messages
+abbrev pub first_number : List (Message ℕ) → ℕ
+first_number (DeclareSubscriber number e interest ∷ ms) = number
+first_number (DeclareQueryable number e info interest ∷ ms) = number
+first_number _ = 0
 
 -- ---- of whole transcripts
 

@@ -5,9 +5,9 @@ use Rattle.zt_protocol.specs.Refusal.{number_of}
 use Rattle.zt_protocol.specs.declared.interests.InterestMode.TheVariants.{Future}
 use Rattle.zt_model.specs.Promises.{IsSparing, AnswersAsks, SendsFinals, SendsUpstream, EndsUpstream, EndsWhatStands}
 use Rattle.zt_model_test.specs.Script.{options}
-use Rattle.zt_promises_test.specs.Wrong.{Refuses, HasItsCause, IsInForm, NamesOpen, IsNotTheMachines}
+use Rattle.zt_promises_test.specs.Wrong.{Refuses, EntitiesDue, HasItsCause, NamesOpen, IsNotTheMachines}
 use Rattle.zt_promises_test.specs.Part1 as part
-use Rattle.zt_promises_test.proofs.Apart.{never, differ, other_number, other_list, other_cause, messages_of_all}
+use Rattle.zt_promises_test.proofs.Apart.{never, differ, other_number, other_list, other_cause, first_number, messages_of_all}
 use Rattle.zt_promises_test.proofs.Opened.{opened}
 
 -- refuses every call with UnknownFace
@@ -85,22 +85,22 @@ pub ended_while_another_region_holds : Refuses EndsUpstream 7 part.ended_while_a
 unfolding opened
 ended_while_another_region_holds = λ h. differ _ _ (h.0.0 refl (record { mode = Future; options = (options 8); expr = Some 0 })) refl
 
--- tells every visible token to every face, interests ignored
-pub everybody_is_told : Refuses IsSparing 4 part.everybody_is_told
+-- answers subscribers out of order of their expressions
+pub entities_out_of_order : Refuses EntitiesDue 5 part.entities_out_of_order
 unfolding opened
-everybody_is_told = λ h. never ((h.0 refl).1) refl
+entities_out_of_order = λ h. other_number _ _ (ap first_number h.0.0) refl
 
--- prints messages out of order of face
-pub faces_out_of_order : Refuses IsInForm 6 part.faces_out_of_order
+-- answers an interest a subscriber after its final
+pub entity_after_the_final : Refuses EntitiesDue 5 part.entity_after_the_final
 unfolding opened
-faces_out_of_order = λ h. never h.in_order.0 refl
+entity_after_the_final = λ h. other_list _ _ h.0.0 refl
 
--- sends a second final after expiry
-pub final_at_expiry_and_again : Refuses SendsFinals 6 part.final_at_expiry_and_again
+-- answers one queryable twice
+pub entity_answered_twice : Refuses EntitiesDue 5 part.entity_answered_twice
 unfolding opened
-final_at_expiry_and_again = λ h. never h.no_others.0 refl
+entity_answered_twice = λ h. other_list _ _ h.0.0 refl
 
--- sends every final at once and asks nobody north
-pub final_at_once_and_nobody_asked : Refuses SendsUpstream 4 part.final_at_once_and_nobody_asked
+-- answers an interest in subscribers one of two
+pub entity_left_out : Refuses EntitiesDue 5 part.entity_left_out
 unfolding opened
-final_at_once_and_nobody_asked = λ h. other_list _ _ h.0.0 refl
+entity_left_out = λ h. other_list _ _ h.0.0 refl

@@ -2,12 +2,32 @@
 -- Written by tools/wrong_to_antt.py; change the transcripts or the tool, and not this file.
 use Rattle.std.proofs.Common.{Some, refl}
 use Rattle.zt_protocol.specs.declared.interests.InterestMode.TheVariants.{Future}
-use Rattle.zt_model.specs.Promises.{KeepsExactly, IsMoreSparing, TellsTheFuture, TellsOfRouters, AnswersAsks, SendsFinals, FinishesInitial, SendsUpstream, EndsUpstream, DrawsNextIds}
+use Rattle.zt_model.specs.Promises.{IsSparing, TellsTheFuture, AnswersAsks, SendsFinals, FinishesInitial, SendsUpstream, EndsUpstream, DrawsNextIds}
 use Rattle.zt_model_test.specs.Script.{options}
-use Rattle.zt_promises_test.specs.Wrong.{Refuses, LacksItsIds, NamesOpen, KeepsRightly, LacksEntries}
+use Rattle.zt_promises_test.specs.Wrong.{Refuses, GivenNodes, LacksItsIds, IsInForm, KeepsRightly, LacksEntries}
 use Rattle.zt_promises_test.specs.Part2 as part
 use Rattle.zt_promises_test.proofs.Apart.{never, differ, other_number, other_list, other_cause}
 use Rattle.zt_promises_test.proofs.Opened.{opened}
+
+-- tells every visible token to every face, interests ignored
+pub everybody_is_told : Refuses IsSparing 4 part.everybody_is_told
+unfolding opened
+everybody_is_told = λ h. never ((h.0 refl).1) refl
+
+-- prints messages out of order of face
+pub faces_out_of_order : Refuses IsInForm 6 part.faces_out_of_order
+unfolding opened
+faces_out_of_order = λ h. never h.in_order.0 refl
+
+-- sends a second final after expiry
+pub final_at_expiry_and_again : Refuses SendsFinals 6 part.final_at_expiry_and_again
+unfolding opened
+final_at_expiry_and_again = λ h. never h.no_others.0 refl
+
+-- sends every final at once and asks nobody north
+pub final_at_once_and_nobody_asked : Refuses SendsUpstream 4 part.final_at_once_and_nobody_asked
+unfolding opened
+final_at_once_and_nobody_asked = λ h. other_list _ _ h.0.0 refl
 
 -- asks north and sends the final at once
 pub final_at_once : Refuses SendsFinals 4 part.final_at_once
@@ -74,37 +94,17 @@ pub nobody_is_told : Refuses KeepsRightly 4 part.nobody_is_told
 unfolding opened
 nobody_is_told = λ h. never ((h.0.0 refl).admitted_is_kept 0 refl refl) refl
 
+-- sends a token along a tree with the node id of another router
+pub node_of_another_router : Refuses GivenNodes 5 part.node_of_another_router
+unfolding opened
+node_of_another_router = λ h. never h.0 refl
+
+-- tells a session a token with a node id
+pub node_outside_router_regions : Refuses GivenNodes 5 part.node_outside_router_regions
+unfolding opened
+node_outside_router_regions = λ h. never h.0 refl
+
 -- sends a new face to the north no interests
 pub opened_without_interests : Refuses SendsUpstream 4 part.opened_without_interests
 unfolding opened
 opened_without_interests = λ h. other_list _ _ h.0.1.0 refl
-
--- tells a new face to the north nothing of what is there
-pub opened_without_tokens : Refuses KeepsExactly 4 part.opened_without_tokens
-unfolding opened
-opened_without_tokens = λ h. differ _ _ (h.0.1.0 refl refl 0 refl) refl
-
--- names another gateway than that of the face
-pub other_gateway_named : Refuses NamesOpen 5 part.other_gateway_named
-unfolding opened
-other_gateway_named = λ h. never h.0 refl
-
--- lets a token stand when its declarer closes
-pub stands_when_its_declarer_closes : Refuses KeepsRightly 6 part.stands_when_its_declarer_closes
-unfolding opened
-stands_when_its_declarer_closes = λ h. never ((h.0.0 refl).kept_is_visible 0 refl) refl
-
--- tells a subscriber without history nothing that a router declares
-pub tokens_of_routers_not_told : Refuses TellsOfRouters 6 part.tokens_of_routers_not_told
-unfolding opened
-tokens_of_routers_not_told = λ h. never ((h.0 refl).1.0 refl refl refl refl) refl
-
--- drops its told rows at an interest's final and sends nothing
-pub told_rows_dropped_in_silence : Refuses KeepsRightly 5 part.told_rows_dropped_in_silence
-unfolding opened
-told_rows_dropped_in_silence = λ h. never ((h.0.0 refl).kept_is_sought 0 refl) refl
-
--- tells what the admission table refuses
-pub told_though_refused : Refuses IsMoreSparing 5 part.told_though_refused
-unfolding opened
-told_though_refused = λ h. never (h.0 refl refl) refl

@@ -1,10 +1,10 @@
 -- Wrong transcripts, as the definitions speak of them.
 -- Written by tools/wrong_to_antt.py; change the transcripts or the tool, and not this file.
-use Rattle.std.specs.Prelude.{[], ◌∷◌, Some, None, Ok, Err}
+use Rattle.std.specs.Prelude.{false, [], ◌∷◌, Some, None, Ok, Err}
 use Rattle.zt_region.specs.declared.region.Bound.TheVariants as bound
 use Rattle.zt_region.specs.declared.region.Region.TheVariants.{North, South}
 use Rattle.zt_region.specs.declared.region.WhatAmI.TheVariants.{Router, Peer, Client}
-use Rattle.zt_protocol.specs.Plain.{DeclareToken, Interest, InterestFinal, CloseFace, Gateway, Session, Face as FaceLine, Speak, Moment}
+use Rattle.zt_protocol.specs.Plain.{DeclareToken, Interest, InterestFinal, CloseFace, SetEntities, Gateway, Session, Face as FaceLine, Speak}
 use Rattle.zt_protocol.specs.declared.errors.Refusal.TheVariants as refusal
 use Rattle.zt_protocol.specs.declared.interests.InterestMode.TheVariants.{Current, Future, CurrentFuture}
 use Rattle.zt_protocol.specs.declared.messages.Message.TheVariants as message
@@ -315,86 +315,86 @@ ended_while_another_region_holds = record {
   totals = Some (record { lines = 7; messages = 4; refusals = 0 });
 }
 
--- everybody-is-told: 0 is k
-abbrev pub everybody_is_told : Script
-everybody_is_told = record {
+-- entities-out-of-order: 0 is k/a, 1 is k/b
+abbrev pub entities_out_of_order : Script
+entities_out_of_order = record {
   matches = [];
   lines =
       Gateway Client (zid 1) [] None None 10000 []
       ∷ Session 1 1
       ∷ Session 1 1
-      ∷ Speak (DeclareToken 1 1 0 0 None)
+      ∷ Speak (SetEntities 2 (0 ∷ 1 ∷ []) [])
+      ∷ Speak (Interest 1 1 CurrentFuture (options 2) None)
       ∷ [];
   entries =
       Ok []
       ∷ Ok []
       ∷ Ok []
-      ∷ Ok (sent 1 2 (message.DeclareToken 1 0 None 0) ∷ [])
+      ∷ Ok []
+      ∷ Ok (sent 1 1 (message.DeclareSubscriber 2 1 1) ∷ sent 1 1 (message.DeclareSubscriber 1 0 1) ∷ sent 1 1 (message.DeclareFinal 1) ∷ [])
       ∷ [];
-  totals = Some (record { lines = 4; messages = 1; refusals = 0 });
+  totals = Some (record { lines = 5; messages = 3; refusals = 0 });
 }
 
--- faces-out-of-order: 0 is k
-abbrev pub faces_out_of_order : Script
-faces_out_of_order = record {
+-- entity-after-the-final: 0 is k
+abbrev pub entity_after_the_final : Script
+entity_after_the_final = record {
   matches = [];
   lines =
       Gateway Client (zid 1) [] None None 10000 []
       ∷ Session 1 1
       ∷ Session 1 1
-      ∷ Speak (Interest 1 1 CurrentFuture (options 8) None)
-      ∷ Speak (Interest 2 1 CurrentFuture (options 8) None)
-      ∷ Speak (DeclareToken 1 1 0 0 None)
+      ∷ Speak (Interest 1 1 CurrentFuture (options 2) None)
+      ∷ Speak (SetEntities 2 (0 ∷ []) [])
       ∷ [];
   entries =
       Ok []
       ∷ Ok []
       ∷ Ok []
       ∷ Ok (sent 1 1 (message.DeclareFinal 1) ∷ [])
-      ∷ Ok (sent 1 2 (message.DeclareFinal 1) ∷ [])
-      ∷ Ok (sent 1 2 (message.DeclareToken 1 0 None 0) ∷ sent 1 1 (message.DeclareToken 1 0 None 0) ∷ [])
+      ∷ Ok (sent 1 1 (message.DeclareSubscriber 1 0 1) ∷ [])
       ∷ [];
-  totals = Some (record { lines = 6; messages = 4; refusals = 0 });
+  totals = Some (record { lines = 5; messages = 2; refusals = 0 });
 }
 
--- final-at-expiry-and-again
-abbrev pub final_at_expiry_and_again : Script
-final_at_expiry_and_again = record {
-  matches = [];
-  lines =
-      Gateway Client (zid 1) [] None None 10 []
-      ∷ FaceLine 1 Router (zid 9) North bound.South 1
-      ∷ Session 1 1
-      ∷ Speak (Interest 2 1 Current (options 8) None)
-      ∷ Moment 1 10
-      ∷ Moment 1 11
-      ∷ [];
-  entries =
-      Ok []
-      ∷ Ok []
-      ∷ Ok []
-      ∷ Ok (sent 1 1 (message.Interest 1 Current (options 8) None) ∷ [])
-      ∷ Ok (sent 1 2 (message.DeclareFinal 1) ∷ [])
-      ∷ Ok (sent 1 2 (message.DeclareFinal 1) ∷ [])
-      ∷ [];
-  totals = Some (record { lines = 6; messages = 3; refusals = 0 });
-}
-
--- final-at-once-and-nobody-asked
-abbrev pub final_at_once_and_nobody_asked : Script
-final_at_once_and_nobody_asked = record {
+-- entity-answered-twice: 0 is k/a
+abbrev pub entity_answered_twice : Script
+entity_answered_twice = record {
   matches = [];
   lines =
       Gateway Client (zid 1) [] None None 10000 []
-      ∷ FaceLine 1 Router (zid 9) North bound.South 1
       ∷ Session 1 1
-      ∷ Speak (Interest 2 1 Current (options 8) None)
+      ∷ Session 1 1
+      ∷ Speak (SetEntities 2 [] ((0, record { complete = false; distance = 3 }) ∷ []))
+      ∷ Speak (Interest 1 1 CurrentFuture (options 4) None)
       ∷ [];
   entries =
       Ok []
       ∷ Ok []
       ∷ Ok []
-      ∷ Ok (sent 1 2 (message.DeclareFinal 1) ∷ [])
+      ∷ Ok []
+      ∷ Ok (sent 1 1 (message.DeclareQueryable 1 0 (record { complete = false; distance = 3 }) 1) ∷ sent 1 1 (message.DeclareQueryable 1 0 (record { complete = false; distance = 3 }) 1) ∷ sent 1 1 (message.DeclareFinal 1) ∷ [])
       ∷ [];
-  totals = Some (record { lines = 4; messages = 1; refusals = 0 });
+  totals = Some (record { lines = 5; messages = 3; refusals = 0 });
+}
+
+-- entity-left-out: 0 is k/a, 1 is k/b
+abbrev pub entity_left_out : Script
+entity_left_out = record {
+  matches = [];
+  lines =
+      Gateway Client (zid 1) [] None None 10000 []
+      ∷ Session 1 1
+      ∷ Session 1 1
+      ∷ Speak (SetEntities 2 (0 ∷ 1 ∷ []) [])
+      ∷ Speak (Interest 1 1 CurrentFuture (options 2) None)
+      ∷ [];
+  entries =
+      Ok []
+      ∷ Ok []
+      ∷ Ok []
+      ∷ Ok []
+      ∷ Ok (sent 1 1 (message.DeclareSubscriber 2 1 1) ∷ sent 1 1 (message.DeclareFinal 1) ∷ [])
+      ∷ [];
+  totals = Some (record { lines = 5; messages = 2; refusals = 0 });
 }

@@ -2,13 +2,97 @@
 -- Written by tools/wrong_to_antt.py; change the transcripts or the tool, and not this file.
 use Rattle.std.specs.Prelude.{[], ◌∷◌, Some, None, Ok, Err}
 use Rattle.zt_region.specs.declared.region.Bound.TheVariants as bound
-use Rattle.zt_region.specs.declared.region.Region.TheVariants.{North, Local, South}
+use Rattle.zt_region.specs.declared.region.Region.TheVariants.{North}
 use Rattle.zt_region.specs.declared.region.WhatAmI.TheVariants.{Router, Peer, Client}
-use Rattle.zt_protocol.specs.Plain.{DeclareToken, UndeclareToken, Interest, InterestFinal, DeclareFinal, CloseFace, Gateway, Session, Face as FaceLine, Speak, SetTreesAt}
+use Rattle.zt_protocol.specs.Plain.{DeclareToken, UndeclareToken, Interest, InterestFinal, DeclareFinal, Gateway, Session, Face as FaceLine, Speak, Moment, SetTreesAt}
 use Rattle.zt_protocol.specs.declared.errors.Refusal.TheVariants as refusal
 use Rattle.zt_protocol.specs.declared.interests.InterestMode.TheVariants.{Current, Future, CurrentFuture}
 use Rattle.zt_protocol.specs.declared.messages.Message.TheVariants as message
 use Rattle.zt_model_test.specs.Script.{Script, options, sent, zid}
+
+-- everybody-is-told: 0 is k
+abbrev pub everybody_is_told : Script
+everybody_is_told = record {
+  matches = [];
+  lines =
+      Gateway Client (zid 1) [] None None 10000 []
+      ∷ Session 1 1
+      ∷ Session 1 1
+      ∷ Speak (DeclareToken 1 1 0 0 None)
+      ∷ [];
+  entries =
+      Ok []
+      ∷ Ok []
+      ∷ Ok []
+      ∷ Ok (sent 1 2 (message.DeclareToken 1 0 None 0) ∷ [])
+      ∷ [];
+  totals = Some (record { lines = 4; messages = 1; refusals = 0 });
+}
+
+-- faces-out-of-order: 0 is k
+abbrev pub faces_out_of_order : Script
+faces_out_of_order = record {
+  matches = [];
+  lines =
+      Gateway Client (zid 1) [] None None 10000 []
+      ∷ Session 1 1
+      ∷ Session 1 1
+      ∷ Speak (Interest 1 1 CurrentFuture (options 8) None)
+      ∷ Speak (Interest 2 1 CurrentFuture (options 8) None)
+      ∷ Speak (DeclareToken 1 1 0 0 None)
+      ∷ [];
+  entries =
+      Ok []
+      ∷ Ok []
+      ∷ Ok []
+      ∷ Ok (sent 1 1 (message.DeclareFinal 1) ∷ [])
+      ∷ Ok (sent 1 2 (message.DeclareFinal 1) ∷ [])
+      ∷ Ok (sent 1 2 (message.DeclareToken 1 0 None 0) ∷ sent 1 1 (message.DeclareToken 1 0 None 0) ∷ [])
+      ∷ [];
+  totals = Some (record { lines = 6; messages = 4; refusals = 0 });
+}
+
+-- final-at-expiry-and-again
+abbrev pub final_at_expiry_and_again : Script
+final_at_expiry_and_again = record {
+  matches = [];
+  lines =
+      Gateway Client (zid 1) [] None None 10 []
+      ∷ FaceLine 1 Router (zid 9) North bound.South 1
+      ∷ Session 1 1
+      ∷ Speak (Interest 2 1 Current (options 8) None)
+      ∷ Moment 1 10
+      ∷ Moment 1 11
+      ∷ [];
+  entries =
+      Ok []
+      ∷ Ok []
+      ∷ Ok []
+      ∷ Ok (sent 1 1 (message.Interest 1 Current (options 8) None) ∷ [])
+      ∷ Ok (sent 1 2 (message.DeclareFinal 1) ∷ [])
+      ∷ Ok (sent 1 2 (message.DeclareFinal 1) ∷ [])
+      ∷ [];
+  totals = Some (record { lines = 6; messages = 3; refusals = 0 });
+}
+
+-- final-at-once-and-nobody-asked
+abbrev pub final_at_once_and_nobody_asked : Script
+final_at_once_and_nobody_asked = record {
+  matches = [];
+  lines =
+      Gateway Client (zid 1) [] None None 10000 []
+      ∷ FaceLine 1 Router (zid 9) North bound.South 1
+      ∷ Session 1 1
+      ∷ Speak (Interest 2 1 Current (options 8) None)
+      ∷ [];
+  entries =
+      Ok []
+      ∷ Ok []
+      ∷ Ok []
+      ∷ Ok (sent 1 2 (message.DeclareFinal 1) ∷ [])
+      ∷ [];
+  totals = Some (record { lines = 4; messages = 1; refusals = 0 });
+}
 
 -- final-at-once
 abbrev pub final_at_once : Script
@@ -262,6 +346,48 @@ nobody_is_told = record {
   totals = Some (record { lines = 4; messages = 1; refusals = 0 });
 }
 
+-- node-of-another-router: 0 is k
+abbrev pub node_of_another_router : Script
+node_of_another_router = record {
+  matches = [];
+  lines =
+      Gateway Router (zid 1) [] None None 10000 []
+      ∷ FaceLine 1 Router (zid 2) North bound.North 1
+      ∷ SetTreesAt 1 North (record { routers = ((0, zid 1) ∷ (1, zid 2) ∷ (5, zid 3) ∷ []); links = ((1, 1, zid 2) ∷ []); children = ((zid 1, zid 2) ∷ []) })
+      ∷ Session 1 1
+      ∷ Speak (DeclareToken 2 1 0 0 None)
+      ∷ [];
+  entries =
+      Ok []
+      ∷ Ok []
+      ∷ Ok []
+      ∷ Ok []
+      ∷ Ok (sent 1 1 (message.DeclareToken 0 0 None 5) ∷ [])
+      ∷ [];
+  totals = Some (record { lines = 5; messages = 1; refusals = 0 });
+}
+
+-- node-outside-router-regions: 0 is k
+abbrev pub node_outside_router_regions : Script
+node_outside_router_regions = record {
+  matches = [];
+  lines =
+      Gateway Client (zid 1) [] None None 10000 []
+      ∷ Session 1 1
+      ∷ Session 1 1
+      ∷ Speak (Interest 1 1 Future (options 8) None)
+      ∷ Speak (DeclareToken 2 1 0 0 None)
+      ∷ [];
+  entries =
+      Ok []
+      ∷ Ok []
+      ∷ Ok []
+      ∷ Ok []
+      ∷ Ok (sent 1 1 (message.DeclareToken 1 0 None 3) ∷ [])
+      ∷ [];
+  totals = Some (record { lines = 5; messages = 1; refusals = 0 });
+}
+
 -- opened-without-interests
 abbrev pub opened_without_interests : Script
 opened_without_interests = record {
@@ -279,132 +405,4 @@ opened_without_interests = record {
       ∷ Ok []
       ∷ [];
   totals = Some (record { lines = 4; messages = 1; refusals = 0 });
-}
-
--- opened-without-tokens: 0 is k
-abbrev pub opened_without_tokens : Script
-opened_without_tokens = record {
-  matches = [];
-  lines =
-      Gateway Client (zid 1) [] None None 10000 []
-      ∷ Session 1 1
-      ∷ Speak (DeclareToken 1 1 0 0 None)
-      ∷ FaceLine 1 Router (zid 9) North bound.South 1
-      ∷ [];
-  entries =
-      Ok []
-      ∷ Ok []
-      ∷ Ok []
-      ∷ Ok []
-      ∷ [];
-  totals = Some (record { lines = 4; messages = 0; refusals = 0 });
-}
-
--- other-gateway-named: 0 is k
-abbrev pub other_gateway_named : Script
-other_gateway_named = record {
-  matches = [];
-  lines =
-      Gateway Client (zid 1) [] None None 10000 []
-      ∷ Gateway Client (zid 2) [] None None 10000 []
-      ∷ Session 1 1
-      ∷ Speak (Interest 1 1 CurrentFuture (options 8) None)
-      ∷ Speak (DeclareToken 1 1 0 0 None)
-      ∷ [];
-  entries =
-      Ok []
-      ∷ Ok []
-      ∷ Ok []
-      ∷ Ok (sent 1 1 (message.DeclareFinal 1) ∷ [])
-      ∷ Ok (sent 2 1 (message.DeclareToken 1 0 None 0) ∷ [])
-      ∷ [];
-  totals = Some (record { lines = 5; messages = 2; refusals = 0 });
-}
-
--- stands-when-its-declarer-closes: 0 is k
-abbrev pub stands_when_its_declarer_closes : Script
-stands_when_its_declarer_closes = record {
-  matches = [];
-  lines =
-      Gateway Client (zid 1) [] None None 10000 []
-      ∷ Session 1 1
-      ∷ Session 1 1
-      ∷ Speak (Interest 1 1 CurrentFuture (options 8) None)
-      ∷ Speak (DeclareToken 2 1 0 0 None)
-      ∷ Speak (CloseFace 2)
-      ∷ [];
-  entries =
-      Ok []
-      ∷ Ok []
-      ∷ Ok []
-      ∷ Ok (sent 1 1 (message.DeclareFinal 1) ∷ [])
-      ∷ Ok (sent 1 1 (message.DeclareToken 1 0 None 0) ∷ [])
-      ∷ Ok []
-      ∷ [];
-  totals = Some (record { lines = 6; messages = 2; refusals = 0 });
-}
-
--- tokens-of-routers-not-told: 0 is k
-abbrev pub tokens_of_routers_not_told : Script
-tokens_of_routers_not_told = record {
-  matches = [];
-  lines =
-      Gateway Router (zid 1) [] None None 10000 []
-      ∷ FaceLine 1 Router (zid 2) North bound.North 1
-      ∷ Session 1 1
-      ∷ Speak (Interest 2 1 Future (options 8) None)
-      ∷ SetTreesAt 1 North (record { routers = ((0, zid 1) ∷ (1, zid 2) ∷ []); links = ((1, 1, zid 2) ∷ []); children = ((zid 1, zid 2) ∷ []) })
-      ∷ Speak (DeclareToken 1 1 0 1 None)
-      ∷ [];
-  entries =
-      Ok []
-      ∷ Ok []
-      ∷ Ok []
-      ∷ Ok []
-      ∷ Ok []
-      ∷ Ok []
-      ∷ [];
-  totals = Some (record { lines = 6; messages = 0; refusals = 0 });
-}
-
--- told-rows-dropped-in-silence: 0 is k
-abbrev pub told_rows_dropped_in_silence : Script
-told_rows_dropped_in_silence = record {
-  matches = [];
-  lines =
-      Gateway Client (zid 1) [] None None 10000 []
-      ∷ Session 1 1
-      ∷ Speak (Interest 1 1 CurrentFuture (options 8) None)
-      ∷ Speak (DeclareToken 1 1 0 0 None)
-      ∷ Speak (InterestFinal 1 1)
-      ∷ [];
-  entries =
-      Ok []
-      ∷ Ok []
-      ∷ Ok (sent 1 1 (message.DeclareFinal 1) ∷ [])
-      ∷ Ok (sent 1 1 (message.DeclareToken 1 0 None 0) ∷ [])
-      ∷ Ok []
-      ∷ [];
-  totals = Some (record { lines = 5; messages = 2; refusals = 0 });
-}
-
--- told-though-refused: 0 is k
-abbrev pub told_though_refused : Script
-told_though_refused = record {
-  matches = [];
-  lines =
-      Gateway Client (zid 1) (South 0 Client ∷ []) None None 10000 ((South 0 Client, Local) ∷ [])
-      ∷ Session 1 1
-      ∷ FaceLine 1 Client (zid 2) (South 0 Client) bound.North 1
-      ∷ Speak (Interest 1 1 CurrentFuture (options 8) None)
-      ∷ Speak (DeclareToken 2 1 0 0 None)
-      ∷ [];
-  entries =
-      Ok []
-      ∷ Ok []
-      ∷ Ok []
-      ∷ Ok (sent 1 1 (message.DeclareFinal 1) ∷ [])
-      ∷ Ok (sent 1 1 (message.DeclareToken 1 0 None 0) ∷ [])
-      ∷ [];
-  totals = Some (record { lines = 5; messages = 2; refusals = 0 });
 }

@@ -7,6 +7,9 @@ use Rattle.zt_model.specs.Lists.{nth}
 use Rattle.zt_model.specs.Promises.{Turn, turns_from}
 use Rattle.zt_model.specs.Transcript.{AllKeepWhatTheyShould, IsEntry, IsFaithfulFrom, IsRefusedByCause, LacksIdsByCall, NamesOpenFaces}
 use Rattle.zt_model_test.specs.Script.{HasTotals, Script, matching_in}
+use Rattle.zt_theorem_exact_messages.specs.Entities.{AnswersEntities}
+use Rattle.zt_theorem_exact_messages.specs.Nodes.{PrintsGivenNodes}
+use Rattle.zt_theorem_exact_messages.specs.Undeclared.{UndeclaresToWhoWants}
 
 -- a promise of turns, whatever the keys' order and whichever of them match
 abbrev pub Promise : Type 1
@@ -52,6 +55,18 @@ module _ (cmp : ℕ → ℕ → Ordering) (matching : ℕ → ℕ → Bool) (t :
   -- each face keeps what it should
   abbrev pub KeepsRightly : Type 0
   KeepsRightly = AllKeepWhatTheyShould cmp matching t.after
+
+  -- what is undeclared by expression goes to who wants it
+  abbrev pub ToWhoWants : Type 0
+  ToWhoWants = UndeclaresToWhoWants cmp matching t
+
+  -- subscribers and queryables are those due
+  abbrev pub EntitiesDue : Type 0
+  EntitiesDue = AnswersEntities cmp matching t
+
+  -- node ids are given by tables
+  abbrev pub GivenNodes : Type 0
+  GivenNodes = PrintsGivenNodes cmp t
 
 -- ---- whole transcripts
 

@@ -1,7 +1,7 @@
-//! The wrong transcripts of `tests/wrong`: each breaks a promise of `zt_model`, but for one that has other totals than
-//! its lines and one that no promise forbids, which alone isn't the machine's own. A law is named for its script, and
-//! names the promise and the line whose entry breaks it. In `premises` stand the laws of scripts that lack a premise of the
-//! promises over trees.
+//! The wrong transcripts of `tests/wrong`: each breaks a promise of `zt_model` or of `zt_theorem_exact_messages`, but for
+//! one that has other totals than its lines and one that no promise forbids, which alone isn't the machine's own. A law
+//! is named for its script, and names the promise and the line whose entry breaks it. In `premises` stand the laws of
+//! scripts that lack a premise of the promises over trees.
 //!
 //! Written by tools/wrong_to_antt.py; change the transcripts or the tool, and not this file.
 #![tactic(auto)]
@@ -9,7 +9,7 @@
 pub mod premises;
 
 ghost use Rattle.zt_model.specs.Promises.{KeepsExactly, IsSparing, IsMoreSparing, TellsTheFuture, TellsOfRouters, AnswersAsks, SendsFinals, FinishesInitial, SendsUpstream, EndsUpstream, UndeclaresWhatIsGone, UndeclaresWhatWasKept, DrawsNextIds, EndsWhatStands};
-ghost use Rattle.zt_promises_test.specs.Wrong.{Refuses, Allows, HasItsCause, LacksItsIds, IsInForm, NamesOpen, KeepsRightly, LacksEntries, HasOtherTotals, IsNotTheMachines};
+ghost use Rattle.zt_promises_test.specs.Wrong.{Refuses, Allows, ToWhoWants, EntitiesDue, GivenNodes, HasItsCause, LacksItsIds, IsInForm, NamesOpen, KeepsRightly, LacksEntries, HasOtherTotals, IsNotTheMachines};
 ghost use Rattle.zt_promises_test.specs.Part1 as part1;
 ghost use Rattle.zt_promises_test.specs.Part2 as part2;
 ghost use Rattle.zt_promises_test.specs.Part3 as part3;
@@ -31,14 +31,18 @@ pub fn part_1_is_refused()
     ensures ended_what_never_stood { Refuses EndsWhatStands 5 part1.ended_what_never_stood }
     ensures ended_while_another_mode_holds { Refuses EndsUpstream 6 part1.ended_while_another_mode_holds }
     ensures ended_while_another_region_holds { Refuses EndsUpstream 7 part1.ended_while_another_region_holds }
-    ensures everybody_is_told { Refuses IsSparing 4 part1.everybody_is_told }
-    ensures faces_out_of_order { Refuses IsInForm 6 part1.faces_out_of_order }
-    ensures final_at_expiry_and_again { Refuses SendsFinals 6 part1.final_at_expiry_and_again }
-    ensures final_at_once_and_nobody_asked { Refuses SendsUpstream 4 part1.final_at_once_and_nobody_asked }
+    ensures entities_out_of_order { Refuses EntitiesDue 5 part1.entities_out_of_order }
+    ensures entity_after_the_final { Refuses EntitiesDue 5 part1.entity_after_the_final }
+    ensures entity_answered_twice { Refuses EntitiesDue 5 part1.entity_answered_twice }
+    ensures entity_left_out { Refuses EntitiesDue 5 part1.entity_left_out }
 {}
 
 /// The promises refuse these transcripts.
 pub fn part_2_is_refused()
+    ensures everybody_is_told { Refuses IsSparing 4 part2.everybody_is_told }
+    ensures faces_out_of_order { Refuses IsInForm 6 part2.faces_out_of_order }
+    ensures final_at_expiry_and_again { Refuses SendsFinals 6 part2.final_at_expiry_and_again }
+    ensures final_at_once_and_nobody_asked { Refuses SendsUpstream 4 part2.final_at_once_and_nobody_asked }
     ensures final_at_once { Refuses SendsFinals 4 part2.final_at_once }
     ensures final_before_the_last_pending { Refuses SendsFinals 6 part2.final_before_the_last_pending }
     ensures final_never { Refuses SendsFinals 5 part2.final_never }
@@ -52,19 +56,24 @@ pub fn part_2_is_refused()
     ensures never_undeclared { Refuses KeepsRightly 5 part2.never_undeclared }
     ensures no_initial_final { Refuses FinishesInitial 2 part2.no_initial_final }
     ensures nobody_is_told { Refuses KeepsRightly 4 part2.nobody_is_told }
+    ensures node_of_another_router { Refuses GivenNodes 5 part2.node_of_another_router }
+    ensures node_outside_router_regions { Refuses GivenNodes 5 part2.node_outside_router_regions }
     ensures opened_without_interests { Refuses SendsUpstream 4 part2.opened_without_interests }
-    ensures opened_without_tokens { Refuses KeepsExactly 4 part2.opened_without_tokens }
-    ensures other_gateway_named { Refuses NamesOpen 5 part2.other_gateway_named }
-    ensures stands_when_its_declarer_closes { Refuses KeepsRightly 6 part2.stands_when_its_declarer_closes }
-    ensures tokens_of_routers_not_told { Refuses TellsOfRouters 6 part2.tokens_of_routers_not_told }
-    ensures told_rows_dropped_in_silence { Refuses KeepsRightly 5 part2.told_rows_dropped_in_silence }
-    ensures told_though_refused { Refuses IsMoreSparing 5 part2.told_though_refused }
 {}
 
 /// The promises refuse these transcripts.
 pub fn part_3_is_refused()
+    ensures opened_without_tokens { Refuses KeepsExactly 4 part3.opened_without_tokens }
+    ensures other_gateway_named { Refuses NamesOpen 5 part3.other_gateway_named }
+    ensures stands_when_its_declarer_closes { Refuses KeepsRightly 6 part3.stands_when_its_declarer_closes }
+    ensures tokens_of_routers_not_told { Refuses TellsOfRouters 6 part3.tokens_of_routers_not_told }
+    ensures told_rows_dropped_in_silence { Refuses KeepsRightly 5 part3.told_rows_dropped_in_silence }
+    ensures told_though_refused { Refuses IsMoreSparing 5 part3.told_though_refused }
     ensures told_under_id_zero { Refuses IsSparing 4 part3.told_under_id_zero }
     ensures totals_of_zeros { HasOtherTotals part3.totals_of_zeros }
+    ensures undeclared_by_expression_though_kept { Refuses ToWhoWants 6 part3.undeclared_by_expression_though_kept }
+    ensures undeclared_by_expression_under_an_id { Refuses ToWhoWants 6 part3.undeclared_by_expression_under_an_id }
+    ensures undeclared_for_who_wants_nothing { Refuses ToWhoWants 5 part3.undeclared_for_who_wants_nothing }
     ensures undeclared_unkept { Refuses UndeclaresWhatWasKept 5 part3.undeclared_unkept }
     ensures undeclared_with_the_first_declarer { Refuses KeepsRightly 7 part3.undeclared_with_the_first_declarer }
     ensures unknown_face_accepted { Refuses HasItsCause 3 part3.unknown_face_accepted }

@@ -17,6 +17,7 @@ use Rattle.zt_model.specs.Journal.{IsReordered, is_driven}
 use Rattle.zt_model.specs.Promises.{MeetsPromises, MeetsStricterPromises, turns_from}
 use Rattle.zt_model.specs.Transcript.{Each, IsFaithfulFrom, IsStrictFrom, report_of}
 use Rattle.zt_model.specs.TreePromises.{KeepTreePromises}
+use Rattle.zt_theorem_exact_messages.specs.Exact.{PrintsExactly}
 use Rattle.zt_theorem_message_ids.specs.Anew.{TellsWhatIsNew}
 use Rattle.zt_laws.specs.Sound.{HasFirstIds}
 use Rattle.zt_theorem_transcript.specs.Named.{HasNamedOptions}
@@ -56,7 +57,8 @@ module _ {K : Type 0} (cmp : K → K → Ordering) (matching : K → K → Bool)
 
   -- And of that order they are a transcript: each is refused exactly by its cause, after each every face keeps what it
   -- should, and each turn, a line with its entry, keeps all promises, those that are kept beside them too, and those
-  -- of trees; and no face is told a token that it keeps already, but in answer to an ask.
+  -- of trees; and no face is told a token that it keeps already, but in answer to an ask. Undeclarations by expression,
+  -- subscribers, queryables and node ids are printed exactly.
   pub record AreTranscript (script : List (PlainLine K)) (answers : List (ℕ × PlainEntry K)) : Type 0 where
     pub reorders : AreReordered script answers
     pub are_faithful : IsFaithfulFrom cmp matching (map (λ x. x.1) reorders.order) (map (λ x. x.1) answers) empty_fabric
@@ -64,6 +66,7 @@ module _ {K : Type 0} (cmp : K → K → Ordering) (matching : K → K → Bool)
     pub keep_promises : Each (MeetsPromises cmp matching) (turns_from cmp matching (map (λ x. x.1) reorders.order) (map (λ x. x.1) answers) empty_fabric)
     pub keep_stricter_promises : Each (MeetsStricterPromises cmp matching) (turns_from cmp matching (map (λ x. x.1) reorders.order) (map (λ x. x.1) answers) empty_fabric)
     pub tell_what_is_new : Each (TellsWhatIsNew cmp matching) (turns_from cmp matching (map (λ x. x.1) reorders.order) (map (λ x. x.1) answers) empty_fabric)
+    pub print_exactly : Each (PrintsExactly cmp matching) (turns_from cmp matching (map (λ x. x.1) reorders.order) (map (λ x. x.1) answers) empty_fabric)
     pub keep_tree_promises : KeepTreePromises cmp matching (turns_from cmp matching (map (λ x. x.1) reorders.order) (map (λ x. x.1) answers) empty_fabric)
 
 module _ {K : Type 0} (reading : List ℕ → Result K KeyError) where

@@ -19,8 +19,8 @@ returns g = record {
   ended_what_never_stood = law.ended_what_never_stood;
   ended_while_another_mode_holds = law.ended_while_another_mode_holds;
   ended_while_another_region_holds = law.ended_while_another_region_holds;
-  everybody_is_told = law.everybody_is_told;
-  faces_out_of_order = law.faces_out_of_order;
-  final_at_expiry_and_again = law.final_at_expiry_and_again;
-  final_at_once_and_nobody_asked = law.final_at_once_and_nobody_asked;
+  entities_out_of_order = law.entities_out_of_order;
+  entity_after_the_final = law.entity_after_the_final;
+  entity_answered_twice = law.entity_answered_twice;
+  entity_left_out = law.entity_left_out;
 }

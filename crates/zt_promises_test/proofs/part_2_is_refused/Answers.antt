@@ -4,6 +4,10 @@ use Rattle.zt_promises_test.proofs.part_2_is_refused.Goals as goal
 
 pub returns : goal.returns
 returns g = record {
+  everybody_is_told = law.everybody_is_told;
+  faces_out_of_order = law.faces_out_of_order;
+  final_at_expiry_and_again = law.final_at_expiry_and_again;
+  final_at_once_and_nobody_asked = law.final_at_once_and_nobody_asked;
   final_at_once = law.final_at_once;
   final_before_the_last_pending = law.final_before_the_last_pending;
   final_never = law.final_never;
@@ -17,11 +21,7 @@ returns g = record {
   never_undeclared = law.never_undeclared;
   no_initial_final = law.no_initial_final;
   nobody_is_told = law.nobody_is_told;
+  node_of_another_router = law.node_of_another_router;
+  node_outside_router_regions = law.node_outside_router_regions;
   opened_without_interests = law.opened_without_interests;
-  opened_without_tokens = law.opened_without_tokens;
-  other_gateway_named = law.other_gateway_named;
-  stands_when_its_declarer_closes = law.stands_when_its_declarer_closes;
-  tokens_of_routers_not_told = law.tokens_of_routers_not_told;
-  told_rows_dropped_in_silence = law.told_rows_dropped_in_silence;
-  told_though_refused = law.told_though_refused;
 }

@@ -4,8 +4,17 @@ use Rattle.zt_promises_test.proofs.part_3_is_refused.Goals as goal
 
 pub returns : goal.returns
 returns g = record {
+  opened_without_tokens = law.opened_without_tokens;
+  other_gateway_named = law.other_gateway_named;
+  stands_when_its_declarer_closes = law.stands_when_its_declarer_closes;
+  tokens_of_routers_not_told = law.tokens_of_routers_not_told;
+  told_rows_dropped_in_silence = law.told_rows_dropped_in_silence;
+  told_though_refused = law.told_though_refused;
   told_under_id_zero = law.told_under_id_zero;
   totals_of_zeros = law.totals_of_zeros;
+  undeclared_by_expression_though_kept = law.undeclared_by_expression_though_kept;
+  undeclared_by_expression_under_an_id = law.undeclared_by_expression_under_an_id;
+  undeclared_for_who_wants_nothing = law.undeclared_for_who_wants_nothing;
   undeclared_unkept = law.undeclared_unkept;
   undeclared_with_the_first_declarer = law.undeclared_with_the_first_declarer;
   unknown_face_accepted = law.unknown_face_accepted;

@@ -1,0 +1,11 @@
+pub mod Entities
+pub mod EntityTurns
+pub mod Hearers
+pub mod Undeclaring
+pub mod UndeclaredTurns
+pub mod Given
+pub mod NodeParts
+pub mod Tables
+pub mod NodeCalls
+pub mod NodeTurns
+pub mod Whole

@@ -1,0 +1,4 @@
+pub mod Undeclared
+pub mod Entities
+pub mod Nodes
+pub mod Exact
