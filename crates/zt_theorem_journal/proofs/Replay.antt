@@ -6,19 +6,19 @@ use Rattle.zt_region.specs.declared.region.Region.{Region}
 use Rattle.zt_region.specs.declared.region.WhatAmI.{WhatAmI}
 use Rattle.zt_region.specs.declared.region.Zid.{Zid}
 use Rattle.zt_region.specs.South.{PlainSouth}
-use Rattle.zt_protocol.specs.Plain.{PlainCall, PlainEntry, PlainLine, Gateway, Session, Face as FaceLine, Link, Unlink, Step, Speak, Moment, SetTreesAt}
+use Rattle.zt_protocol.specs.Plain.{PlainCall, NewSession, NewTransport, DeclareToken, UndeclareToken, Interest, InterestFinal, DeclareFinal, CloseFace, Expire, SetTrees, SetEntities, PlainEntry, PlainLine, Gateway, Session, Face as FaceLine, Link, Unlink, Step, Speak, Moment, SetTreesAt}
 use Rattle.zt_protocol.specs.declared.errors.Refusal.{Refusal}
 use Rattle.zt_protocol.specs.declared.errors.Refusal.TheVariants as refusal
 use Rattle.zt_model.specs.Fabric.{Fabric, after_refusal, line_causes, empty_fabric, entries_from, entry_by, entry_of, fabric_after, new_rows, said_by_line, sorted_by_face}
-use Rattle.zt_model.specs.Journal.{IsReplay, Journalled, is_making}
+use Rattle.zt_model.specs.Journal.{IsReplay, Journalled, is_making, outcome_of, rows_after}
 use Rattle.zt_model.specs.Refusals.{first_cause}
 use Rattle.zt_model.specs.Rows.{Rows}
 use Rattle.zt_model.specs.Transcript.{Each}
 use Rattle.zt_laws.specs.Sound.{HasFirstIds}
 use Rattle.zt_laws.proofs.Lists.{never}
-use Rattle.zt_theorem_journal.specs.Alone.{IsAlone, Speaks, made_entries, made_entry, made_rows, rows_made}
+use Rattle.zt_theorem_journal.specs.Alone.{ComesTo, IsAlone, Speaks, SpeaksOrOpens, line_of_call, made_entries, made_entry, made_rows, rows_made}
 use Rattle.zt_theorem_journal.proofs.Speaking.{cause_in, line_speaks, nowhere_cause, spoken_at}
-use Rattle.zt_theorem_journal.proofs.Opening.{face_nowhere, first_line_cause, gateway_made, line_makes, session_nowhere}
+use Rattle.zt_theorem_journal.proofs.Opening.{face_nowhere, first_line_cause, gateway_made, line_makes, session_nowhere, session_opens}
 
 module _ {K : Type 0} (cmp : K → K → Ordering) (matching : K → K → Bool) (total : IsTotalOrder cmp) where
   abbrev from : List (PlainLine K) → Fabric K → List (PlainEntry K)
@@ -35,6 +35,32 @@ module _ {K : Type 0} (cmp : K → K → Ordering) (matching : K → K → Bool)
       ap (λ e. e ∷ from (map (λ e. Speak e.call) entries) after) (here.entry_is ∙ sym replay.1)
       ∙ ap (λ es. entry.outcome ∷ es) (calls_come entries _ after speak.1 replay.2 here.after)
 
+  -- a line that speaks, or opens a session, comes to the outcome of its call
+  line_comes : (c : PlainCall K) (g : Rows K) (s : Fabric K) → SpeaksOrOpens c → IsAlone cmp matching g s → ComesTo cmp matching (line_of_call c) s (outcome_of cmp matching c g) (rows_after cmp matching c g)
+  line_comes (NewSession first) g s may alone = session_opens cmp matching total first g s may alone
+  line_comes (NewTransport zid whatami region bound first) g s may alone = line_speaks cmp matching total (NewTransport zid whatami region bound first) g s may alone
+  line_comes (DeclareToken face id expr node interest) g s may alone = line_speaks cmp matching total (DeclareToken face id expr node interest) g s may alone
+  line_comes (UndeclareToken face id expr node) g s may alone = line_speaks cmp matching total (UndeclareToken face id expr node) g s may alone
+  line_comes (Interest face id mode options expr) g s may alone = line_speaks cmp matching total (Interest face id mode options expr) g s may alone
+  line_comes (InterestFinal face id) g s may alone = line_speaks cmp matching total (InterestFinal face id) g s may alone
+  line_comes (DeclareFinal face interest) g s may alone = line_speaks cmp matching total (DeclareFinal face interest) g s may alone
+  line_comes (CloseFace face) g s may alone = line_speaks cmp matching total (CloseFace face) g s may alone
+  line_comes (Expire now) g s may alone = line_speaks cmp matching total (Expire now) g s may alone
+  line_comes (SetTrees region table) g s may alone = line_speaks cmp matching total (SetTrees region table) g s may alone
+  line_comes (SetEntities face subscribers queryables) g s may alone = line_speaks cmp matching total (SetEntities face subscribers queryables) g s may alone
+
+  -- such lines come to the outcomes of a replay
+  pub journal_comes : (entries : List (Journalled K)) (g : Rows K) (s : Fabric K) → Each (λ e. SpeaksOrOpens e.call) entries → IsReplay cmp matching entries g → IsAlone cmp matching g s
+      → from (map (λ e. line_of_call e.call) entries) s ≡ map (λ e. e.outcome) entries
+  unfolding entries_from
+  journal_comes [] g s may replay alone = refl
+  journal_comes (entry ∷ entries) g s may replay alone =
+      let line = line_of_call entry.call in
+      let here = line_comes entry.call g s may.0 alone in
+      let after = fabric_after cmp matching line (entry_of cmp matching line s) s in
+      ap (λ e. e ∷ from (map (λ e. line_of_call e.call) entries) after) (here.entry_is ∙ sym replay.1)
+      ∙ ap (λ es. entry.outcome ∷ es) (journal_comes entries _ after may.1 replay.2 here.after)
+
   -- lines that open faces come to what they come to by the rows of the gateway
   makings_come : (lines : List (PlainLine K)) (g : Rows K) (s : Fabric K) (more : List (PlainLine K)) (rest : List (PlainEntry K)) → Each (λ line. is_making line ≡ true) lines → Each HasFirstIds lines → IsAlone cmp matching g s
       → ((t : Fabric K) → IsAlone cmp matching (rows_made cmp matching lines g) t → from more t ≡ rest) → from (lines ++ more) s ≡ made_entries cmp matching lines g ++ rest
@@ -46,21 +72,40 @@ module _ {K : Type 0} (cmp : K → K → Ordering) (matching : K → K → Bool)
       ap (λ e. e ∷ from (lines ++ more) after) here.entry_is
       ∙ ap (λ es. made_entry cmp matching line g ∷ es) (makings_come lines (made_rows cmp matching line g) after more rest making.1 real.1 here.after then_)
 
-  -- The transcript of a script whose gateway is made: its faces are opened, and then there is a journal of calls.
+  -- The transcript of a script whose gateway is made: its faces are opened, and then come more lines.
+  pub script_begins : (mode : WhatAmI) (zid : Zid) (regions : List Region) (south : PlainSouth) (name : Option (List ℕ)) (timeout : ℕ) (refused : List (Region × Region)) (makings more : List (PlainLine K)) (rest : List (PlainEntry K))
+      → (let line : PlainLine K = Gateway mode zid regions south name timeout refused in let rows = new_rows mode zid regions timeout refused in
+      first_cause (line_causes cmp matching false line empty_fabric) ≡ None → Each (λ line. is_making line ≡ true) makings → Each HasFirstIds makings
+      → ((t : Fabric K) → IsAlone cmp matching (rows_made cmp matching makings rows) t → from more t ≡ rest)
+      → from (line ∷ (makings ++ more)) empty_fabric ≡ Ok [] ∷ (made_entries cmp matching makings rows ++ rest))
+  unfolding entries_from
+  script_begins mode zid regions south name timeout refused makings more rest accepted making real then_ =
+      let line : PlainLine K = Gateway mode zid regions south name timeout refused in
+      let rows = new_rows mode zid regions timeout refused in
+      let here = gateway_made cmp matching total mode zid regions south name timeout refused accepted in
+      let after = fabric_after cmp matching line (entry_of cmp matching line empty_fabric) empty_fabric in
+      ap (λ e. e ∷ from (makings ++ more) after) here.entry_is
+      ∙ ap (λ (es : List (PlainEntry K)). Ok [] ∷ es) (makings_come makings rows after more rest making real here.after then_)
+
+  -- Then come the lines of a journal, which speak.
   pub script_comes : (mode : WhatAmI) (zid : Zid) (regions : List Region) (south : PlainSouth) (name : Option (List ℕ)) (timeout : ℕ) (refused : List (Region × Region)) (makings : List (PlainLine K)) (entries : List (Journalled K))
       → (let line : PlainLine K = Gateway mode zid regions south name timeout refused in let rows = new_rows mode zid regions timeout refused in
       first_cause (line_causes cmp matching false line empty_fabric) ≡ None → Each (λ line. is_making line ≡ true) makings → Each HasFirstIds makings → Each (λ e. Speaks e.call) entries
       → IsReplay cmp matching entries (rows_made cmp matching makings rows)
       → from (line ∷ (makings ++ map (λ e. Speak e.call) entries)) empty_fabric ≡ Ok [] ∷ (made_entries cmp matching makings rows ++ map (λ e. e.outcome) entries))
-  unfolding entries_from
   script_comes mode zid regions south name timeout refused makings entries accepted making real speak replay =
-      let line : PlainLine K = Gateway mode zid regions south name timeout refused in
-      let rows = new_rows mode zid regions timeout refused in
-      let here = gateway_made cmp matching total mode zid regions south name timeout refused accepted in
-      let after = fabric_after cmp matching line (entry_of cmp matching line empty_fabric) empty_fabric in
-      ap (λ e. e ∷ from (makings ++ map (λ e. Speak e.call) entries) after) here.entry_is
-      ∙ ap (λ (es : List (PlainEntry K)). Ok [] ∷ es)
-      (makings_come makings rows after (map (λ e. Speak e.call) entries) (map (λ e. e.outcome) entries) making real here.after (λ t alone. calls_come entries (rows_made cmp matching makings rows) t speak replay alone))
+      script_begins mode zid regions south name timeout refused makings (map (λ e. Speak e.call) entries) (map (λ e. e.outcome) entries) accepted making real
+      (λ t alone. calls_come entries (rows_made cmp matching makings (new_rows mode zid regions timeout refused)) t speak replay alone)
+
+  -- Then come the lines of a journal, which speak or open sessions.
+  pub script_comes_with_sessions : (mode : WhatAmI) (zid : Zid) (regions : List Region) (south : PlainSouth) (name : Option (List ℕ)) (timeout : ℕ) (refused : List (Region × Region)) (makings : List (PlainLine K)) (entries : List (Journalled K))
+      → (let line : PlainLine K = Gateway mode zid regions south name timeout refused in let rows = new_rows mode zid regions timeout refused in
+      first_cause (line_causes cmp matching false line empty_fabric) ≡ None → Each (λ line. is_making line ≡ true) makings → Each HasFirstIds makings → Each (λ e. SpeaksOrOpens e.call) entries
+      → IsReplay cmp matching entries (rows_made cmp matching makings rows)
+      → from (line ∷ (makings ++ map (λ e. line_of_call e.call) entries)) empty_fabric ≡ Ok [] ∷ (made_entries cmp matching makings rows ++ map (λ e. e.outcome) entries))
+  script_comes_with_sessions mode zid regions south name timeout refused makings entries accepted making real may replay =
+      script_begins mode zid regions south name timeout refused makings (map (λ e. line_of_call e.call) entries) (map (λ e. e.outcome) entries) accepted making real
+      (λ t alone. journal_comes entries (rows_made cmp matching makings (new_rows mode zid regions timeout refused)) t may replay alone)
 
   -- ---- a gateway that is refused
 

@@ -1,7 +1,7 @@
 -- A fabric of one gateway and its faces.
-use Rattle.std.specs.Prelude.{◌≡◌, ℕ, Bool, ◌==◌, if◌then◌else◌, List, [], ◌∷◌, length, Some, Err}
+use Rattle.std.specs.Prelude.{◌≡◌, ℕ, ◌≤◌, Bool, ◌==◌, if◌then◌else◌, List, [], ◌∷◌, length, Some, Err}
 use Rattle.std.specs.declared.cmp.Ordering.{Ordering}
-use Rattle.zt_protocol.specs.Plain.{PlainCall, NewSession, NewTransport, Expire, PlainEntry, PlainLine, Session, Face}
+use Rattle.zt_protocol.specs.Plain.{PlainCall, NewSession, NewTransport, Expire, PlainEntry, PlainLine, Session, Face, Speak}
 use Rattle.zt_protocol.specs.declared.errors.Refusal.TheVariants as refusal
 use Rattle.zt_model.specs.Fabric.{Fabric, Node, call_face, entry_of, fabric_after}
 use Rattle.zt_model.specs.Journal.{outcome_of, rows_after}
@@ -12,6 +12,16 @@ use Rattle.zt_laws.specs.Sound.{EachFrom}
 -- the call speaks for a face, or closes it
 abbrev pub Speaks : {K : Type 0} → PlainCall K → Type 0
 Speaks call = (face : ℕ) × (call_face call ≡ Some face)
+
+-- the call opens a session with a real first id, or speaks for a face or closes it
+abbrev pub SpeaksOrOpens : {K : Type 0} → PlainCall K → Type 0
+SpeaksOrOpens (NewSession first) = 1 ≤ first
+SpeaksOrOpens call = Speaks call
+
+-- the line of such a call, where its gateway is the first
+abbrev pub line_of_call : {K : Type 0} → PlainCall K → PlainLine K
+line_of_call (NewSession first) = Session 1 first
+line_of_call call = Speak call
 
 -- the gateway that a line names which opens a face, and the line's call there
 abbrev pub gateway_named : {K : Type 0} → PlainLine K → ℕ

@@ -14,7 +14,7 @@ ghost use Rattle.zt_model.specs.Transcript.{Each};
 ghost use Rattle.zt_protocol.specs.Plain.{PlainCall, PlainLine, Speak};
 ghost use Rattle.zt_protocol.specs.declared.entries.Sent.{Sent};
 ghost use Rattle.zt_laws.specs.Order.{InKeyOrder};
-ghost use Rattle.zt_theorem_journal.specs.Alone.{IsAlone, Speaks};
+ghost use Rattle.zt_theorem_journal.specs.Alone.{IsAlone, Speaks, SpeaksOrOpens, line_of_call};
 ghost use Rattle.zt_theorem_journal.specs.Asked.{AreVisible, answers_to, rows_before, token_ask};
 ghost use Rattle.zt_theorem_journal.specs.Dealt.{IsDealt, numbered_from, order_of, script_of};
 
@@ -27,6 +27,15 @@ pub fn journals_are_transcripts<K: Key>()
         → Each (λ e. Speaks e.call) entries
         → IsReplay K.cmp K.matching entries g → IsAlone K.cmp K.matching g s
         → entries_from K.cmp K.matching (map (λ e. Speak e.call) entries) s
+        ≡ map (λ e. e.outcome) entries }
+{}
+
+/// The same of lines that speak or open sessions of the gateway.
+pub fn journals_with_sessions_are_transcripts<K: Key>()
+    ensures { (entries : List (Journalled K)) (g : Rows K) (s : Fabric K)
+        → Each (λ e. SpeaksOrOpens e.call) entries
+        → IsReplay K.cmp K.matching entries g → IsAlone K.cmp K.matching g s
+        → entries_from K.cmp K.matching (map (λ e. line_of_call e.call) entries) s
         ≡ map (λ e. e.outcome) entries }
 {}
 
