@@ -1,5 +1,5 @@
 -- Lemmas on a claimed transcript that is judged entry by entry.
-use Rattle.std.proofs.Common.{◌≡◌, inl, inr, ℕ, ◌+◌, ◌<◌, List, [], ◌∷◌, ◌++◌, length, sum_by, None, Result, Ok, Err, IfOk, refl, sym, ap, subst, ◌∙◌, append_assoc, arith}
+use Rattle.std.proofs.Common.{◌≡◌, inl, inr, ℕ, ◌+◌, ◌<◌, List, [], ◌∷◌, ◌++◌, length, sum_by, None, Some, Result, Ok, Err, IfOk, refl, sym, ap, subst, ◌∙◌, append_assoc, arith}
 use Rattle.std.proofs.lemmas.List.{append-nil, length-append}
 use Rattle.std.proofs.lemmas.List.Sums.{sum_by-append}
 use Rattle.zt_protocol.specs.Plain.{PlainEntry, PlainLine}
@@ -15,9 +15,10 @@ use Rattle.zt_model.specs.Transcript.{Each, IsEntry, fabric_shown, messages_in, 
 use Rattle.zt_check_trace.specs.Entries.{BeginsWithEntry, FindsEntry}
 use Rattle.zt_check_trace.proofs.MessageLemmas.{all_more}
 use Rattle.zt_check.specs.Clauses.{MeetsAll, decided}
-use Rattle.zt_check.specs.Judging.{BeginsWell, BeginsWithEntries, Breaks, Judges, JudgesTotals}
+use Rattle.zt_check.specs.Judging.{BeginsWell, BeginsWithEntries, Breaks, Judges, JudgesDecided, JudgesTotals, StopsAt}
 use Rattle.zt_check.specs.Totals.{IsInRange, with_entry}
-use Rattle.zt_check.specs.declared.verdict.Clause.TheVariants.{Text}
+use Rattle.zt_check.specs.declared.verdict.Clause.{Clause}
+use Rattle.zt_check.specs.declared.verdict.Clause.TheVariants.{Text, Cause, Upper, Lower, Answers, Finals}
 use Rattle.zt_check.specs.declared.verdict.Verdict.{Verdict}
 use Rattle.zt_check.specs.declared.verdict.Verdict.TheVariants as verdict
 
@@ -100,6 +101,22 @@ module _ {K : Type 0} (printed : K → List ℕ) where
     range = range;
   }
 
+-- the clauses are different ones
+cause_is_not_text : Cause ≡ Text → ⊥
+cause_is_not_text h = cc
+
+upper_is_not_text : Upper ≡ Text → ⊥
+upper_is_not_text h = cc
+
+lower_is_not_text : Lower ≡ Text → ⊥
+lower_is_not_text h = cc
+
+answers_is_not_text : Answers ≡ Text → ⊥
+answers_is_not_text h = cc
+
+finals_is_not_text : Finals ≡ Text → ⊥
+finals_is_not_text h = cc
+
 module _ {K : Type 0} (cmp : K → K → Ordering) (matching : K → K → Bool) (printed : K → List ℕ) where
   entries_met : (lines : List (PlainLine K)) (entries : List (PlainEntry K)) (s : Fabric K) → AllByRecursion IsEntry entries → Each (MeetsAll cmp matching decided) (turns_from cmp matching lines entries s)
   unfolding turns_from
@@ -138,7 +155,41 @@ module _ {K : Type 0} (cmp : K → K → Ordering) (matching : K → K → Bool)
     is_line = omega (arith, h.0, under.lines, under.is_done);
   }
 
+  -- the totals break the form alone
+  decided_last : (lines : List (PlainLine K)) (claimed rest : List ℕ) (report : Report) (verdict : Verdict) → JudgesTotals report rest verdict → Judges cmp matching printed decided lines claimed verdict → JudgesDecided cmp matching printed lines claimed verdict
+  decided_last lines claimed rest report (verdict.Holds totals) h right = right
+  decided_last lines claimed rest report (verdict.Breaks line Text) h right = right
+  decided_last lines claimed rest report (verdict.Breaks line Cause) h right = absurd (cause_is_not_text h.1)
+  decided_last lines claimed rest report (verdict.Breaks line Upper) h right = absurd (upper_is_not_text h.1)
+  decided_last lines claimed rest report (verdict.Breaks line Lower) h right = absurd (lower_is_not_text h.1)
+  decided_last lines claimed rest report (verdict.Breaks line Answers) h right = absurd (answers_is_not_text h.1)
+  decided_last lines claimed rest report (verdict.Breaks line Finals) h right = absurd (finals_is_not_text h.1)
+
   pub totals_result : (lines : List (PlainLine K)) (claimed rest : List ℕ) (report : Report) (done : ℕ) {E : Type 0} (result : Result Verdict E) → IsUnderway printed claimed rest report done → done ≡ length lines
-      → IfOk result (λ verdict. JudgesTotals report rest verdict) → IfOk result (λ verdict. Judges cmp matching printed decided lines claimed verdict)
-  totals_result lines claimed rest report done (Ok verdict) under all h = underway_last lines claimed rest report done verdict under all h
+      → IfOk result (λ verdict. JudgesTotals report rest verdict) → IfOk result (λ verdict. JudgesDecided cmp matching printed lines claimed verdict)
+  totals_result lines claimed rest report done (Ok verdict) under all h =
+      decided_last lines claimed rest report verdict h (underway_last lines claimed rest report done verdict under all h)
   totals_result lines claimed rest report done (Err e) under all h = tt
+
+  -- the entry of the next line stands, and its turn is broken by a clause that isn't decided
+  pub underway_stops : (lines : List (PlainLine K)) (claimed rest : List ℕ) (report : Report) (done number : ℕ) (entry : PlainEntry K) (behind : List ℕ) (failed : Clause) → IsUnderway printed claimed rest report done → number ≡ report.lines + 1
+      → BeginsWithEntry printed number rest entry behind → (Some failed ≡ Some Text → ⊥) → JudgesDecided cmp matching printed lines claimed (verdict.Breaks number failed)
+  underway_stops lines claimed rest report done number entry behind failed under is next other =
+      let same : number ≡ length under.entries + 1 = omega (arith, is, under.lines, under.is_done) in
+      of_clause failed other (record {
+        entries = under.entries;
+        rest = rest;
+        well = begins_well lines claimed under.entries rest under.begins;
+        entry = entry;
+        behind = behind;
+        stands = subst (λ (k : ℕ). BeginsWithEntry printed k rest entry behind) same next;
+        is_line = same;
+      })
+    where
+      of_clause : (failed : Clause) → (Some failed ≡ Some Text → ⊥) → StopsAt cmp matching printed decided lines claimed number → JudgesDecided cmp matching printed lines claimed (verdict.Breaks number failed)
+      of_clause Text other stops = absurd (other refl)
+      of_clause Cause other stops = stops
+      of_clause Upper other stops = stops
+      of_clause Lower other stops = stops
+      of_clause Answers other stops = stops
+      of_clause Finals other stops = stops

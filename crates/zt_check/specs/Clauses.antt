@@ -17,7 +17,8 @@ use Rattle.zt_check.specs.declared.verdict.Clause.TheVariants.{Text, Cause, Uppe
 abbrev pub every_clause : List Clause
 every_clause = Text ∷ Cause ∷ Upper ∷ Lower ∷ Answers ∷ Finals ∷ []
 
--- those that a check decides
+-- those that a check decides exactly, and is proved to; the others it tries too, by code of which no more is proved
+-- than that it is safe
 abbrev pub decided : List Clause
 decided = Text ∷ []
 

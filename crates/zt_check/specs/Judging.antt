@@ -81,10 +81,32 @@ module _ {K : Type 0} (cmp : K → K → Ordering) (matching : K → K → Bool)
     pub breaks : ((failed ≡ Text) × BreaksForm printed lines entries rest) ⊎ FailsNext lines entries rest failed
     pub is_line : line ≡ length entries + 1
 
+  -- The entries before this line stand at the front of the claimed text, and their turns meet the clauses; the line's own
+  -- entry stands behind them, in the printed form.
+  pub record StopsAt (lines : List (PlainLine K)) (claimed : List ℕ) (line : ℕ) : Type 0 where
+    pub entries : List (PlainEntry K)
+    pub rest : List ℕ
+    pub well : BeginsWell lines claimed entries rest
+    pub entry : PlainEntry K
+    pub behind : List ℕ
+    pub stands : BeginsWithEntry printed (length entries + 1) rest entry behind
+    pub is_line : line ≡ length entries + 1
+
   -- what a verdict says of the text that is claimed for these lines
   abbrev pub Judges : List (PlainLine K) → List ℕ → Verdict → Type 0
   Judges lines claimed (Holds report) = IsRight lines claimed report
   Judges lines claimed (verdict.Breaks line failed) = Breaks lines claimed line failed
+
+module _ {K : Type 0} (cmp : K → K → Ordering) (matching : K → K → Bool) (printed : K → List ℕ) where
+  -- What a check says of the text that is claimed for these lines: by the clauses that it decides. Of a break of another
+  -- clause it says no more than where it is.
+  abbrev pub JudgesDecided : List (PlainLine K) → List ℕ → Verdict → Type 0
+  JudgesDecided lines claimed (Holds report) = IsRight cmp matching printed decided lines claimed report
+  JudgesDecided lines claimed (verdict.Breaks line failed) =
+      elim failed [
+        | Text ↦ Breaks cmp matching printed decided lines claimed line Text
+        | _ ↦ StopsAt cmp matching printed decided lines claimed line
+      ]
 
 -- what is said where all entries were read, by their totals
 abbrev pub JudgesTotals : Report → List ℕ → Verdict → Type 0
@@ -101,7 +123,7 @@ module _ {K : Type 0} (cmp : K → K → Ordering) (matching : K → K → Bool)
     pub fits : length script ≤ most_script_bytes
     pub lines : List (PlainLine K)
     pub are_read : AreRead reading (lines_of script) lines
-    pub is_right : Judges cmp matching printed decided lines claimed verdict
+    pub is_right : JudgesDecided cmp matching printed lines claimed verdict
 
   -- The script has too many bytes.
   pub record HasLongScript (input : List ℕ) : Type 0 where

@@ -2,12 +2,13 @@
 ghost use Rattle.std.specs.Prelude.{◌≡◌, ◌<◌, IfOk, map, length};
 ghost use Rattle.zt_keys.specs.Key.{OneSpelling};
 ghost use Rattle.zt_protocol.specs.Plain.{plain_entry, plain_line};
-ghost use Rattle.zt_check.specs.Clauses.{decided};
 ghost use Rattle.zt_check.specs.Totals.{IsInRange, with_entry};
-ghost use Rattle.zt_check.specs.Judging.{Judges, JudgesInput, JudgesTotals};
+ghost use Rattle.zt_check.specs.Judging.{JudgesDecided, JudgesInput, JudgesTotals};
 
+use crate::turns::judge_turn;
 use crate::verdict::{CheckError, Clause, Verdict};
 use std::alloc::Global;
+use zt_check_fabric::ShownFabric;
 use zt_check_trace::{LinesError, cut, next_entry, read_lines};
 use zt_keys::{Key, Memory};
 use zt_protocol::{Entry, Line, Report};
@@ -50,7 +51,7 @@ fn judge_claim<K: Key>(alloc: Global, lines: &[Line<K>], claimed: &[u8]) -> Resu
     requires spelling { OneSpelling K.reading K.printed }
     requires room { length lines.now < 18446744073709551615 }
     ensures { IfOk result
-        (λ verdict. Judges K.cmp K.matching K.printed decided
+        (λ verdict. JudgesDecided K.cmp K.matching K.printed
         (map plain_line lines.now) claimed.now verdict) }
 {
     let mut report = Report {
@@ -59,7 +60,8 @@ fn judge_claim<K: Key>(alloc: Global, lines: &[Line<K>], claimed: &[u8]) -> Resu
         refusals: 0,
     };
     let mut rest = claimed;
-    for _line in lines {
+    let mut fabric = ShownFabric::new(alloc);
+    for line in lines {
         let number = report.lines + 1;
         let Some((entry, behind)) = next_entry::<K>(alloc, rest, number)? else {
             return Ok(Verdict::Breaks {
@@ -69,6 +71,13 @@ fn judge_claim<K: Key>(alloc: Global, lines: &[Line<K>], claimed: &[u8]) -> Resu
         };
         count(&mut report, &entry);
         rest = behind;
+        let failed = judge_turn(alloc, &mut fabric, line, &entry)?;
+        if let Some(clause) = failed {
+            return Ok(Verdict::Breaks {
+                line: number,
+                clause,
+            });
+        }
     }
     judge_totals(alloc, report, rest)
 }

@@ -1,14 +1,16 @@
 //! A judge of foreign transcripts: whether what another implementation printed for a script is a
 //! transcript of it, and if not, the first line at which it isn't.
 //!
-//! It decides one clause so far, that of the printed form. Whether a line is refused by its cause,
-//! and what faces keep, get and are told, isn't looked at yet.
+//! That the printed form is decided rightly is proved. The other five clauses, whether a line is
+//! refused by its cause and what faces keep, get and are told, are decided too; that is tested, and
+//! no more is proved of it than that it is safe.
 #![tactic(auto)]
 
 mod checking;
 mod judging;
 mod laws;
 mod program;
+mod turns;
 mod verdict;
 
 pub use checking::check;

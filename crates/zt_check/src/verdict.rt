@@ -8,7 +8,8 @@ use std::alloc::Global;
 use zt_keys::Memory;
 use zt_protocol::Report;
 
-/// What a claimed transcript is asked for, line by line.
+/// What a claimed transcript is asked for, line by line. That `Text` is decided rightly is proved; of
+/// the others that is tested.
 #[derive(Clone, Copy, PartialEq, Eq, Debug)]
 pub enum Clause {
     /// The printed form: an entry for each line, with its messages in order of face, and the
@@ -45,7 +46,7 @@ impl Clause {
 /// What a judge says of a claimed transcript.
 #[derive(Clone, Copy, PartialEq, Eq, Debug)]
 pub enum Verdict {
-    /// No clause that is decided fails, and these are the totals.
+    /// No clause fails, and these are the totals.
     Holds(Report),
     /// A clause fails, at this line first.
     Breaks {

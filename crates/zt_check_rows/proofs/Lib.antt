@@ -1,2 +1,2 @@
-pub mod Placed
-pub mod Numbers
+pub mod Counted
+pub mod Meant

@@ -1,26 +1,22 @@
-//! The rows of one gateway that a claimed transcript shows: changes of which accepted calls are
-//! made, and what printed messages change. What a call says isn't asked. Which changes a call makes
-//! is up to the caller so far: that its face is open, and that its declaration counts.
-//!
-//! The changes of faces are there, with opening and closing. What calls change of routers' tokens,
-//! of their tables and of entities isn't yet. After an error nothing is said of the rows: they are
-//! to be dropped.
+//! The rows of one gateway that a claimed transcript shows, and what accepted calls change of them.
+//! What a call says isn't asked; what its messages change, its faces hear.
 //!
 //! It stands on the definitions, and shares no code with the gateway that it judges. Rows stand in
-//! plain lists, in the order of the definitions.
+//! plain lists, in the order of the definitions. After an error nothing is said of the rows: they
+//! are to be dropped.
 #![tactic(auto)]
 
-mod among;
-mod by_id;
-mod changes;
-mod face;
-mod face_changes;
-mod hearing;
-mod interest;
+mod calls;
+mod numbers;
+mod opening;
+mod order;
 mod routed;
+mod routes;
 mod rows;
+mod tables;
 
-pub use face::ShownFace;
-pub use interest::{ShownAsk, ShownInterest, ShownPending};
-pub use routed::{ShownRouted, ShownTable};
+pub use numbers::add_numbers;
+pub use order::{compare_regions, goes_by_trees};
+pub use routed::ShownRouted;
 pub use rows::ShownRows;
+pub use zt_check_tables::ShownTable;

@@ -1,0 +1,76 @@
+//! One turn of a claimed transcript: a line with its entry, and the fabric that they show.
+ghost use Rattle.std.specs.Prelude.{◌≢◌, IfOk, Some};
+
+use crate::verdict::Clause;
+use std::alloc::Global;
+use zt_check_asks::{answers_asks, pending_answered, sends_finals};
+use zt_check_fabric::ShownFabric;
+use zt_check_keeping::{changed_by, heard_by, keeps_no_less, keeps_no_more};
+use zt_check_lines::is_refused_by_cause;
+use zt_keys::{Key, Memory};
+use zt_protocol::{Entry, Line, Sent};
+
+// The first of these clauses, in their order, that a turn fails.
+fn first_failed(more: bool, less: bool, answers: bool, finals: bool) -> Option<Clause>
+    ensures { result ≢ Some Clause.Text }
+{
+    if !more {
+        return Some(Clause::Upper);
+    }
+    if !less {
+        return Some(Clause::Lower);
+    }
+    if !answers {
+        return Some(Clause::Answers);
+    }
+    if !finals {
+        return Some(Clause::Finals);
+    }
+    None
+}
+
+// Carries out an accepted line, and answers which clause fails, if any. The only error is want of
+// memory.
+fn judge_accepted<'a, K: Key>(
+    alloc: Global,
+    fabric: &mut ShownFabric<'a, K>,
+    line: &'a Line<K>,
+    sents: &[Sent<K>],
+) -> Result<Option<Clause>, Memory>
+    ensures { IfOk result (λ failed. failed ≢ Some Clause.Text) }
+{
+    let found = fabric.call_of(alloc, line)?;
+    let pending = pending_answered(fabric, &found);
+    let changed = changed_by(alloc, fabric, line, &found)?;
+    fabric.carry_out(alloc, line, sents)?;
+    let heard = heard_by(alloc, fabric, sents)?;
+    let answers = answers_asks(alloc, fabric, &found, pending, sents)?;
+    let finals = sends_finals(fabric, line, &found, &changed.opened, sents);
+    fabric.hear(alloc, sents)?;
+    fabric.wait(alloc, sents)?;
+    let more = keeps_no_more(fabric, &changed, &heard);
+    let less = keeps_no_less(fabric, &changed, &heard);
+    Ok(first_failed(more, less, answers, finals))
+}
+
+/// Judges a line with its entry, after those before, and answers the first clause that it fails, if
+/// any. The only error is want of memory.
+pub(crate) fn judge_turn<'a, K: Key>(
+    alloc: Global,
+    fabric: &mut ShownFabric<'a, K>,
+    line: &'a Line<K>,
+    entry: &Entry<K>,
+) -> Result<Option<Clause>, Memory>
+    ensures { IfOk result (λ failed. failed ≢ Some Clause.Text) }
+{
+    if !is_refused_by_cause(alloc, fabric, line, entry)? {
+        return Ok(Some(Clause::Cause));
+    }
+    match &entry.outcome {
+        Ok(sents) => judge_accepted(alloc, fabric, line, sents),
+        Err(refusal) => {
+            fabric.refuse(line, *refusal);
+            Ok(None)
+        }
+    }
+}

@@ -1,0 +1,4 @@
+pub mod Counting
+pub mod Listed
+pub mod Numbered
+pub mod Seen

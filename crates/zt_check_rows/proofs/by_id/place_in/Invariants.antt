@@ -1,6 +1,0 @@
-use Rattle.zt_check_rows.specs.Placed.{IsBehind}
-use Rattle.zt_check_rows.proofs.by_id.place_in.Given as goal
-
--- what is sought is behind those so far
-abbrev pub invariant-loop-place : goal.invariant-loop-place
-invariant-loop-place g l = IsBehind (g.X.Ranked.ranked l.sought) l.rows l.place

@@ -1,0 +1,80 @@
+// Faces that open and close.
+ghost use Rattle.std.specs.Prelude.{◌≡◌, ◌==◌, filter, not, OnOk};
+ghost use Rattle.zt_model.specs.Shown.{initial_interest, with_new_session, with_new_transport};
+ghost use Rattle.zt_model.specs.Shown.{without_closed};
+
+use crate::rows::ShownRows;
+use std::alloc::Global;
+use zt_check_faces::ShownFace;
+use zt_keys::{Key, Memory};
+use zt_region::{Bound, Region, WhatAmI, Zid};
+
+// A new peer that is to the north, of a gateway that is to its north, hasn't finished what both
+// start by.
+fn initial_interest(own: WhatAmI, region: Region, bound: Bound) -> Option<bool>
+    ensures { result ≡ initial_interest own region bound }
+{
+    if own == WhatAmI::Peer && (region == Region::North && bound == Bound::North) {
+        Some(false)
+    } else {
+        None
+    }
+}
+
+// The face of a number goes.
+fn close_in<K: Key>(faces: &mut Vec<ShownFace<K>>, number: u32)
+    ensures { faces.new.items ≡ filter (λ f. not (number == f.number)) faces.old.items }
+{
+    faces.retain(|face| number != face.number());
+}
+
+impl<K: Key> ShownRows<K> {
+    /// A session opens. The only error is want of memory, as which counts that the numbers of faces
+    /// are given out.
+    pub fn open_session(&mut self, alloc: Global, first: u32) -> Result<(), Memory>
+        ensures { OnOk result (self.new ≡ with_new_session first self.old) }
+    {
+        let Some(number) = self.made.checked_add(1) else {
+            return Err(Memory);
+        };
+        let own = self.zid;
+        let region = Region::Local;
+        let bound = Bound::North;
+        let mode = WhatAmI::Client;
+        let face = ShownFace::new(alloc, number, region, bound, mode, own, first, None);
+        self.faces.push(face)?;
+        self.made = number;
+        Ok(())
+    }
+
+    /// The face of a transport opens. The only error is want of memory, as which counts that the
+    /// numbers of faces are given out.
+    pub fn open_transport(
+        &mut self,
+        alloc: Global,
+        zid: Zid,
+        mode: WhatAmI,
+        region: Region,
+        bound: Bound,
+        first: u32,
+    ) -> Result<(), Memory>
+        ensures { OnOk result (self.new
+            ≡ with_new_transport zid mode region bound first self.old) }
+    {
+        let Some(number) = self.made.checked_add(1) else {
+            return Err(Memory);
+        };
+        let initial = initial_interest(self.mode, region, bound);
+        let face = ShownFace::new(alloc, number, region, bound, mode, zid, first, initial);
+        self.faces.push(face)?;
+        self.made = number;
+        Ok(())
+    }
+
+    /// A face closes.
+    pub fn close(&mut self, number: u32)
+        ensures { self.new ≡ without_closed number self.old }
+    {
+        close_in(&mut self.faces, number);
+    }
+}
