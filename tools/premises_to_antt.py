@@ -15,7 +15,10 @@ or knows, to that of this face:
                                                        face has live
     linked ASKING FINAL KEY FACE WAY                   the ask isn't answered what the face has live, whose gateway is joined later
     knows PREMISE LINE GATEWAY NUMBER KEY FACE WAY     after this line that face of the gateway, counted in order, doesn't keep it
-What `of-trees` lacks stands behind it: a line, a gateway, and `refused`, `regions`, or `north` with a face.
+    keeps PREMISE LINE GATEWAY NUMBER KEY              .. keeps it, and it is live nowhere
+What `of-trees` lacks stands behind it: a line, a gateway, and one of these with a number, counted in order: `refused` with a
+pair of its table; `south` with a face to the south, `north` with one to the north that ends no link, and `mode` with one to the
+north of a gateway that is no client. A script without NAME.lacks lacks nothing: `KEPT` names it.
 """
 import glob, os, re, sys
 from string import Template
@@ -23,7 +26,7 @@ sys.dont_write_bytecode = True
 import scripts_to_antt as scripts
 
 CRATE = os.path.join(scripts.ROOT, 'crates', 'zt_promises_test')
-KEPT = ['asks-in-a-tree', 'tree-echo']
+KEPT = ['definitions/asks-in-a-tree', 'definitions/tree-echo', 'premises/root-with-other-regions']
 
 # the word of a file, the definition, and what it says
 PREMISES = {
@@ -32,7 +35,7 @@ PREMISES = {
     'no-unlinking': ('NoUnlinking', 'no unlinking up to the final'),
     'interest-stands': ('InterestStands', 'no end of its own interest up to the final'),
     'ids-left': ('IdsAreLeft', 'no line is refused for want of ids'),
-    'of-trees': ('IsOfTrees', 'a fabric of trees'),
+    'of-trees': ('IsOfTrees', 'open faces form trees'),
 }
 OF_ASKS = ['nothing-waits', 'no-moment', 'no-unlinking', 'interest-stands', 'ids-left', 'of-trees']
 OF_KNOWLEDGE = ['nothing-waits', 'ids-left', 'of-trees']
@@ -42,6 +45,7 @@ PROMISES = {
     'gets': ('GetsWhatStays', 'GetsLessWithout', 'asks_get_less'),
     'only': ('GetsOnlyWhatWas', 'GetsMoreWithout', 'asks_get_more'),
     'knows': ('KnowsTrees', 'KnowsLessWithout', 'faces_know_less'),
+    'keeps': ('KnowsTrees', 'KnowsLessWithout', 'faces_know_less'),
     'moves': ('GetsWhatStays', 'GetsLessOfMoving', 'asks_get_less'),
     'linked': ('GetsWhatStays', 'GetsLessOfLinked', 'asks_get_less'),
 }
@@ -67,11 +71,12 @@ def fails(premise, places):
     """Why a premise fails: what it comes to, if it holds, can't be."""
     if premise == 'nothing-waits': return 'λ h. never h refl'
     if premise != 'of-trees': return 'λ h. never refl h'
-    line, gateway, what, *face = places
+    line, gateway, what, number = places
     turn = member('h', line)
-    if what == 'refused': return 'λ h. other_list _ _ %s.1 refl' % member(turn + '.clients', gateway)
-    if what == 'regions': return 'λ h. never %s.0 refl' % member(turn + '.clients', gateway)
-    return 'λ h. never refl (%s refl).1' % member(member(turn + '.north', gateway), face[0])
+    if what == 'refused': return 'λ h. never refl %s' % member(member(turn + '.admitted', gateway), number)
+    if what == 'south': return 'λ h. never %s refl' % member(member(turn + '.south', gateway), number)
+    leads = '(%s refl)' % member(member(turn + '.north', gateway), number)
+    return 'λ h. never %s.0 refl' % leads if what == 'mode' else 'λ h. never refl %s.1' % leads
 
 class Lacking:
     def __init__(self, base):
@@ -89,10 +94,10 @@ class Lacking:
         self.turns = '(turns_in part.%s)' % self.name
     def statement(self):
         if not self.premise: return '%s part.%s' % (PROMISES[self.promise][1], self.name)
-        number = '%s ' % self.places[0] if self.promise == 'knows' else ''
+        number = '%s ' % self.places[0] if self.promise in ('knows', 'keeps') else ''
         return '%s %s %spart.%s' % (PROMISES[self.promise][1], PREMISES[self.premise][0], number, self.name)
     def premises(self):
-        of = OF_KNOWLEDGE if self.promise == 'knows' else OF_ASKS
+        of = OF_KNOWLEDGE if self.promise in ('knows', 'keeps') else OF_ASKS
         holds = lambda p: 'trees_by %s refl' % self.turns if p == 'of-trees' else 'refl'
         return nested([fails(p, self.premise_places) if p == self.premise else holds(p) for p in of])
     def ask(self, asking, final):
@@ -116,7 +121,7 @@ class Lacking:
     def stays(self, face, way):
         return STAYS.substitute(own=way[0], other=way[-1], face=face, way=way_term(way))
     def proof(self):
-        return {'gets': self.gets, 'only': self.only, 'knows': self.knows, 'moves': self.moves, 'linked': self.linked}[self.promise]()
+        return getattr(self, self.promise)()
     def gets(self):
         asking, final, key, face, way = self.places
         return MISSES.substitute(ask=self.ask(int(asking), int(final)), premises=self.premises(), key=self.key(key), stays=self.stays(face, way.split(',')))
@@ -150,6 +155,10 @@ class Lacking:
         way = way.split(',')
         known = member(member('h', gateway), number)
         return KNOWS_NOT.substitute(number=line, turns=self.turns, premises=self.premises(), known=known, key=self.key(key), live=self.live(face, way))
+    def keeps(self):
+        line, gateway, number, key = self.places
+        known = member(member('h', gateway), number)
+        return KEEPS_STILL.substitute(number=line, turns=self.turns, premises=self.premises(), known=known, key=self.key(key), name=self.name)
 
 ASK = Template('''record {
     earlier = $earlier;
@@ -228,11 +237,20 @@ KNOWS_NOT = Template('''record {
   unknown = λ h. never (($known refl refl).live_is_kept $key refl ($live)) refl;
 }''')
 
+KEEPS_STILL = Template('''record {
+  turn = turn_at $number $turns;
+  is_turn = turn_is $number $turns refl;
+  premises = $premises;
+  unknown = λ h.
+      let lives = ($known refl refl).kept_is_live $key refl refl in
+      never lives.live (live_nowhere nat_cmp (matching_in part.$name) $key (turn_at $number $turns).after refl lives.face);
+}''')
+
 # ---- the crate
 
 MADE = 'Written by tools/premises_to_antt.py; change the scripts or the tool, and not this file.'
 
-DEFINITIONS = Template('''-- Scripts that lack a premise of a promise over trees, and two that lack none, as the definitions speak of them.
+DEFINITIONS = Template('''-- Scripts that lack a premise of a promise over trees, and three that lack none, as the definitions speak of them.
 -- $made
 $names
 $definitions''')
@@ -260,9 +278,9 @@ use Rattle.zt_model.specs.TreePromises.{Itself, Beyond}
 use Rattle.zt_model_test.specs.Script.{matching_in, options}
 use Rattle.zt_promises_test.specs.Premises.{NothingWaits, NoMoment, NoUnlinking, InterestStands, IdsAreLeft, IsOfTrees, GetsLessWithout, GetsMoreWithout, KnowsLessWithout, GetsLessOfMoving, GetsLessOfLinked, turns_in}
 use Rattle.zt_promises_test.specs.Lacking as part
-use Rattle.zt_promises_test.proofs.Apart.{never, other_list}
+use Rattle.zt_promises_test.proofs.Apart.{never}
 use Rattle.zt_promises_test.proofs.Opened.{opened}
-use Rattle.zt_promises_test.proofs.Tests.{cut_at_both, cut_at_own, first_turn, none_stays, same_tree_same_side, some_is, trees_by, turn_at, turn_is, was_nowhere}
+use Rattle.zt_promises_test.proofs.Tests.{cut_at_both, cut_at_own, first_turn, live_nowhere, none_stays, same_tree_same_side, some_is, trees_by, turn_at, turn_is, was_nowhere}
 '''
 
 def used(names, body):
@@ -282,7 +300,7 @@ def write(path, content):
     with open(path, 'w', encoding='utf-8') as file: file.write(content)
 
 def write_part(lacking):
-    kept = [scripts.script_definition(os.path.join(scripts.ROOT, 'tests', 'definitions', name), whole=True) for name in KEPT]
+    kept = [scripts.script_definition(os.path.join(scripts.ROOT, 'tests', name), whole=True) for name in KEPT]
     body = '\n'.join([l.definition for l in lacking] + kept)
     write('specs/Lacking.antt', DEFINITIONS.substitute(made=MADE, names=scripts.used(scripts.NAMES, body), definitions=body))
     laws = '\n'.join(LAW.substitute(says=l.says, name=l.name, statement=l.statement(), proof=l.proof().replace('\n', '\n  ')) for l in lacking)
@@ -292,7 +310,8 @@ MODULE = Template("""//! What the promises over trees stand on: `premises_suffic
 //! the promises. Each other law is named for its script, and says that the definitions give the
 //! script its transcript, and of this what it names: that a promise is broken and one premise alone
 //! fails, or that the promises are kept. The scripts that lack a premise are those of
-//! `tests/premises`, the two others stand in `tests/definitions`.
+//! `tests/premises`, where `root-with-other-regions` lacks none; the two others stand in
+//! `tests/definitions`.
 //!
 //! $made
 
@@ -309,10 +328,12 @@ pub fn premises_suffice()
     ensures knowledge { (cmp : ℕ → ℕ → Ordering) (matching : ℕ → ℕ → Bool) → SufficeForKnowledge cmp matching }
 {}
 
-/// Two scripts that lack no premise keep the promises: an ask gets the one token that stays, and
-/// faces know their trees after each turn of these numbers.
+/// Three scripts that lack no premise keep the promises: an ask gets the one token that stays, also
+/// where the root lists a region of peers and refuses pairs of regions, and faces know their trees
+/// after each turn of these numbers.
 pub fn promises_are_kept()
     ensures asks_in_a_tree { GetsAlone 0 part.asks_in_a_tree }
+    ensures root_with_other_regions { GetsAlone 0 part.root_with_other_regions }
     ensures tree_echo { KnowsAfter (14 ∷ 18 ∷ 21 ∷ 23 ∷ 28 ∷ []) part.tree_echo }
 {}
 $functions""")

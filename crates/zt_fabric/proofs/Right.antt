@@ -7,7 +7,6 @@ use Rattle.zt_protocol.specs.Plain.{PlainEntry, PlainLine}
 use Rattle.zt_model.specs.Fabric.{empty_fabric, entries_from}
 use Rattle.zt_model.specs.Promises.{AnswersAsks, DrawsNextIds, EndsUpstream, EndsWhatStands, FinishesInitial, IsMoreSparing, IsSparing, KeepsExactly, MeetsPromises, MeetsStricterPromises, SendsFinals, SendsUpstream, TellsOfRouters, TellsTheFuture, Turn, UndeclaresWhatIsGone, UndeclaresWhatWasKept, turns_from}
 use Rattle.zt_model.specs.Transcript.{Each, IsFaithfulFrom, IsStrictFrom}
-use Rattle.zt_model.specs.TreePromises.{IsTreeFabric, KeepTreePromises}
 use Rattle.zt_laws.specs.Sound.{HasFirstIds}
 use Rattle.zt_laws.proofs.LinesOrder.{in_order_empty}
 use Rattle.zt_theorem_soundness.proofs.Sound.{sound_start}
@@ -28,6 +27,7 @@ use Rattle.zt_theorem_finals.proofs.Initial.{turns_finish_initial}
 use Rattle.zt_theorem_finals.proofs.Whole.{turns_send_first}
 use Rattle.zt_theorem_transcript.specs.Named.{HasNamedOptions}
 use Rattle.zt_theorem_transcript.proofs.Whole.{faithful_from, strict_from}
+use Rattle.zt_theorem_tree_invariant.specs.Trees.{FacesFormTrees, KeepPromisesOfTrees}
 use Rattle.zt_theorem_tree_invariant.proofs.Start.{agree_at_first}
 use Rattle.zt_theorem_tree_knowledge.proofs.Turns.{turns_know}
 use Rattle.zt_theorem_tree_only_what_lived.proofs.Asks.{gets_only}
@@ -42,7 +42,7 @@ module _ {K : Type 0} (cmp : K → K → Ordering) (matching : K → K → Bool)
     pub stricter_promises : Each (MeetsStricterPromises cmp matching) (turns_from cmp matching lines entries empty_fabric)
     pub news : Each (TellsWhatIsNew cmp matching) (turns_from cmp matching lines entries empty_fabric)
     pub exactly : Each (PrintsExactly cmp matching) (turns_from cmp matching lines entries empty_fabric)
-    pub tree_promises : KeepTreePromises cmp matching (turns_from cmp matching lines entries empty_fabric)
+    pub tree_promises : KeepPromisesOfTrees cmp matching (turns_from cmp matching lines entries empty_fabric)
 
   -- each promise of each turn
   record EachKept (ts : List (Turn K)) : Type 0 where
@@ -142,7 +142,7 @@ module _ {K : Type 0} (cmp : K → K → Ordering) (matching : K → K → Bool)
           exactly = turns_print cmp matching total lines empty_fabric real ordered;
           tree_promises = λ trees.
               let agree = agree_at_first cmp matching in
-              let none : IsTreeFabric empty_fabric = record { north = tt; clients = tt } in
+              let none : FacesFormTrees empty_fabric = record { north = tt; south = tt; admitted = tt } in
               record {
                 knowledge = turns_know cmp matching total equal_is_same lines empty_fabric real sound agree trees;
                 gets = gets_what_stays cmp matching total equal_is_same lines empty_fabric real sound agree none trees;

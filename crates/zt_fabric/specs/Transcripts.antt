@@ -15,9 +15,9 @@ use Rattle.zt_wire.specs.Text.{entries_text, report_text}
 use Rattle.zt_model.specs.Fabric.{empty_fabric, entries_from}
 use Rattle.zt_model.specs.Promises.{MeetsPromises, MeetsStricterPromises, turns_from}
 use Rattle.zt_model.specs.Transcript.{Each, IsFaithfulFrom, IsStrictFrom, report_of}
-use Rattle.zt_model.specs.TreePromises.{KeepTreePromises}
 use Rattle.zt_theorem_exact_messages.specs.Exact.{PrintsExactly}
 use Rattle.zt_theorem_message_ids.specs.Anew.{TellsWhatIsNew}
+use Rattle.zt_theorem_tree_invariant.specs.Trees.{KeepPromisesOfTrees}
 
 -- the most bytes of a script
 abbrev pub most_bytes : ℕ
@@ -47,7 +47,7 @@ module _ {K : Type 0} (cmp : K → K → Ordering) (matching : K → K → Bool)
   -- open face and its gateway, and too few ids are left only for a line's own call. And each turn, a line with its
   -- entry, keeps all promises, those that are kept beside them too; and no face is told a token that it keeps already,
   -- but in answer to an ask. Undeclarations by expression go to who wants and doesn't keep them, interests in subscribers
-  -- and queryables get exactly those due, and node ids are those that tables give. Where the fabric is one of trees after
+  -- and queryables get exactly those due, and node ids are those that tables give. Where open faces form trees after
   -- each line, and none is refused for want of ids, whoever asked for tokens now and later knows its tree where all links
   -- are empty, and asks get what stays in their tree, and only what was there.
   pub record IsTranscript (texts : List (List ℕ)) (entries : List (PlainEntry K)) : Type 0 where
@@ -60,7 +60,7 @@ module _ {K : Type 0} (cmp : K → K → Ordering) (matching : K → K → Bool)
     pub keep_stricter_promises : Each (MeetsStricterPromises cmp matching) (turns_from cmp matching lines entries empty_fabric)
     pub tell_what_is_new : Each (TellsWhatIsNew cmp matching) (turns_from cmp matching lines entries empty_fabric)
     pub print_exactly : Each (PrintsExactly cmp matching) (turns_from cmp matching lines entries empty_fabric)
-    pub keep_tree_promises : KeepTreePromises cmp matching (turns_from cmp matching lines entries empty_fabric)
+    pub keep_tree_promises : KeepPromisesOfTrees cmp matching (turns_from cmp matching lines entries empty_fabric)
 
 module _ {K : Type 0} (cmp : K → K → Ordering) (matching : K → K → Bool) (reading : List ℕ → Result K KeyError) (printed : K → List ℕ) where
   -- The source was read to its end. Exactly the transcript of all its lines was written, with its totals, which

@@ -1,11 +1,12 @@
--- Two scripts that keep the promises over trees, by evaluation. Both know one key, 0.
+-- Three scripts that keep the promises over trees, by evaluation. Each knows one key, 0.
 use Rattle.std.proofs.Common.{◌≡◌, ℕ, ◌==◌, Bool, true, false, ◌||◌, [], ◌∷◌, take, drop, Some, refl, eqb-true, true≢false, sym}
 use Rattle.std.specs.Ordering.{nat_cmp}
 use Rattle.zt_protocol.specs.declared.interests.InterestMode.TheVariants.{Current}
 use Rattle.zt_model.specs.Lists.{rest_of}
 use Rattle.zt_model.specs.Transcript.{Each, face_numbered}
-use Rattle.zt_model.specs.TreePromises.{Beyond, IsTreeFabric, Itself}
+use Rattle.zt_model.specs.TreePromises.{Beyond, Itself}
 use Rattle.zt_model_test.specs.Script.{matching_in, options}
+use Rattle.zt_theorem_tree_invariant.specs.Trees.{FacesFormTrees}
 use Rattle.zt_promises_test.specs.Lacking as part
 use Rattle.zt_promises_test.specs.Premises.{GetsAlone, Knows, KnowsAfter, turns_in}
 use Rattle.zt_promises_test.proofs.Opened.{opened}
@@ -57,6 +58,50 @@ asks_in_a_tree = (
   },
 )
 
+-- the root lists a region of peers and refuses pairs of regions, of which one has no face
+pub root_with_other_regions : GetsAlone 0 part.root_with_other_regions
+unfolding opened
+root_with_other_regions = (
+  (refl, refl),
+  record {
+    ask = record {
+      earlier = take 6 (turns_in part.root_with_other_regions);
+      asking = first_turn (drop 6 (turns_in part.root_with_other_regions));
+      between = take 2 (rest_of (drop 6 (turns_in part.root_with_other_regions)));
+      ending = Some (first_turn (drop 2 (rest_of (drop 6 (turns_in part.root_with_other_regions)))));
+      later = rest_of (drop 2 (rest_of (drop 6 (turns_in part.root_with_other_regions))));
+      turns_are = cut_at_both 6 2 (turns_in part.root_with_other_regions) refl refl;
+      face = 4;
+      id = 1;
+      interest = record { mode = Current; options = options 8; expr = Some 0 };
+      made = record {
+        accepted = refl;
+        plain = refl;
+        options = options 8;
+        at = (some_is (face_numbered (first_turn (drop 6 (turns_in part.root_with_other_regions))).before 4) refl).0;
+        line = refl;
+        there = (some_is (face_numbered (first_turn (drop 6 (turns_in part.root_with_other_regions))).before 4) refl).1;
+        kept = refl;
+        current = refl;
+        tokens = refl;
+      };
+      finished = (refl, refl);
+    };
+    premises = (refl, (refl, (refl, (refl, (refl, (trees_by (turns_in part.root_with_other_regions) refl, tt))))));
+    stays = record {
+      about = refl;
+      own = 2;
+      other = 1;
+      place = 3;
+      at_own = refl;
+      in_tree = Beyond 2 2 1 (Itself 2) refl;
+      at_other = refl;
+      stays = refl;
+    };
+    answers = refl;
+  },
+)
+
 -- ---- knowledge
 
 -- the one key that an interest in this key is about
@@ -67,7 +112,7 @@ zero_alone e h = by_case (0 == e) refl h
     by_case true is h = eqb-true 0 e is
     by_case false is h = absurd (true≢false (sym h))
 
-trees : Each (λ t. IsTreeFabric t.after) (turns_in part.tree_echo)
+trees : Each (λ t. FacesFormTrees t.after) (turns_in part.tree_echo)
 unfolding opened
 trees = trees_by (turns_in part.tree_echo) refl
 

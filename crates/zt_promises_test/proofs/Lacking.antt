@@ -9,9 +9,9 @@ use Rattle.zt_model.specs.TreePromises.{Itself, Beyond}
 use Rattle.zt_model_test.specs.Script.{matching_in, options}
 use Rattle.zt_promises_test.specs.Premises.{NothingWaits, NoMoment, NoUnlinking, InterestStands, IdsAreLeft, IsOfTrees, GetsLessWithout, GetsMoreWithout, KnowsLessWithout, GetsLessOfMoving, GetsLessOfLinked, turns_in}
 use Rattle.zt_promises_test.specs.Lacking as part
-use Rattle.zt_promises_test.proofs.Apart.{never, other_list}
+use Rattle.zt_promises_test.proofs.Apart.{never}
 use Rattle.zt_promises_test.proofs.Opened.{opened}
-use Rattle.zt_promises_test.proofs.Tests.{cut_at_both, cut_at_own, first_turn, none_stays, same_tree_same_side, some_is, trees_by, turn_at, turn_is, was_nowhere}
+use Rattle.zt_promises_test.proofs.Tests.{cut_at_both, cut_at_own, first_turn, live_nowhere, none_stays, same_tree_same_side, some_is, trees_by, turn_at, turn_is, was_nowhere}
 
 -- the answer is refused, since its face has no id left
 pub answer_without_an_id : GetsLessWithout IdsAreLeft part.answer_without_an_id
@@ -279,10 +279,23 @@ pair_refused = (
       };
       finished = (refl, refl);
     };
-    premises = (refl, (refl, (refl, (refl, (refl, (λ h. other_list _ _ h.1.0.clients.1.0.1 refl, tt))))));
+    premises = (refl, (refl, (refl, (refl, (refl, (λ h. never refl h.1.1.1.0.admitted.1.0.0, tt))))));
     expr = 0;
     stays = record { about = refl; own = 1; other = 2; place = 3; at_own = refl; in_tree = Beyond 1 1 2 (Itself 1) refl; at_other = refl; stays = refl };
     missed = refl;
+  },
+)
+
+-- a peer face is not shown the tokens of its own region, not even its own
+pub peer_alone : KnowsLessWithout IsOfTrees 4 part.peer_alone
+unfolding opened
+peer_alone = (
+  (refl, refl),
+  record {
+    turn = turn_at 4 (turns_in part.peer_alone);
+    is_turn = turn_is 4 (turns_in part.peer_alone) refl;
+    premises = (refl, (refl, (λ h. never h.1.0.south.0.0 refl, tt)));
+    unknown = λ h. never ((h.0.0 refl refl).live_is_kept 0 refl (record { face = 1; at_gateway = 1; place = refl; in_tree = Itself 1; live = refl })) refl;
   },
 )
 
@@ -294,8 +307,36 @@ region_of_peers = (
   record {
     turn = turn_at 5 (turns_in part.region_of_peers);
     is_turn = turn_is 5 (turns_in part.region_of_peers) refl;
-    premises = (refl, (refl, (λ h. never h.0.clients.0.0 refl, tt)));
+    premises = (refl, (refl, (λ h. never h.1.0.south.0.0 refl, tt)));
     unknown = λ h. never ((h.0.1.0 refl refl).live_is_kept 0 refl (record { face = 1; at_gateway = 1; place = refl; in_tree = Itself 1; live = refl })) refl;
+  },
+)
+
+-- a token of a router stays when the face to it has closed
+pub router_gone_rows_stay : KnowsLessWithout IsOfTrees 7 part.router_gone_rows_stay
+unfolding opened
+router_gone_rows_stay = (
+  (refl, refl),
+  record {
+    turn = turn_at 7 (turns_in part.router_gone_rows_stay);
+    is_turn = turn_is 7 (turns_in part.router_gone_rows_stay) refl;
+    premises = (refl, (refl, (λ h. never refl (h.1.0.north.0.0 refl).1, tt)));
+    unknown = λ h.
+        let lives = (h.0.0 refl refl).kept_is_live 0 refl refl in
+        never lives.live (live_nowhere nat_cmp (matching_in part.router_gone_rows_stay) 0 (turn_at 7 (turns_in part.router_gone_rows_stay)).after refl lives.face);
+  },
+)
+
+-- two linked routers without tables tell each other nothing
+pub routers_without_tables : KnowsLessWithout IsOfTrees 7 part.routers_without_tables
+unfolding opened
+routers_without_tables = (
+  (refl, refl),
+  record {
+    turn = turn_at 7 (turns_in part.routers_without_tables);
+    is_turn = turn_is 7 (turns_in part.routers_without_tables) refl;
+    premises = (refl, (refl, (λ h. never (h.1.1.0.north.0.0 refl).0 refl, tt)));
+    unknown = λ h. never ((h.1.0.1.0 refl refl).live_is_kept 0 refl (record { face = 3; at_gateway = 1; place = refl; in_tree = Beyond 2 2 1 (Itself 2) refl; live = refl })) refl;
   },
 )
 

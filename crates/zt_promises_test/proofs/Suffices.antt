@@ -8,7 +8,8 @@ use Rattle.zt_model.specs.Lists.{nth}
 use Rattle.zt_model.specs.Promises.{Turn, is_accepted}
 use Rattle.zt_model.specs.Rows.{InterestRow}
 use Rattle.zt_model.specs.Transcript.{Each}
-use Rattle.zt_model.specs.TreePromises.{IsTreeFabric, IsTreeTurn, TreeAsk, disturbs, is_ids_spent}
+use Rattle.zt_model.specs.TreePromises.{TreeAsk, disturbs, is_ids_spent}
+use Rattle.zt_theorem_tree_invariant.specs.Trees.{FacesFormTrees, LeavesTrees}
 use Rattle.zt_promises_test.specs.Premises.{AskIn, Holds, SufficeForKnowledge, SufficeForWhatStays, SufficeForWhatWas, comes, is_end_of_interest, is_moment, is_unlinking, premises_of_asks, turns_to_final}
 
 pub by_test : {G : Type 0} (b : Bool) → (b ≡ true → G) → (b ≡ false → G) → G
@@ -66,7 +67,7 @@ module _ {K : Type 0} (cmp : K → K → Ordering) (matching : K → K → Bool)
       (none_disturbs face id interest t.line t.entry t.before t.after m.0 u.0 o.0)
       (undisturbed face id interest ts m.1 u.1 o.1)
 
-  each_turn : (ts : List (Turn K)) → list_any (is_ids_spent cmp matching) ts ≡ false → Each (λ t. IsTreeFabric t.after) ts → Each (IsTreeTurn cmp matching) ts
+  each_turn : (ts : List (Turn K)) → list_any (is_ids_spent cmp matching) ts ≡ false → Each (λ t. FacesFormTrees t.after) ts → Each (LeavesTrees cmp matching) ts
   each_turn [] left trees = tt
   each_turn (t ∷ ts) left trees =
       let l = neither (is_ids_spent cmp matching t) (list_any (is_ids_spent cmp matching) ts) left in
@@ -89,7 +90,7 @@ module _ {K : Type 0} (cmp : K → K → Ordering) (matching : K → K → Bool)
     finished = a.finished;
   }
 
-  trees_of : {turns : List (Turn K)} (a : AskIn cmp matching turns) → Each (Holds cmp matching a) premises_of_asks → Each (IsTreeTurn cmp matching) turns
+  trees_of : {turns : List (Turn K)} (a : AskIn cmp matching turns) → Each (Holds cmp matching a) premises_of_asks → Each (LeavesTrees cmp matching) turns
   trees_of {turns} a holds = each_turn turns holds.1.1.1.1.0 holds.1.1.1.1.1.0
 
   pub suffice_for_what_stays : SufficeForWhatStays cmp matching

@@ -16,9 +16,10 @@ use Rattle.zt_model.specs.Lists.{nth, rest_of}
 use Rattle.zt_model.specs.Promises.{EachGateway, Turn}
 use Rattle.zt_model.specs.Rows.{ById, Face, InterestRow, Rows}
 use Rattle.zt_model.specs.Transcript.{Each, face_numbered}
-use Rattle.zt_model.specs.TreePromises.{Beyond, Here, IsInTree, IsMember, IsPlainlyLive, Itself, IsTreeFabric, KnowsItsTree, LeadsUpByLink, ServesClients, There, holds_both, is_at_gateway, is_client_region, is_plain, is_plain_number, is_plainly_live_at}
+use Rattle.zt_model.specs.TreePromises.{Beyond, Here, IsInTree, IsMember, IsPlainlyLive, Itself, KnowsItsTree, LeadsUpByLink, There, holds_both, is_at_gateway, is_client_region, is_plain, is_plain_number, is_plainly_live_at}
 use Rattle.zt_model.specs.Visible.{keeps}
 use Rattle.zt_model.specs.Seen.{concerns, interests_held, is_owed}
+use Rattle.zt_theorem_tree_invariant.specs.Trees.{FacesFormTrees, IsOfClients, RefusesNoFaces, have_both_faces}
 use Rattle.zt_promises_test.specs.Premises.{FacesKnow}
 use Rattle.zt_promises_test.proofs.Suffices.{by_test, neither}
 
@@ -38,19 +39,14 @@ abbrev pub all_faces : {K : Type 0} → (ℕ → Rows K → Face K → Bool) →
 all_faces p n [] = true
 all_faces p n (node ∷ nodes) = list_all (p n node.rows) node.rows.faces && all_faces p (n + 1) nodes
 
-abbrev pub is_nil : {A : Type 0} → List A → Bool
-is_nil [] = true
-is_nil (x ∷ xs) = false
+abbrev pub is_of_clients : {K : Type 0} → ℕ → Rows K → Face K → Bool
+is_of_clients n g f = is_client_region f.region
 
-nil_is : {A : Type 0} (xs : List A) → is_nil xs ≡ true → xs ≡ []
-nil_is [] e = refl
-nil_is (x ∷ xs) e = absurd (true≢false (sym e))
+abbrev pub refuses_no_faces : {K : Type 0} → Node K → Bool
+refuses_no_faces node = list_all (λ pair. not (have_both_faces node.rows pair)) node.rows.refused
 
-abbrev pub serves_clients : {K : Type 0} → Node K → Bool
-serves_clients node = list_all is_client_region node.rows.regions && is_nil node.rows.refused
-
-abbrev pub is_tree_fabric : {K : Type 0} → Fabric K → Bool
-is_tree_fabric s = all_faces (leads_up s) 1 s.gateways && list_all serves_clients s.gateways
+abbrev pub do_faces_form_trees : {K : Type 0} → Fabric K → Bool
+do_faces_form_trees s = all_faces (leads_up s) 1 s.gateways && (all_faces is_of_clients 1 s.gateways && list_all refuses_no_faces s.gateways)
 
 each_passes : {A : Type 0} (P : A → Type 0) (p : A → Bool) → ((x : A) → p x ≡ true → P x) → (xs : List A) → list_all p xs ≡ true → Each P xs
 each_passes P p h [] e = tt
@@ -63,21 +59,30 @@ faces_pass P p h n (node ∷ nodes) e =
     let both = and_parts (list_all (p n node.rows) node.rows.faces) (all_faces p (n + 1) nodes) e in
     (each_passes (P n node.rows) (p n node.rows) (h n node.rows) node.rows.faces both.0, faces_pass P p h (n + 1) nodes both.1)
 
-clients_by : {K : Type 0} (n : ℕ) (nodes : List (Node K)) → list_all serves_clients nodes ≡ true → EachGateway ServesClients n nodes
-clients_by n [] e = tt
-clients_by n (node ∷ nodes) e =
-    let both = and_parts (serves_clients node) (list_all serves_clients nodes) e in
-    let own = and_parts (list_all is_client_region node.rows.regions) (is_nil node.rows.refused) both.0 in
-    ((own.0, nil_is node.rows.refused own.1), clients_by (n + 1) nodes both.1)
+is_not : (b : Bool) → not b ≡ true → b ≡ false
+is_not true e = absurd (true≢false (sym e))
+is_not false e = refl
 
-tree_by : {K : Type 0} (s : Fabric K) → is_tree_fabric s ≡ true → IsTreeFabric s
+admitted_by : {K : Type 0} (n : ℕ) (nodes : List (Node K)) → list_all refuses_no_faces nodes ≡ true → EachGateway RefusesNoFaces n nodes
+admitted_by n [] e = tt
+admitted_by n (node ∷ nodes) e =
+    let both = and_parts (refuses_no_faces node) (list_all refuses_no_faces nodes) e in (
+      each_passes (λ pair. have_both_faces node.rows pair ≡ false) (λ pair. not (have_both_faces node.rows pair)) (λ pair. is_not (have_both_faces node.rows pair)) node.rows.refused both.0,
+      admitted_by (n + 1) nodes both.1,
+    )
+
+tree_by : {K : Type 0} (s : Fabric K) → do_faces_form_trees s ≡ true → FacesFormTrees s
 tree_by s e =
-    let both = and_parts (all_faces (leads_up s) 1 s.gateways) (list_all serves_clients s.gateways) e in
-    let north_ = faces_pass (LeadsUpByLink s) (leads_up s) (λ n g f. leads (is_north f.region) (whatami_eq g.mode Client) (is_plain s n f)) 1 s.gateways both.0 in
-    record { north = north_; clients = clients_by 1 s.gateways both.1 }
+    let both = and_parts (all_faces (leads_up s) 1 s.gateways) (all_faces is_of_clients 1 s.gateways && list_all refuses_no_faces s.gateways) e in
+    let others = and_parts (all_faces is_of_clients 1 s.gateways) (list_all refuses_no_faces s.gateways) both.1 in
+    record {
+      north = faces_pass (LeadsUpByLink s) (leads_up s) (λ n g f. leads (is_north f.region) (whatami_eq g.mode Client) (is_plain s n f)) 1 s.gateways both.0;
+      south = faces_pass (λ n g f. IsOfClients f) is_of_clients (λ n g f h. h) 1 s.gateways others.0;
+      admitted = admitted_by 1 s.gateways others.1;
+    }
 
-pub trees_by : {K : Type 0} (ts : List (Turn K)) → list_all (λ t. is_tree_fabric t.after) ts ≡ true → Each (λ t. IsTreeFabric t.after) ts
-trees_by ts e = each_passes (λ t. IsTreeFabric t.after) (λ t. is_tree_fabric t.after) (λ t. tree_by t.after) ts e
+pub trees_by : {K : Type 0} (ts : List (Turn K)) → list_all (λ t. do_faces_form_trees t.after) ts ≡ true → Each (λ t. FacesFormTrees t.after) ts
+trees_by ts e = each_passes (λ t. FacesFormTrees t.after) (λ t. do_faces_form_trees t.after) (λ t. tree_by t.after) ts e
 
 -- ---- what is live nowhere, by a test
 

@@ -1,10 +1,10 @@
--- Scripts that lack a premise of a promise over trees, and two that lack none, as the definitions speak of them.
+-- Scripts that lack a premise of a promise over trees, and three that lack none, as the definitions speak of them.
 -- Written by tools/premises_to_antt.py; change the scripts or the tool, and not this file.
 use Rattle.std.specs.Prelude.{true, false, [], ◌∷◌, Some, None, Ok, Err}
 use Rattle.zt_region.specs.declared.region.Bound.TheVariants as bound
 use Rattle.zt_region.specs.declared.region.Region.TheVariants.{North, Local, South}
 use Rattle.zt_region.specs.declared.region.WhatAmI.TheVariants.{Router, Peer, Client}
-use Rattle.zt_protocol.specs.Plain.{DeclareToken, UndeclareToken, Interest, InterestFinal, DeclareFinal, Gateway, Session, Face as FaceLine, Link as LinkLine, Unlink, Step, Speak, Moment}
+use Rattle.zt_protocol.specs.Plain.{DeclareToken, UndeclareToken, Interest, InterestFinal, DeclareFinal, CloseFace, Gateway, Session, Face as FaceLine, Link as LinkLine, Unlink, Step, Speak, Moment, SetTreesAt}
 use Rattle.zt_protocol.specs.declared.errors.Refusal.TheVariants as refusal
 use Rattle.zt_protocol.specs.declared.interests.InterestMode.TheVariants.{Current, CurrentFuture}
 use Rattle.zt_protocol.specs.declared.messages.Message.TheVariants as message
@@ -230,6 +230,25 @@ pair_refused = record {
   totals = Some (record { lines = 7; messages = 1; refusals = 0 });
 }
 
+-- peer-alone: 0 is k
+abbrev pub peer_alone : Script
+peer_alone = record {
+  matches = [];
+  lines =
+      Gateway Router (zid 1) (South 0 Peer ∷ []) None None 10000 []
+      ∷ FaceLine 1 Peer (zid 2) (South 0 Peer) bound.North 1
+      ∷ Speak (DeclareToken 1 1 0 0 None)
+      ∷ Speak (Interest 1 1 CurrentFuture (options 8) None)
+      ∷ [];
+  entries =
+      Ok []
+      ∷ Ok []
+      ∷ Ok []
+      ∷ Ok (sent 1 1 (message.DeclareFinal 1) ∷ [])
+      ∷ [];
+  totals = Some (record { lines = 4; messages = 1; refusals = 0 });
+}
+
 -- region-of-peers: 0 is k
 abbrev pub region_of_peers : Script
 region_of_peers = record {
@@ -249,6 +268,56 @@ region_of_peers = record {
       ∷ Ok []
       ∷ [];
   totals = Some (record { lines = 5; messages = 1; refusals = 0 });
+}
+
+-- router-gone-rows-stay: 0 is k
+abbrev pub router_gone_rows_stay : Script
+router_gone_rows_stay = record {
+  matches = [];
+  lines =
+      Gateway Router (zid 1) [] None None 10000 []
+      ∷ FaceLine 1 Router (zid 10) North bound.North 1
+      ∷ SetTreesAt 1 North (record { routers = ((0, zid 1) ∷ (1, zid 10) ∷ []); links = ((1, 1, zid 10) ∷ []); children = [] })
+      ∷ Speak (DeclareToken 1 0 0 1 None)
+      ∷ Speak (CloseFace 1)
+      ∷ Session 1 1
+      ∷ Speak (Interest 2 1 CurrentFuture (options 8) (Some 0))
+      ∷ [];
+  entries =
+      Ok []
+      ∷ Ok []
+      ∷ Ok []
+      ∷ Ok []
+      ∷ Ok []
+      ∷ Ok []
+      ∷ Ok (sent 1 2 (message.DeclareToken 1 0 (Some 1) 0) ∷ sent 1 2 (message.DeclareFinal 1) ∷ [])
+      ∷ [];
+  totals = Some (record { lines = 7; messages = 2; refusals = 0 });
+}
+
+-- routers-without-tables: 0 is k
+abbrev pub routers_without_tables : Script
+routers_without_tables = record {
+  matches = [];
+  lines =
+      Gateway Router (zid 1) [] None None 10000 []
+      ∷ Gateway Router (zid 2) [] None None 10000 []
+      ∷ LinkLine 1 2 1 1
+      ∷ Session 1 1
+      ∷ Session 2 1
+      ∷ Speak (DeclareToken 3 1 0 0 None)
+      ∷ Speak (Interest 4 1 CurrentFuture (options 8) (Some 0))
+      ∷ [];
+  entries =
+      Ok []
+      ∷ Ok []
+      ∷ Ok []
+      ∷ Ok []
+      ∷ Ok []
+      ∷ Ok []
+      ∷ Ok (sent 2 4 (message.DeclareFinal 1) ∷ [])
+      ∷ [];
+  totals = Some (record { lines = 7; messages = 1; refusals = 0 });
 }
 
 -- token-still-on-its-way: 0 is k
@@ -481,4 +550,35 @@ tree_echo = record {
       ∷ Ok (sent 4 7 (message.UndeclareToken 1 None 0) ∷ [])
       ∷ [];
   totals = Some (record { lines = 28; messages = 17; refusals = 0 });
+}
+
+-- root-with-other-regions: 0 is k
+abbrev pub root_with_other_regions : Script
+root_with_other_regions = record {
+  matches = [];
+  lines =
+      Gateway Router (zid 1) (South 0 Client ∷ South 1 Peer ∷ []) None None 10000 ((South 1 Peer, Local) ∷ (Local, North) ∷ [])
+      ∷ Gateway Client (zid 2) [] None None 10000 []
+      ∷ LinkLine 2 1 1 1
+      ∷ Session 1 1
+      ∷ Session 2 1
+      ∷ Speak (DeclareToken 3 1 0 0 None)
+      ∷ Speak (Interest 4 1 Current (options 8) (Some 0))
+      ∷ Step 1 false
+      ∷ Step 1 true
+      ∷ Step 1 true
+      ∷ [];
+  entries =
+      Ok []
+      ∷ Ok []
+      ∷ Ok []
+      ∷ Ok []
+      ∷ Ok []
+      ∷ Ok []
+      ∷ Ok (sent 2 1 (message.Interest 1 Current (options 8) (Some 0)) ∷ [])
+      ∷ Ok (sent 1 2 (message.DeclareToken 0 0 (Some 1) 0) ∷ sent 1 2 (message.DeclareFinal 1) ∷ [])
+      ∷ Ok (sent 2 4 (message.DeclareToken 0 0 (Some 1) 0) ∷ [])
+      ∷ Ok (sent 2 4 (message.DeclareFinal 1) ∷ [])
+      ∷ [];
+  totals = Some (record { lines = 10; messages = 5; refusals = 0 });
 }

@@ -15,15 +15,16 @@ use Rattle.zt_model.specs.Lists.{is_among, nth}
 use Rattle.zt_model.specs.Promises.{EachFace, Turn, is_accepted, turns_from}
 use Rattle.zt_model.specs.Rows.{InterestRow}
 use Rattle.zt_model.specs.Transcript.{Each}
-use Rattle.zt_model.specs.TreePromises.{IsFinishedBy, IsInTree, IsMember, IsPlainlyLive, IsTreeFabric, KeepTreePromises, KnowsItsTree, MakesAsk, answers_of_turn, are_links_empty, holds_both, is_at_gateway, is_ids_spent, is_plain, is_plainly_live_at}
+use Rattle.zt_model.specs.TreePromises.{IsFinishedBy, IsInTree, IsMember, IsPlainlyLive, KnowsItsTree, MakesAsk, answers_of_turn, are_links_empty, holds_both, is_at_gateway, is_ids_spent, is_plain, is_plainly_live_at}
 use Rattle.zt_model.specs.Wants.{is_about}
 use Rattle.zt_model_test.specs.Script.{ComesOut, Script, matching_in}
+use Rattle.zt_theorem_tree_invariant.specs.Trees.{FacesFormTrees, KeepPromisesOfTrees}
 
 -- ---- premises
 
 -- What the promises stand on. Of an ask: nothing waits when it is made, and from its asking to its final there is no
--- moment, no unlinking and no end of its own interest. Of all turns: none is refused for want of ids, and each is
--- one of trees.
+-- moment, no unlinking and no end of its own interest. Of all turns: none is refused for want of ids, and after
+-- each faces form trees.
 pub data Premise : Type 0 where
   NothingWaits : Premise
   NoMoment : Premise
@@ -103,7 +104,7 @@ module _ {K : Type 0} (cmp : K → K → Ordering) (matching : K → K → Bool)
   Holds a NoUnlinking = comes is_unlinking (turns_to_final a) ≡ false
   Holds a InterestStands = comes (is_end_of_interest a.face a.id a.interest) (turns_to_final a) ≡ false
   Holds {turns} a IdsAreLeft = list_any (is_ids_spent cmp matching) turns ≡ false
-  Holds {turns} a IsOfTrees = Each (λ t. IsTreeFabric t.after) turns
+  Holds {turns} a IsOfTrees = Each (λ t. FacesFormTrees t.after) turns
 
   -- one plain face of the ask's tree, as it was at the asking, has a matching expression live up to the final
   pub record StaysInTree {turns : List (Turn K)} (a : AskIn turns) (e : K) : Type 0 where
@@ -178,7 +179,7 @@ module _ {K : Type 0} (cmp : K → K → Ordering) (matching : K → K → Bool)
   abbrev pub HoldsAfter : List (Turn K) → Turn K → Premise → Type 0
   HoldsAfter turns t NothingWaits = are_links_empty t.after ≡ true
   HoldsAfter turns t IdsAreLeft = list_any (is_ids_spent cmp matching) turns ≡ false
-  HoldsAfter turns t IsOfTrees = Each (λ u. IsTreeFabric u.after) turns
+  HoldsAfter turns t IsOfTrees = Each (λ u. FacesFormTrees u.after) turns
   HoldsAfter turns t _ = Unit {0}
 
   -- each open plain face that asked for tokens now and later knows its tree
@@ -203,17 +204,17 @@ module _ {K : Type 0} (cmp : K → K → Ordering) (matching : K → K → Bool)
 
   abbrev pub SufficeForWhatStays : Type 0
   SufficeForWhatStays =
-      (turns : List (Turn K)) → KeepTreePromises cmp matching turns →
+      (turns : List (Turn K)) → KeepPromisesOfTrees cmp matching turns →
       (a : AskIn turns) → Each (Holds a) premises_of_asks → (e : K) → StaysInTree a e → is_answered a e ≡ true
 
   abbrev pub SufficeForWhatWas : Type 0
   SufficeForWhatWas =
-      (turns : List (Turn K)) → KeepTreePromises cmp matching turns →
+      (turns : List (Turn K)) → KeepPromisesOfTrees cmp matching turns →
       (a : AskIn turns) → Each (Holds a) premises_of_asks → (e : K) → is_answered a e ≡ true → WasSomewhere a e
 
   abbrev pub SufficeForKnowledge : Type 0
   SufficeForKnowledge =
-      (turns : List (Turn K)) → KeepTreePromises cmp matching turns →
+      (turns : List (Turn K)) → KeepPromisesOfTrees cmp matching turns →
       (n : ℕ) (t : Turn K) → nth n turns ≡ Some t → Each (HoldsAfter turns t) premises_of_knowledge → FacesKnow t.after
 
 -- ---- of scripts

@@ -2,7 +2,8 @@
 //! the promises. Each other law is named for its script, and says that the definitions give the
 //! script its transcript, and of this what it names: that a promise is broken and one premise alone
 //! fails, or that the promises are kept. The scripts that lack a premise are those of
-//! `tests/premises`, the two others stand in `tests/definitions`.
+//! `tests/premises`, where `root-with-other-regions` lacks none; the two others stand in
+//! `tests/definitions`.
 //!
 //! Written by tools/premises_to_antt.py; change the scripts or the tool, and not this file.
 
@@ -19,10 +20,12 @@ pub fn premises_suffice()
     ensures knowledge { (cmp : ℕ → ℕ → Ordering) (matching : ℕ → ℕ → Bool) → SufficeForKnowledge cmp matching }
 {}
 
-/// Two scripts that lack no premise keep the promises: an ask gets the one token that stays, and
-/// faces know their trees after each turn of these numbers.
+/// Three scripts that lack no premise keep the promises: an ask gets the one token that stays, also
+/// where the root lists a region of peers and refuses pairs of regions, and faces know their trees
+/// after each turn of these numbers.
 pub fn promises_are_kept()
     ensures asks_in_a_tree { GetsAlone 0 part.asks_in_a_tree }
+    ensures root_with_other_regions { GetsAlone 0 part.root_with_other_regions }
     ensures tree_echo { KnowsAfter (14 ∷ 18 ∷ 21 ∷ 23 ∷ 28 ∷ []) part.tree_echo }
 {}
 
@@ -48,6 +51,9 @@ pub fn asks_get_more()
 /// Without the premise a face doesn't know its tree after the turn of this number.
 pub fn faces_know_less()
     ensures known_only_after_the_step { KnowsLessWithout NothingWaits 7 part.known_only_after_the_step }
+    ensures peer_alone { KnowsLessWithout IsOfTrees 4 part.peer_alone }
     ensures region_of_peers { KnowsLessWithout IsOfTrees 5 part.region_of_peers }
+    ensures router_gone_rows_stay { KnowsLessWithout IsOfTrees 7 part.router_gone_rows_stay }
+    ensures routers_without_tables { KnowsLessWithout IsOfTrees 7 part.routers_without_tables }
     ensures token_without_an_id { KnowsLessWithout IdsAreLeft 10 part.token_without_an_id }
 {}

@@ -26,7 +26,7 @@ use Rattle.zt_model.specs.Rows.{Face, InterestRow}
 use Rattle.zt_model.specs.Says.{altered, row_of, said}
 use Rattle.zt_model.specs.Shown.{interest_kept}
 use Rattle.zt_model.specs.Transcript.{Each, FaceAt, face_numbered, messages_of}
-use Rattle.zt_model.specs.TreePromises.{IsInTree, IsTreeFabric, are_links_empty, is_at_gateway, is_live_at, is_plain_number}
+use Rattle.zt_model.specs.TreePromises.{IsInTree, are_links_empty, is_at_gateway, is_live_at, is_plain_number}
 use Rattle.zt_model.specs.Wants.{is_about, kept_options}
 use Rattle.zt_laws.specs.Keeping.{AllKeepRight}
 use Rattle.zt_laws.specs.Order.{FabricIsInOrder}
@@ -37,6 +37,7 @@ use Rattle.zt_laws.proofs.Hearing.{heard_all-live}
 use Rattle.zt_laws.proofs.Lists.{any_weaker, by_test, never}
 use Rattle.zt_laws.proofs.LinesOrder.{calls_nothing}
 use Rattle.zt_theorem_tree_invariant.specs.Facts.{TreesAgree}
+use Rattle.zt_theorem_tree_invariant.specs.Trees.{FacesFormTrees}
 use Rattle.zt_theorem_tree_invariant.proofs.After.{after_call}
 use Rattle.zt_theorem_tree_invariant.proofs.Climbing.{at_gateway, meet_at}
 use Rattle.zt_theorem_tree_invariant.proofs.Effects.{other_interest, own_interest}
@@ -67,7 +68,7 @@ legal_kept mode who options legal = cases (whatami_eq who Peer || has_tokens opt
     cases false = legal
 
 module _ {K : Type 0} (cmp : K → K → Ordering) (matching : K → K → Bool) (total : IsTotalOrder cmp) (equal_is_same : (a b : K) → cmp a b ≡ Equal → a ≡ b) (e : K) (i : InterestRow K) (about : is_about matching i.expr e ≡ true) (tokens : has_tokens i.options ≡ true) (current : is_current i.mode ≡ true) (s : Fabric K) (fine : FabricIsInOrder cmp matching s)
-    (agree : TreesAgree cmp matching s) (trees : IsTreeFabric s) (quiet : are_links_empty s ≡ true) (keep : AllKeepRight cmp matching s) (k id q : ℕ) (plain : is_plain_number s k ≡ true) (z : FaceAt K) (z_is : face_numbered s k ≡ Some z) (options : InterestOptions) (kept : i ≡ interest_kept z.face i.mode options i.expr)
+    (agree : TreesAgree cmp matching s) (trees : FacesFormTrees s) (quiet : are_links_empty s ≡ true) (keep : AllKeepRight cmp matching s) (k id q : ℕ) (plain : is_plain_number s k ≡ true) (z : FaceAt K) (z_is : face_numbered s k ≡ Some z) (options : InterestOptions) (kept : i ≡ interest_kept z.face i.mode options i.expr)
     (own other : ℕ) (own_at : is_at_gateway s k own ≡ true) (tree : IsInTree s own other) (other_at : is_at_gateway s q other ≡ true) where
   -- it is answered, or stands at the end of some way and is sent no final
   abbrev pub Asked : List (Sent K) → Fabric K → Type 0

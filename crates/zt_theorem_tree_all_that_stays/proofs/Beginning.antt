@@ -6,13 +6,13 @@ use Rattle.std.specs.List.{list_any}
 use Rattle.std.specs.declared.cmp.Ordering.{Ordering}
 use Rattle.std.specs.declared.cmp.Ordering.TheVariants.{Equal}
 use Rattle.zt_region.specs.declared.region.Region.TheVariants.{North}
-use Rattle.zt_region.specs.Region.{is_north, region_eq-same}
+use Rattle.zt_region.specs.Region.{is_north, region_eq, region_eq-refl, region_eq-same}
 use Rattle.zt_model.specs.Fabric.{Fabric, Node}
 use Rattle.zt_model.specs.Lists.{is_some_and, nth, same}
 use Rattle.zt_model.specs.Parts.{find_face, is_routed}
 use Rattle.zt_model.specs.Rows.{ById, Face}
 use Rattle.zt_model.specs.Transcript.{Each, FaceAt, face_numbered}
-use Rattle.zt_model.specs.TreePromises.{IsTreeFabric, LeadsUpByLink, ServesClients, are_links_empty, is_live_at, is_plain_number, is_plainly_live_at}
+use Rattle.zt_model.specs.TreePromises.{LeadsUpByLink, are_links_empty, is_live_at, is_plain_number, is_plainly_live_at}
 use Rattle.zt_model.specs.Visible.{keeps, shows}
 use Rattle.zt_model.proofs.Hats.{covers_is, shows_others}
 use Rattle.zt_laws.specs.Keeping.{AllKeepRight, FacesKeepRight, KeepsRight}
@@ -22,16 +22,18 @@ use Rattle.zt_laws.proofs.Hearing.{find_each}
 use Rattle.zt_laws.proofs.LinesOrder.{gateway_in_order}
 use Rattle.zt_laws.proofs.Lists.{any_weaker, by_test, never}
 use Rattle.zt_theorem_tree_invariant.specs.Facts.{IsTreeFace, IsTreeGateway, TreesAgree}
+use Rattle.zt_theorem_tree_invariant.specs.Trees.{FacesFormTrees, RefusesNoFaces}
+use Rattle.zt_theorem_tree_invariant.proofs.Admitted.{admitted_if_shown}
 use Rattle.zt_theorem_tree_invariant.proofs.Climbing.{IsUnder, Same, StepUp, Up, any_found}
 use Rattle.zt_theorem_tree_invariant.proofs.Knowledge.{is_no_router}
 use Rattle.zt_theorem_tree_invariant.proofs.Lines.{tree_rows}
 use Rattle.zt_theorem_tree_invariant.proofs.Members.{each_gateway_nth, each_nth, is_there, number_is_its}
-use Rattle.zt_theorem_tree_invariant.proofs.Quiet.{admitted_if_visible, is_live, is_shown_by, nothing_waits, quiet_joint, visible_by_faces}
+use Rattle.zt_theorem_tree_invariant.proofs.Quiet.{is_live, is_shown_by, nothing_waits, quiet_joint}
 use Rattle.zt_theorem_tree_invariant.proofs.Saying.{IsReal}
 use Rattle.zt_theorem_tree_all_that_stays.specs.Steady.{FinalIsBelow, IsTold, LeavesRow, has_row}
 use Rattle.zt_theorem_tree_all_that_stays.specs.Ways.{IsAbove, IsCarried, IsCarriedUp, LeadsUpTo, LivesAt}
 
-module _ {K : Type 0} (cmp : K → K → Ordering) (matching : K → K → Bool) (total : IsTotalOrder cmp) (equal_is_same : (a b : K) → cmp a b ≡ Equal → a ≡ b) (s : Fabric K) (fine : FabricIsInOrder cmp matching s) (agree : TreesAgree cmp matching s) (trees : IsTreeFabric s) where
+module _ {K : Type 0} (cmp : K → K → Ordering) (matching : K → K → Bool) (total : IsTotalOrder cmp) (equal_is_same : (a b : K) → cmp a b ≡ Equal → a ≡ b) (s : Fabric K) (fine : FabricIsInOrder cmp matching s) (agree : TreesAgree cmp matching s) (trees : FacesFormTrees s) where
   the_same : {A : Type 0} {u v : A} → Some u ≡ Some v → u ≡ v
   the_same h = cc
 
@@ -104,11 +106,12 @@ module _ {K : Type 0} (cmp : K → K → Ordering) (matching : K → K → Bool)
           let gateway = each_nth (λ (y : Node K). IsTreeGateway cmp matching y.rows) step.x.gateway s.gateways node agree.gateways th.node_is in
           let face = find_each (IsTreeFace r.mode) (λ (f : Face K). step.x.face.number == f.number) r.faces step.x.face gateway.faces found_low in
           let keeps_ = find_each (λ f. is_routed r f ≡ false → KeepsRight cmp matching r f) (λ (f : Face K). step.x.face.number == f.number) r.faces step.x.face (each_nth (λ (y : Node K). FacesKeepRight cmp matching y.rows) step.x.gateway s.gateways node keep th.node_is) found_low in
-          let refused = (each_gateway_nth ServesClients 1 step.x.gateway step.x.gateway s.gateways node (omega arith) trees.clients th.node_is).1 in
+          let refused = each_gateway_nth RefusesNoFaces 1 step.x.gateway step.x.gateway s.gateways node (omega arith) trees.admitted th.node_is in
+          let stands = any_found (λ (f : Face K). step.x.face.number == f.number) (λ f. region_eq f.region step.x.face.region) r.faces step.x.face found_low (region_eq-refl step.x.face.region) in
           let shown : is_shown_by cmp r.mode step.x.face.region e x.face ≡ true =
           and_from (is_live cmp e x.face) (shows r.mode step.x.face.region x.face.region) live (ap (λ q. shows r.mode q x.face.region) (region_eq-same step.x.face.region North step.up) ∙ shows_others r.mode North x.face.region down) in
           let some : list_any (is_shown_by cmp r.mode step.x.face.region e) r.faces ≡ true = any_found (λ (f : Face K). x.face.number == f.number) (is_shown_by cmp r.mode step.x.face.region e) r.faces x.face found_x shown in
-          (keeps_ (is_no_router r step.x.face face)).admitted_is_kept e (admitted_if_visible cmp r step.x.face.region e refused (visible_by_faces cmp r step.x.face.region e gateway.own_rows ∙ some)) (covers_is matching r.mode step.x.face e ∙ or_left (is_north step.x.face.region) _ step.up)
+          (keeps_ (is_no_router r step.x.face face)).admitted_is_kept e (admitted_if_shown cmp r step.x.face.region e refused stands some) (covers_is matching r.mode step.x.face e ∙ or_left (is_north step.x.face.region) _ step.up)
 
       -- some row of what was told, under an id of its own
       pub record ToldRow (f : Face K) : Type 0 where

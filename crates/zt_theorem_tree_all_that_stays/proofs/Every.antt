@@ -21,7 +21,7 @@ use Rattle.zt_model.specs.Refusals.{first_cause}
 use Rattle.zt_model.specs.Rows.{InterestRow}
 use Rattle.zt_model.specs.Says.{altered_by, parts_of, said, said_by}
 use Rattle.zt_model.specs.Transcript.{FaceAt, face_numbered, messages_of}
-use Rattle.zt_model.specs.TreePromises.{IsTreeFabric, disturbs}
+use Rattle.zt_model.specs.TreePromises.{disturbs}
 use Rattle.zt_laws.specs.Order.{FabricIsInOrder}
 use Rattle.zt_laws.specs.Sound.{HasFirstIds}
 use Rattle.zt_laws.proofs.Calls.{no_cause}
@@ -29,6 +29,7 @@ use Rattle.zt_laws.proofs.Gateways.{prints_map, prints_sorted}
 use Rattle.zt_laws.proofs.Lists.{by_test, never}
 use Rattle.zt_laws.proofs.LinesOrder.{called_at}
 use Rattle.zt_theorem_tree_invariant.specs.Facts.{TreesAgree}
+use Rattle.zt_theorem_tree_invariant.specs.Trees.{FacesFormTrees}
 use Rattle.zt_theorem_tree_invariant.proofs.Lasting.{LineSaid}
 use Rattle.zt_theorem_tree_invariant.proofs.Lines.{same_number}
 use Rattle.zt_theorem_tree_invariant.proofs.Making.{opened_is}
@@ -68,14 +69,14 @@ module _ {K : Type 0} (cmp : K → K → Ordering) (matching : K → K → Bool)
     refused line still (Ok ms) no_ = never refl no_
     refused line still (Err r) no_ = subst (P []) (sym (still r)) itself
 
-    by_entry : (line : PlainLine K) → ((r : Refusal) → after_refusal cmp matching line r s ≡ s) → (first_cause (line_causes cmp matching (line_spends_ids cmp matching line s) line s) ≡ None → IsTreeFabric (Then line) → P (sorted_by_face (said_by_line cmp matching line s)) (Then line)) → IsTreeFabric (After line) → Leaves line
+    by_entry : (line : PlainLine K) → ((r : Refusal) → after_refusal cmp matching line r s ≡ s) → (first_cause (line_causes cmp matching (line_spends_ids cmp matching line s) line s) ≡ None → FacesFormTrees (Then line) → P (sorted_by_face (said_by_line cmp matching line s)) (Then line)) → FacesFormTrees (After line) → Leaves line
     unfolding fabric_after entry_of
     by_entry line still accepted_ trees = cases (first_cause (line_causes cmp matching (line_spends_ids cmp matching line s) line s)) refl trees
       where
         entry : Option Refusal → PlainEntry K
         entry o = entry_by cmp matching o (sorted_by_face (said_by_line cmp matching line s))
 
-        cases : (o : Option Refusal) → first_cause (line_causes cmp matching (line_spends_ids cmp matching line s) line s) ≡ o → IsTreeFabric (fabric_after cmp matching line (entry o) s) → P (messages_of (entry o)) (fabric_after cmp matching line (entry o) s)
+        cases : (o : Option Refusal) → first_cause (line_causes cmp matching (line_spends_ids cmp matching line s) line s) ≡ o → FacesFormTrees (fabric_after cmp matching line (entry o) s) → P (messages_of (entry o)) (fabric_after cmp matching line (entry o) s)
         cases None accepted trees_ = accepted_ accepted trees_
         cases (Some r) refused_ trees_ = subst (P []) (sym (still r)) itself
 
@@ -111,7 +112,7 @@ module _ {K : Type 0} (cmp : K → K → Ordering) (matching : K → K → Bool)
         let ms = sorted_by_face (said_at cmp matching (opened_at cmp matching (Some (record { gateway = n; rows = node.rows; call = c })) s) (Some (record { gateway = n; rows = node.rows; call = c }))) in
         subst (P ms) (sym (opened_is cmp matching total s fine agree n node at_ c refl ms prints)) (framed _ ms (frame_opened cmp matching total equal_is_same s fine agree n node at_ c refl ms prints)))
 
-    link_leaves : (one two first back : ℕ) → 1 ≤ first → 1 ≤ back → (let line : PlainLine K = LinkLine one two first back in first_cause (line_causes cmp matching (line_spends_ids cmp matching line s) line s) ≡ None → IsTreeFabric (Then line) → P (sorted_by_face (said_by_line cmp matching line s)) (Then line))
+    link_leaves : (one two first back : ℕ) → 1 ≤ first → 1 ≤ back → (let line : PlainLine K = LinkLine one two first back in first_cause (line_causes cmp matching (line_spends_ids cmp matching line s) line s) ≡ None → FacesFormTrees (Then line) → P (sorted_by_face (said_by_line cmp matching line s)) (Then line))
     link_leaves one two first back real1 real2 accepted trees =
         let line : PlainLine K = LinkLine one two first back in
         framed (Then line) (sorted_by_face (said_by_line cmp matching line s))
@@ -183,7 +184,7 @@ module _ {K : Type 0} (cmp : K → K → Ordering) (matching : K → K → Bool)
     not_accepted true h = never refl h
     not_accepted false h = refl
 
-    pub every_line : (line : PlainLine K) → HasFirstIds line → Entry line ≢ Err refusal.IdsSpent → IsTreeFabric (After line) → Calm line → Leaves line
+    pub every_line : (line : PlainLine K) → HasFirstIds line → Entry line ≢ Err refusal.IdsSpent → FacesFormTrees (After line) → Calm line → Leaves line
     every_line (Step n back) real other trees calm = spoken_after cmp matching total equal_is_same s fine agree IsCalmCall (Unit {0}) P itself dropped calls (Step n back) tt refl other
     every_line (Speak call) real other trees calm = speech_leaves call other (calm_speech call calm)
     every_line (SetTreesAt n region t) real other trees calm = spoken_after cmp matching total equal_is_same s fine agree IsCalmCall (Unit {0}) P itself dropped calls (SetTreesAt n region t) (record { timeless = refl; held = λ z z_is here is. cc }) refl other

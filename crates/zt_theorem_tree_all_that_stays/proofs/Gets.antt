@@ -18,7 +18,7 @@ use Rattle.zt_model.specs.Refusals.{is_illegal_current}
 use Rattle.zt_model.specs.Rows.{Ask, Face, InterestRow}
 use Rattle.zt_model.specs.Shown.{interest_kept}
 use Rattle.zt_model.specs.Transcript.{Each, FaceAt, fabric_shown, face_numbered, messages_of}
-use Rattle.zt_model.specs.TreePromises.{Beyond, GetsWhatStays, IsFinishedBy, IsInTree, IsTreeFabric, IsTreeTurn, Itself, KeepTreePromises, MakesAsk, answers_of_turn, are_links_empty, disturbs, finals_of, is_at_gateway, is_live_at, is_plain_number, is_plainly_live_at}
+use Rattle.zt_model.specs.TreePromises.{Beyond, GetsWhatStays, IsFinishedBy, IsInTree, Itself, MakesAsk, answers_of_turn, are_links_empty, disturbs, finals_of, is_at_gateway, is_live_at, is_plain_number, is_plainly_live_at}
 use Rattle.zt_model.specs.Wants.{is_about}
 use Rattle.zt_laws.specs.Order.{FabricIsInOrder}
 use Rattle.zt_laws.specs.Shown.{as_shown, node_shown}
@@ -30,6 +30,7 @@ use Rattle.zt_theorem_soundness.specs.Sound.{AskIsHeld, IsSound}
 use Rattle.zt_theorem_soundness.proofs.ById.{at_each}
 use Rattle.zt_theorem_soundness.proofs.Sound.{sound_after_line, sound_gateways_keep}
 use Rattle.zt_theorem_tree_invariant.specs.Facts.{TreesAgree}
+use Rattle.zt_theorem_tree_invariant.specs.Trees.{FacesFormTrees, KeepPromisesOfTrees, LeavesTrees}
 use Rattle.zt_theorem_tree_invariant.proofs.Members.{each_nth, is_there, numbered}
 use Rattle.zt_theorem_tree_knowledge.proofs.Lines.{trees_after_each}
 use Rattle.zt_theorem_tree_knowledge.proofs.Turns.{SoundFabric, live_shown, not_spent, tree_unshown, turns_know}
@@ -139,8 +140,8 @@ module _ {K : Type 0} (cmp : K → K → Ordering) (matching : K → K → Bool)
     -- ---- an ask that stands
 
     module _ (tokens : has_tokens i.options ≡ true) (current : is_current i.mode ≡ true) (legal : is_illegal_current i.mode i.options ≡ false) (way up : List (ℕ × ℕ)) (top : ℕ) where
-      goes : (lines : List (PlainLine K)) (s : Fabric K) → Each HasFirstIds lines → SoundFabric cmp matching total equal_is_same s → TreesAgree cmp matching s → IsTreeFabric s
-          → (rest later : List (Turn K)) → TurnsOf lines s (as_shown s) ≡ rest ++ later → Each (IsTreeTurn cmp matching) (TurnsOf lines s (as_shown s)) → Each Calm rest → Each Live rest → Stands cmp matching total equal_is_same e i k id q way up top s → Ends rest
+      goes : (lines : List (PlainLine K)) (s : Fabric K) → Each HasFirstIds lines → SoundFabric cmp matching total equal_is_same s → TreesAgree cmp matching s → FacesFormTrees s
+          → (rest later : List (Turn K)) → TurnsOf lines s (as_shown s) ≡ rest ++ later → Each (LeavesTrees cmp matching) (TurnsOf lines s (as_shown s)) → Each Calm rest → Each Live rest → Stands cmp matching total equal_is_same e i k id q way up top s → Ends rest
       unfolding turns_from entries_from
       goes lines s real sound agree trees_s [] later = λ is trees calm live stands. inr tt
       goes [] s real sound agree trees_s (t ∷ rest) later = λ is trees calm live stands. cc
@@ -148,7 +149,7 @@ module _ {K : Type 0} (cmp : K → K → Ordering) (matching : K → K → Bool)
           let next = Next line s in
           let entry = entry_of cmp matching line s in
           let shown = fabric_is_shown cmp matching total line s sound.order in
-          let here : IsTreeFabric next = tree_unshown cmp matching next (subst IsTreeFabric shown trees.0.0) in
+          let here : FacesFormTrees next = tree_unshown cmp matching next (subst FacesFormTrees shown trees.0.0) in
           let head_ : TurnOf line s ≡ t = heads is in
           let sound_next = sound_after_line cmp matching total equal_is_same line s real.0 sound in
           let other = not_spent cmp matching total equal_is_same entry trees.0.1 in
@@ -164,14 +165,14 @@ module _ {K : Type 0} (cmp : K → K → Ordering) (matching : K → K → Bool)
           ⊎_elim
           (λ some. inl (or_right (is_answered t) (list_any is_answered rest) some))
           (λ none_. inr (subst NoFinal head_ (no_finals id (printed_for k (messages_of entry)) on.1), none_))
-          (goes lines next real.1 sound_next agree_next here rest later (subst (λ (u : Fabric K). TurnsOf lines next u ≡ rest ++ later) shown (tails is)) (subst (λ (u : Fabric K). Each (IsTreeTurn cmp matching) (TurnsOf lines next u)) shown trees.1) calm.1 live.1 on.0))
+          (goes lines next real.1 sound_next agree_next here rest later (subst (λ (u : Fabric K). TurnsOf lines next u ≡ rest ++ later) shown (tails is)) (subst (λ (u : Fabric K). Each (LeavesTrees cmp matching) (TurnsOf lines next u)) shown trees.1) calm.1 live.1 on.0))
           turned
 
     -- ---- the asking
 
     module _ (own other : ℕ) where
       -- the accepted line that asks, of a fabric where nothing waits
-      begins : (line : PlainLine K) (s : Fabric K) → Each HasFirstIds (line ∷ []) → (sound : SoundFabric cmp matching total equal_is_same s) → TreesAgree cmp matching s → IsTreeFabric s → (asking : Turn K) → TurnOf line s ≡ asking → IsTreeTurn cmp matching (TurnOf line s)
+      begins : (line : PlainLine K) (s : Fabric K) → Each HasFirstIds (line ∷ []) → (sound : SoundFabric cmp matching total equal_is_same s) → TreesAgree cmp matching s → FacesFormTrees s → (asking : Turn K) → TurnOf line s ≡ asking → LeavesTrees cmp matching (TurnOf line s)
           → (made : MakesAsk cmp matching asking k id i) → are_links_empty asking.before ≡ true → is_at_gateway asking.before k own ≡ true → IsInTree asking.before own other → is_at_gateway asking.before q other ≡ true → Live asking
           → (is_illegal_current i.mode i.options ≡ false) × (AnswersFirst cmp id e (printed_for k (messages_of (entry_of cmp matching line s)))
           ⊎ ((way : List (ℕ × ℕ)) × (up : List (ℕ × ℕ)) × (top : ℕ) × Stands cmp matching total equal_is_same e i k id q way up top (Next line s) × Each (IsNoFinal id) (printed_for k (messages_of (entry_of cmp matching line s)))))
@@ -179,7 +180,7 @@ module _ {K : Type 0} (cmp : K → K → Ordering) (matching : K → K → Bool)
           let next = Next line s in
           let entry = entry_of cmp matching line s in
           let shown = fabric_is_shown cmp matching total line s sound.order in
-          let here : IsTreeFabric next = tree_unshown cmp matching next (subst IsTreeFabric shown trees.0) in
+          let here : FacesFormTrees next = tree_unshown cmp matching next (subst FacesFormTrees shown trees.0) in
           let sound_next = sound_after_line cmp matching total equal_is_same line s real.0 sound in
           let agree_next = trees_after_each cmp matching total equal_is_same s sound.order agree line real.0 (not_spent cmp matching total equal_is_same entry trees.1) here in
           let after_ : asking.after ≡ as_shown next = ap (λ (u : Turn K). u.after) (sym head_) ∙ shown in
@@ -204,8 +205,8 @@ module _ {K : Type 0} (cmp : K → K → Ordering) (matching : K → K → Bool)
           ⊎ ((way : List (ℕ × ℕ)) × (up : List (ℕ × ℕ)) × (top : ℕ) × Stands cmp matching total equal_is_same e i k id q way up top (Next l s) × Each (IsNoFinal id) (printed_for k (messages_of (entry_of cmp matching l s))))))
           (sym line_is) asks accepted sound_next.order plain_q lives
 
-      asked : (lines : List (PlainLine K)) (s : Fabric K) → Each HasFirstIds lines → SoundFabric cmp matching total equal_is_same s → TreesAgree cmp matching s → IsTreeFabric s
-          → (earlier : List (Turn K)) (asking : Turn K) (rest later : List (Turn K)) → TurnsOf lines s (as_shown s) ≡ earlier ++ asking ∷ rest ++ later → Each (IsTreeTurn cmp matching) (TurnsOf lines s (as_shown s))
+      asked : (lines : List (PlainLine K)) (s : Fabric K) → Each HasFirstIds lines → SoundFabric cmp matching total equal_is_same s → TreesAgree cmp matching s → FacesFormTrees s
+          → (earlier : List (Turn K)) (asking : Turn K) (rest later : List (Turn K)) → TurnsOf lines s (as_shown s) ≡ earlier ++ asking ∷ rest ++ later → Each (LeavesTrees cmp matching) (TurnsOf lines s (as_shown s))
           → MakesAsk cmp matching asking k id i → are_links_empty asking.before ≡ true → is_at_gateway asking.before k own ≡ true → IsInTree asking.before own other → is_at_gateway asking.before q other ≡ true → Each Calm rest → Each Live (asking ∷ rest) → Ends (asking ∷ rest)
       unfolding turns_from entries_from
       asked [] s real sound agree trees_s [] asking rest later = λ is trees made quiet own_at tree other_at calm live. cc
@@ -214,7 +215,7 @@ module _ {K : Type 0} (cmp : K → K → Ordering) (matching : K → K → Bool)
           let next = Next line s in
           let entry = entry_of cmp matching line s in
           let shown = fabric_is_shown cmp matching total line s sound.order in
-          let here : IsTreeFabric next = tree_unshown cmp matching next (subst IsTreeFabric shown trees.0.0) in
+          let here : FacesFormTrees next = tree_unshown cmp matching next (subst FacesFormTrees shown trees.0.0) in
           let head_ : TurnOf line s ≡ asking = heads is in
           let sound_next = sound_after_line cmp matching total equal_is_same line s real.0 sound in
           let agree_next = trees_after_each cmp matching total equal_is_same s sound.order agree line real.0 (not_spent cmp matching total equal_is_same entry trees.0.1) here in
@@ -225,15 +226,15 @@ module _ {K : Type 0} (cmp : K → K → Ordering) (matching : K → K → Bool)
           ⊎_elim
           (λ some. inl (or_right (is_answered asking) (list_any is_answered rest) some))
           (λ none_. inr (subst NoFinal head_ (no_finals id (printed_for k (messages_of entry)) on.4), none_))
-          (goes made.tokens made.current begun.0 on.0 on.1 on.2 lines next real.1 sound_next agree_next here rest later (subst (λ (u : Fabric K). TurnsOf lines next u ≡ rest ++ later) shown (tails is)) (subst (λ (u : Fabric K). Each (IsTreeTurn cmp matching) (TurnsOf lines next u)) shown trees.1) calm live.1 on.3))
+          (goes made.tokens made.current begun.0 on.0 on.1 on.2 lines next real.1 sound_next agree_next here rest later (subst (λ (u : Fabric K). TurnsOf lines next u ≡ rest ++ later) shown (tails is)) (subst (λ (u : Fabric K). Each (LeavesTrees cmp matching) (TurnsOf lines next u)) shown trees.1) calm live.1 on.3))
           begun.1
       asked (line ∷ lines) s real sound agree trees_s (t ∷ ts) asking rest later = λ is trees made quiet own_at tree other_at calm live.
           let next = Next line s in
           let shown = fabric_is_shown cmp matching total line s sound.order in
-          let here : IsTreeFabric next = tree_unshown cmp matching next (subst IsTreeFabric shown trees.0.0) in
+          let here : FacesFormTrees next = tree_unshown cmp matching next (subst FacesFormTrees shown trees.0.0) in
           let sound_next = sound_after_line cmp matching total equal_is_same line s real.0 sound in
           let agree_next = trees_after_each cmp matching total equal_is_same s sound.order agree line real.0 (not_spent cmp matching total equal_is_same (entry_of cmp matching line s) trees.0.1) here in
-          asked lines next real.1 sound_next agree_next here ts asking rest later (subst (λ (u : Fabric K). TurnsOf lines next u ≡ ts ++ asking ∷ rest ++ later) shown (tails is)) (subst (λ (u : Fabric K). Each (IsTreeTurn cmp matching) (TurnsOf lines next u)) shown trees.1) made quiet own_at tree other_at calm live
+          asked lines next real.1 sound_next agree_next here ts asking rest later (subst (λ (u : Fabric K). TurnsOf lines next u ≡ ts ++ asking ∷ rest ++ later) shown (tails is)) (subst (λ (u : Fabric K). Each (LeavesTrees cmp matching) (TurnsOf lines next u)) shown trees.1) made quiet own_at tree other_at calm live
 
   -- ---- the theorem
 
@@ -246,8 +247,8 @@ module _ {K : Type 0} (cmp : K → K → Ordering) (matching : K → K → Bool)
       omega arith
 
   -- An ask is answered what a plain face of its tree has live from the asking to the final.
-  pub gets_what_stays : (lines : List (PlainLine K)) (s : Fabric K) → Each HasFirstIds lines → SoundFabric cmp matching total equal_is_same s → TreesAgree cmp matching s → IsTreeFabric s
-      → (let turns = turns_from cmp matching lines (entries_from cmp matching lines s) (as_shown s) in Each (IsTreeTurn cmp matching) turns → GetsWhatStays cmp matching turns)
+  pub gets_what_stays : (lines : List (PlainLine K)) (s : Fabric K) → Each HasFirstIds lines → SoundFabric cmp matching total equal_is_same s → TreesAgree cmp matching s → FacesFormTrees s
+      → (let turns = turns_from cmp matching lines (entries_from cmp matching lines s) (as_shown s) in Each (LeavesTrees cmp matching) turns → GetsWhatStays cmp matching turns)
   gets_what_stays lines s real sound agree trees_s = λ trees a e own other face about own_at tree other_at stays.
       let rest = a.between ++ option_to_list a.ending in
       let calm = none_each (disturbs cmp matching a.face a.id a.interest) (a.asking ∷ rest) a.undisturbed in
@@ -257,8 +258,8 @@ module _ {K : Type 0} (cmp : K → K → Ordering) (matching : K → K → Bool)
       (asked e a.interest about a.face a.id face own other lines s real sound agree trees_s a.earlier a.asking rest a.later is trees a.made a.quiet own_at tree other_at calm.1 live)
 
   -- The three promises over trees.
-  pub keep_tree_promises : (lines : List (PlainLine K)) (s : Fabric K) → Each HasFirstIds lines → SoundFabric cmp matching total equal_is_same s → TreesAgree cmp matching s → IsTreeFabric s
-      → KeepTreePromises cmp matching (turns_from cmp matching lines (entries_from cmp matching lines s) (as_shown s))
+  pub keep_tree_promises : (lines : List (PlainLine K)) (s : Fabric K) → Each HasFirstIds lines → SoundFabric cmp matching total equal_is_same s → TreesAgree cmp matching s → FacesFormTrees s
+      → KeepPromisesOfTrees cmp matching (turns_from cmp matching lines (entries_from cmp matching lines s) (as_shown s))
   keep_tree_promises lines s real sound agree trees_s = λ trees. record {
     knowledge = turns_know cmp matching total equal_is_same lines s real sound agree trees;
     gets = gets_what_stays lines s real sound agree trees_s trees;

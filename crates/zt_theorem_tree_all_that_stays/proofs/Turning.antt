@@ -12,11 +12,12 @@ use Rattle.zt_model.specs.Lists.{at_id, nth}
 use Rattle.zt_model.specs.Refusals.{is_illegal_current}
 use Rattle.zt_model.specs.Rows.{Ask, InterestRow}
 use Rattle.zt_model.specs.Transcript.{Each, FaceAt, face_numbered, messages_of}
-use Rattle.zt_model.specs.TreePromises.{IsTreeFabric, disturbs, is_plain_number}
+use Rattle.zt_model.specs.TreePromises.{disturbs, is_plain_number}
 use Rattle.zt_model.specs.Wants.{is_about}
 use Rattle.zt_laws.specs.Order.{FabricIsInOrder}
 use Rattle.zt_laws.specs.Sound.{HasFirstIds}
 use Rattle.zt_theorem_tree_invariant.specs.Facts.{TreesAgree}
+use Rattle.zt_theorem_tree_invariant.specs.Trees.{FacesFormTrees}
 use Rattle.zt_theorem_tree_invariant.proofs.Members.{is_there}
 use Rattle.zt_theorem_tree_all_that_stays.specs.Steady.{AnswersFirst, IsNoFinal}
 use Rattle.zt_theorem_tree_all_that_stays.specs.Ways.{IsClosedAt, IsPursued, LivesAt}
@@ -58,7 +59,7 @@ module _ {K : Type 0} (cmp : K → K → Ordering) (matching : K → K → Bool)
       shut_framed : (t : Fabric K) (ms : List (Sent K)) → IsFrame s t ms → Shut ms t
       shut_framed t ms frame = (frame.closed k closed, frame.prints k closed.place closed.node closed.place_is closed.node_is)
 
-      shut_turn : (line : PlainLine K) → HasFirstIds line → entry_of cmp matching line s ≢ Err refusal.IdsSpent → IsTreeFabric (After line) → ((before after : Fabric K) → disturbs cmp matching k id i (record { line = line; entry = entry_of cmp matching line s; before = before; after = after }) ≡ false) → Turned (Entry line) (After line)
+      shut_turn : (line : PlainLine K) → HasFirstIds line → entry_of cmp matching line s ≢ Err refusal.IdsSpent → FacesFormTrees (After line) → ((before after : Fabric K) → disturbs cmp matching k id i (record { line = line; entry = entry_of cmp matching line s; before = before; after = after }) ≡ false) → Turned (Entry line) (After line)
       shut_turn line real other trees calm =
           let shut = every_line cmp matching total equal_is_same s fine agree i k id Shut (closed_dropped cmp matching total equal_is_same s fine agree k closed) shut_calls shut_framed line real other trees calm in
           inr (inr shut.0, subst (Each (IsNoFinal id)) (sym shut.1) tt)
@@ -87,12 +88,12 @@ module _ {K : Type 0} (cmp : K → K → Ordering) (matching : K → K → Bool)
           let none_ = frame.prints k th.place th.node th.place_is (ap (λ g. nth g s.gateways) th.gateway_is ∙ th.node_is) in
           inr (inl (frame.plain k th.place th.place_is plain, pursued_framed cmp matching e i s t agree ms frame k id q way up top pursued lives), subst (Each (IsNoFinal id)) (sym none_) tt)
 
-      going_turn : (line : PlainLine K) → HasFirstIds line → entry_of cmp matching line s ≢ Err refusal.IdsSpent → IsTreeFabric (After line) → ((before after : Fabric K) → disturbs cmp matching k id i (record { line = line; entry = entry_of cmp matching line s; before = before; after = after }) ≡ false) → Turns (Entry line) (After line)
+      going_turn : (line : PlainLine K) → HasFirstIds line → entry_of cmp matching line s ≢ Err refusal.IdsSpent → FacesFormTrees (After line) → ((before after : Fabric K) → disturbs cmp matching k id i (record { line = line; entry = entry_of cmp matching line s; before = before; after = after }) ≡ false) → Turns (Entry line) (After line)
       going_turn line real other trees calm = every_line cmp matching total equal_is_same s fine agree i k id Turns going_dropped going_calls going_framed line real other trees calm
 
     -- ---- either
 
-    pub one_turn : Stands s → (line : PlainLine K) → HasFirstIds line → entry_of cmp matching line s ≢ Err refusal.IdsSpent → IsTreeFabric (After line)
+    pub one_turn : Stands s → (line : PlainLine K) → HasFirstIds line → entry_of cmp matching line s ≢ Err refusal.IdsSpent → FacesFormTrees (After line)
         → ((before after : Fabric K) → disturbs cmp matching k id i (record { line = line; entry = entry_of cmp matching line s; before = before; after = after }) ≡ false) → Turns (Entry line) (After line)
     one_turn stands line real other trees calm =
         ⊎_elim (λ p. going_turn p.0 p.1 line real other trees calm) (λ closed order lives. shut_turn closed line real other trees calm) stands

@@ -7,13 +7,13 @@ ghost use Rattle.std.specs.Prelude.{◌≡◌, List};
 ghost use Rattle.zt_protocol.specs.Plain.{PlainLine};
 ghost use Rattle.zt_model.specs.Fabric.{Fabric, empty_fabric};
 ghost use Rattle.zt_model.specs.Transcript.{Each};
-ghost use Rattle.zt_model.specs.TreePromises.{GetsWhatStays, IsTreeFabric, IsTreeTurn};
-ghost use Rattle.zt_model.specs.TreePromises.{KeepTreePromises};
+ghost use Rattle.zt_model.specs.TreePromises.{GetsWhatStays};
 ghost use Rattle.zt_laws.specs.Shown.{turns_of};
 ghost use Rattle.zt_laws.specs.Sound.{HasFirstIds};
 ghost use Rattle.zt_theorem_soundness.specs.Lines.{EachGatewayIs};
 ghost use Rattle.zt_theorem_soundness.specs.Sound.{IsSound};
 ghost use Rattle.zt_theorem_tree_invariant.specs.Facts.{TreesAgree};
+ghost use Rattle.zt_theorem_tree_invariant.specs.Trees.{FacesFormTrees, KeepPromisesOfTrees, LeavesTrees};
 
 use zt_keys::Key;
 
@@ -25,12 +25,12 @@ use zt_keys::Key;
 pub fn asks_get_what_stays<K: Key>()
     ensures start { (lines : List (PlainLine K)) → Each HasFirstIds lines
         → (let turns = turns_of K.cmp K.matching lines empty_fabric in
-        Each (IsTreeTurn K.cmp K.matching) turns → GetsWhatStays K.cmp K.matching turns) }
+        Each (LeavesTrees K.cmp K.matching) turns → GetsWhatStays K.cmp K.matching turns) }
     ensures later { (lines : List (PlainLine K)) (s : Fabric K) → Each HasFirstIds lines
         → EachGatewayIs K.cmp K.matching (IsSound K.cmp K.matching) s
-        → TreesAgree K.cmp K.matching s → IsTreeFabric s
+        → TreesAgree K.cmp K.matching s → FacesFormTrees s
         → (let turns = turns_of K.cmp K.matching lines s in
-        Each (IsTreeTurn K.cmp K.matching) turns → GetsWhatStays K.cmp K.matching turns) }
+        Each (LeavesTrees K.cmp K.matching) turns → GetsWhatStays K.cmp K.matching turns) }
 {}
 
 /// The three promises over trees, of every list of lines: in a transcript of trees that refuses no
@@ -39,9 +39,9 @@ pub fn asks_get_what_stays<K: Key>()
 /// is sound and of trees that agree.
 pub fn trees_keep_their_promises<K: Key>()
     ensures start { (lines : List (PlainLine K)) → Each HasFirstIds lines
-        → KeepTreePromises K.cmp K.matching (turns_of K.cmp K.matching lines empty_fabric) }
+        → KeepPromisesOfTrees K.cmp K.matching (turns_of K.cmp K.matching lines empty_fabric) }
     ensures later { (lines : List (PlainLine K)) (s : Fabric K) → Each HasFirstIds lines
         → EachGatewayIs K.cmp K.matching (IsSound K.cmp K.matching) s
-        → TreesAgree K.cmp K.matching s → IsTreeFabric s
-        → KeepTreePromises K.cmp K.matching (turns_of K.cmp K.matching lines s) }
+        → TreesAgree K.cmp K.matching s → FacesFormTrees s
+        → KeepPromisesOfTrees K.cmp K.matching (turns_of K.cmp K.matching lines s) }
 {}

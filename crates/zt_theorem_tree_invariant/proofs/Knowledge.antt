@@ -1,5 +1,5 @@
 -- Where nothing waits, faces know what is plainly live in their tree.
-use Rattle.std.proofs.Common.{◌≡◌, ℕ, zero, suc, ◌+◌, ◌<◌, Bool, true, false, ◌&&◌, ◌==◌, not, [], length, Option, Some, None, refl, sym, ap, ◌∙◌, subst, arith, ⊎_elim}
+use Rattle.std.proofs.Common.{◌≡◌, ℕ, zero, suc, ◌+◌, ◌<◌, Bool, true, false, ◌&&◌, ◌==◌, not, length, Option, Some, None, refl, sym, ap, ◌∙◌, subst, arith, ⊎_elim}
 use Rattle.std.proofs.lemmas.Bool.{and_from, and_parts, or_cases, or_left, or_right}
 use Rattle.std.specs.List.{list_any}
 use Rattle.std.specs.declared.cmp.Ordering.{Ordering}
@@ -10,7 +10,7 @@ use Rattle.zt_region.specs.declared.region.Region.{Region}
 use Rattle.zt_region.specs.declared.region.Region.TheVariants.{North}
 use Rattle.zt_region.specs.declared.region.WhatAmI.{WhatAmI}
 use Rattle.zt_region.specs.declared.region.WhatAmI.TheVariants.{Client}
-use Rattle.zt_region.specs.Region.{is_north, region_eq, region_eq-same}
+use Rattle.zt_region.specs.Region.{is_north, region_eq, region_eq-refl, region_eq-same}
 use Rattle.zt_protocol.specs.Interest.{is_current, is_future, has_tokens}
 use Rattle.zt_model.specs.Fabric.{Fabric, Node}
 use Rattle.zt_model.specs.Hat.{hat}
@@ -21,7 +21,7 @@ use Rattle.zt_model.specs.Strategy.{Strategy, BrokerHat, ClientHat, PeerHat, Rou
 use Rattle.zt_model.specs.Linking.{is_end_of}
 use Rattle.zt_model.specs.Parts.{find_face, is_routed}
 use Rattle.zt_model.specs.Transcript.{Each, FaceAt, face_numbered}
-use Rattle.zt_model.specs.TreePromises.{IsInTree, Itself, Beyond, IsPlainlyLive, IsTreeFabric, KnowsItsTree, LeadsUpByLink, ServesClients, are_links_empty, is_plain_number}
+use Rattle.zt_model.specs.TreePromises.{IsInTree, Itself, Beyond, IsPlainlyLive, KnowsItsTree, LeadsUpByLink, are_links_empty, is_plain_number}
 use Rattle.zt_model.specs.Visible.{keeps, shows}
 use Rattle.zt_model.specs.Wants.{asks_token, covers, is_about}
 use Rattle.zt_model.proofs.Hats.{covers_is, shares_tokens_by_region, shows_others}
@@ -33,9 +33,11 @@ use Rattle.zt_laws.proofs.Lists.{any-filter, any_from_filter, any_member, any_we
 use Rattle.zt_laws.proofs.Seen.{owed_is}
 use Rattle.zt_theorem_tree_invariant.specs.Facts.{AsksAbove, IsTreeFace, IsTreeGateway, TreesAgree, token_interests}
 use Rattle.zt_theorem_tree_invariant.specs.Joints.{are_joined}
+use Rattle.zt_theorem_tree_invariant.specs.Trees.{FacesFormTrees, RefusesNoFaces, has_face_in}
+use Rattle.zt_theorem_tree_invariant.proofs.Admitted.{admitted_if_shown}
 use Rattle.zt_theorem_tree_invariant.proofs.Climbing.{IsUnder, Same, StepUp, Up, any_found, at_gateway, is_at_its, joint_links, meet_at, walk}
 use Rattle.zt_theorem_tree_invariant.proofs.Members.{each_gateway_nth, each_nth, is_there, number_is_its, some_face}
-use Rattle.zt_theorem_tree_invariant.proofs.Quiet.{IsQuiet, admitted_if_visible, gateway_of, is_live, is_shown_by, joined_back, quiet_joint, visible_by_faces}
+use Rattle.zt_theorem_tree_invariant.proofs.Quiet.{IsQuiet, gateway_of, is_live, is_shown_by, joined_back, quiet_joint, visible_by_faces}
 
 -- a north-bound face is shown what stands elsewhere, and any other all
 north_shows : (mode : WhatAmI) (region own : Region) → is_north own ≡ true → shows mode own region ≡ true → is_north region ≡ false
@@ -78,7 +80,7 @@ module _ {K : Type 0} (cmp : K → K → Ordering) (matching : K → K → Bool)
       let bits : a.options.0 ≡ b.options.0 = ranked a.options.0 b.options.0 Equal (sym (is_equal (nat_cmp a.options.0 b.options.0) parts.1)) in
       ap (λ (n : ℕ). has_tokens (record { 0 = n }) && is_about matching a.expr e) bits ∙ ap (λ c. has_tokens b.options && c) (about_same a.expr b.expr e parts.0)
 
-module _ {K : Type 0} (cmp : K → K → Ordering) (matching : K → K → Bool) (s : Fabric K) (fine : FabricIsInOrder cmp matching s) (agree : TreesAgree cmp matching s) (trees : IsTreeFabric s) (keep : AllKeepRight cmp matching s) (quiet : are_links_empty s ≡ true) where
+module _ {K : Type 0} (cmp : K → K → Ordering) (matching : K → K → Bool) (s : Fabric K) (fine : FabricIsInOrder cmp matching s) (agree : TreesAgree cmp matching s) (trees : FacesFormTrees s) (keep : AllKeepRight cmp matching s) (quiet : are_links_empty s ≡ true) where
   -- what holds of a face
   record Known (k : ℕ) (x : FaceAt K) : Type 0 where
     node : Node K
@@ -87,7 +89,8 @@ module _ {K : Type 0} (cmp : K → K → Ordering) (matching : K → K → Bool)
     gateway : IsTreeGateway cmp matching x.rows
     face : IsTreeFace x.rows.mode x.face
     keeps_ : KeepsRight cmp matching x.rows x.face
-    refused : x.rows.refused ≡ []
+    refused : RefusesNoFaces x.gateway node
+    stands : has_face_in x.rows x.face.region ≡ true
 
   known : (k : ℕ) (x : FaceAt K) → face_numbered s k ≡ Some x → Known k x
   known k x found =
@@ -102,7 +105,8 @@ module _ {K : Type 0} (cmp : K → K → Ordering) (matching : K → K → Bool)
         gateway = gateway;
         face = face;
         keeps_ = find_each (λ f. is_routed x.rows f ≡ false → KeepsRight cmp matching x.rows f) (λ (f : Face K). x.face.number == f.number) x.rows.faces x.face keep_all at_.face_is (is_no_router x.rows x.face face);
-        refused = subst (λ (g : Rows K). g.refused ≡ []) at_.rows_are (each_gateway_nth ServesClients 1 x.gateway x.gateway s.gateways at_.node (omega arith) trees.clients at_.node_is).1;
+        refused = each_gateway_nth RefusesNoFaces 1 x.gateway x.gateway s.gateways at_.node (omega arith) trees.admitted at_.node_is;
+        stands = any_found (λ (f : Face K). x.face.number == f.number) (λ f. region_eq f.region x.face.region) x.rows.faces x.face at_.face_is (region_eq-refl x.face.region);
       }
 
   -- some face of the gateway has the expression live
@@ -237,7 +241,8 @@ module _ {K : Type 0} (cmp : K → K → Ordering) (matching : K → K → Bool)
   keeps_what_lives : (k : ℕ) (x : FaceAt K) (e : K) → face_numbered s k ≡ Some x → covers matching x.rows.mode x.face e ≡ true → list_any (is_shown_by cmp x.rows.mode x.face.region e) x.rows.faces ≡ true → keeps cmp x.face e ≡ true
   keeps_what_lives k x e found covered some =
       let here = known k x found in
-      here.keeps_.admitted_is_kept e (admitted_if_visible cmp x.rows x.face.region e here.refused (visible_by_faces cmp x.rows x.face.region e here.gateway.own_rows ∙ some)) covered
+      let refused : RefusesNoFaces x.gateway (record here.node { rows = x.rows }) = subst (λ (g : Rows K). RefusesNoFaces x.gateway (record here.node { rows = g })) here.rows_are here.refused in
+      here.keeps_.admitted_is_kept e (admitted_if_shown cmp x.rows x.face.region e refused here.stands some) covered
 
   -- a face that leads down is shown all
   shown_all : (k : ℕ) (x : FaceAt K) (region : Region) → face_numbered s k ≡ Some x → is_north x.face.region ≡ false → shows x.rows.mode x.face.region region ≡ true

@@ -1,3 +1,4 @@
+pub mod Admitted
 pub mod After
 pub mod Between
 pub mod Calls

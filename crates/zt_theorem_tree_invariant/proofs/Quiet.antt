@@ -1,7 +1,7 @@
 -- What a face of a tree sees, and joints on which nothing waits.
 use Rattle.std.proofs.Common.{◌≡◌, ℕ, Bool, true, false, ◌&&◌, ◌||◌, ◌==◌, not, List, [], ◌∷◌, map, filter, Some, None, refl, ap, ◌∙◌, subst}
 use Rattle.std.proofs.Math.Bool.{or-false}
-use Rattle.std.proofs.lemmas.Bool.{and_from, and_parts}
+use Rattle.std.proofs.lemmas.Bool.{and_parts}
 use Rattle.std.specs.List.{list_all, list_any}
 use Rattle.std.specs.declared.cmp.Ordering.{Ordering}
 use Rattle.zt_region.specs.declared.region.Region.{Region}
@@ -15,8 +15,8 @@ use Rattle.zt_model.specs.Lists.{at_id, same}
 use Rattle.zt_model.specs.Rows.{ById, Face, Rows, RoutedRow}
 use Rattle.zt_model.specs.Transcript.{Each, FaceAt, face_numbered}
 use Rattle.zt_model.specs.TreePromises.{are_links_empty}
-use Rattle.zt_model.specs.Visible.{is_admitted, is_visible, live_rows, rows_of_face, shows}
-use Rattle.zt_laws.proofs.Lists.{any-map, any_alike, any_weaker, by_test}
+use Rattle.zt_model.specs.Visible.{is_visible, rows_of_face, shows}
+use Rattle.zt_laws.proofs.Lists.{any-map, any_alike, by_test}
 use Rattle.zt_laws.proofs.Visible.{any_live_rows}
 use Rattle.zt_theorem_tree_invariant.specs.Facts.{IsTreeGateway, JointAgrees, TreesAgree, token_interests}
 use Rattle.zt_theorem_tree_invariant.specs.Joints.{are_joined, joins}
@@ -28,7 +28,7 @@ none_passes : {A : Type 0} (p : A → Bool) (xs : List A) → Each (λ x. p x �
 none_passes p [] all = refl
 none_passes p (x ∷ xs) all = let here : p x ≡ true = all.0 in rw here (none_passes p xs all.1)
 
-any_and_last : {A : Type 0} (p : A → Bool) (b : Bool) (xs : List A) → list_any (λ x. p x && b) xs ≡ (list_any p xs && b)
+pub any_and_last : {A : Type 0} (p : A → Bool) (b : Bool) (xs : List A) → list_any (λ x. p x && b) xs ≡ (list_any p xs && b)
 any_and_last p true [] = refl
 any_and_last p false [] = refl
 any_and_last p true (x ∷ xs) = by_test (p x) (λ here. rw here refl) (λ here. rw here (any_and_last p true xs))
@@ -59,12 +59,6 @@ module _ {K : Type 0} (cmp : K → K → Ordering) where
       ∙ ap (λ (rows : List (Region × K)). list_any (λ f. list_any test (rows_of_face f)) g.faces || list_any test rows) (ap (map (λ (row : RoutedRow K). (row.region, row.expr))) (none_passes (λ (row : RoutedRow K). zid_eq row.source g.zid) g.routed own_rows))
       ∙ or-false (list_any (λ f. list_any test (rows_of_face f)) g.faces)
       ∙ any_alike (λ f. list_any test (rows_of_face f)) (is_shown_by g.mode own e) (face_shows g.mode own e) g.faces
-
-  -- with nothing refused, what is visible is admitted
-  pub admitted_if_visible : (g : Rows K) (own : Region) (e : K) → g.refused ≡ [] → is_visible cmp g own e ≡ true → is_admitted cmp g own e ≡ true
-  unfolding is_visible is_admitted
-  admitted_if_visible g own e nothing seen =
-      rw nothing (any_weaker (λ row. same cmp e row.1 && shows g.mode own row.0) (λ row. same cmp e row.1 && (shows g.mode own row.0 && true)) (λ row h. let parts = and_parts (same cmp e row.1) (shows g.mode own row.0) h in and_from (same cmp e row.1) (shows g.mode own row.0 && true) parts.0 (and_from (shows g.mode own row.0) true parts.1 refl)) (live_rows g) seen)
 
 -- ---- links
 

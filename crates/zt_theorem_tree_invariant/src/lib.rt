@@ -17,12 +17,13 @@ ghost use Rattle.zt_model.specs.Parts.{find_face};
 ghost use Rattle.zt_model.specs.Rows.{Face, Rows};
 ghost use Rattle.zt_model.specs.Says.{said};
 ghost use Rattle.zt_model.specs.Transcript.{AllKeepWhatTheyShould, Each, FaceAt, face_numbered};
-ghost use Rattle.zt_model.specs.TreePromises.{IsTreeFabric, KnowsItsTree, are_links_empty};
+ghost use Rattle.zt_model.specs.TreePromises.{KnowsItsTree, are_links_empty};
 ghost use Rattle.zt_model.specs.TreePromises.{is_plain_number};
 ghost use Rattle.zt_laws.specs.Order.{FabricIsInOrder, RowsAreInOrder};
 ghost use Rattle.zt_laws.specs.Sound.{rows_after_call};
 ghost use Rattle.zt_theorem_tree_invariant.specs.Facts.{IsTreeGateway, JointAgrees, TreesAgree};
 ghost use Rattle.zt_theorem_tree_invariant.specs.Joints.{EachJoint, changes_no_link, is_call_or_step};
+ghost use Rattle.zt_theorem_tree_invariant.specs.Trees.{FacesFormTrees};
 
 use zt_keys::Key;
 
@@ -37,7 +38,7 @@ pub fn trees_agree_at_first<K: Key>()
 pub fn plain_faces_know_their_trees<K: Key>()
     ensures { (s : Fabric K) (n : ℕ) (x : FaceAt K) → FabricIsInOrder K.cmp K.matching s
         → TreesAgree K.cmp K.matching s
-        → IsTreeFabric s → AllKeepWhatTheyShould K.cmp K.matching s → are_links_empty s ≡ true
+        → FacesFormTrees s → AllKeepWhatTheyShould K.cmp K.matching s → are_links_empty s ≡ true
         → face_numbered s n ≡ Some x → is_plain_number s n ≡ true
         → KnowsItsTree K.cmp K.matching s x.gateway x.face }
 {}

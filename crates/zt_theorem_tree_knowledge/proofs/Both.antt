@@ -1,8 +1,8 @@
 -- What an accepted link leaves at its two gateways, whatever they are.
-use Rattle.std.proofs.Common.{◌≡◌, ◌≢◌, ℕ, ◌+◌, ◌≤◌, Bool, true, false, ◌||◌, List, [], ◌∷◌, ◌++◌, map, Option, Some, None, Ok, Err, refl, sym, ap, ◌∙◌, subst, arith}
-use Rattle.std.proofs.lemmas.Bool.{or_left, or_right}
+use Rattle.std.proofs.Common.{◌≡◌, ◌≢◌, ℕ, ◌+◌, ◌≤◌, Bool, true, false, ◌&&◌, ◌||◌, not, List, [], ◌∷◌, ◌++◌, map, Option, Some, None, Ok, Err, refl, sym, ap, ◌∙◌, subst, arith}
+use Rattle.std.proofs.lemmas.Bool.{and_from, or_left, or_right}
 use Rattle.std.specs.Cmp.{IsTotalOrder}
-use Rattle.std.specs.List.{list_all, list_any}
+use Rattle.std.specs.List.{list_any}
 use Rattle.std.specs.declared.cmp.Ordering.{Ordering}
 use Rattle.zt_region.specs.declared.region.Bound.{Bound}
 use Rattle.zt_region.specs.declared.region.Region.{Region}
@@ -22,8 +22,9 @@ use Rattle.zt_model.specs.Parts.{altered_by}
 use Rattle.zt_model.specs.Routing.{face_opened}
 use Rattle.zt_model.specs.Rows.{ById, Face, Rows}
 use Rattle.zt_model.specs.Says.{altered, parts_of, said}
+use Rattle.zt_model.specs.Strategy.{is_region_of}
 use Rattle.zt_model.specs.Transcript.{Each}
-use Rattle.zt_model.specs.TreePromises.{IsTreeFabric, LeadsUpByLink, ServesClients, is_client_region}
+use Rattle.zt_model.specs.TreePromises.{LeadsUpByLink, is_client_region}
 use Rattle.zt_laws.specs.Order.{FabricIsInOrder}
 use Rattle.zt_laws.specs.Sound.{is_placed, rows_after_call}
 use Rattle.zt_laws.proofs.Ends.{after_hearing-append, end_alone, ends_commute, opened_elsewhere, said_within}
@@ -31,7 +32,7 @@ use Rattle.zt_laws.proofs.Entries.{nth-at_nth}
 use Rattle.zt_laws.proofs.Gateways.{after_hearing_nothing, prints_map}
 use Rattle.zt_laws.proofs.Hearing.{heard_all-region}
 use Rattle.zt_laws.proofs.Interleaving.{hearing_alike}
-use Rattle.zt_laws.proofs.Lists.{any-append, any-map, any_alike, any_member, each_weaker}
+use Rattle.zt_laws.proofs.Lists.{any-append, any-map, any_alike, any_member, any_none, by_test, each_weaker, never}
 use Rattle.zt_laws.proofs.LinesOrder.{after_prints, faces_still_placed, gateway_in_order, in_order_opened, opened_faces}
 use Rattle.zt_laws.proofs.Numbered.{nth_real}
 use Rattle.zt_laws.proofs.Places.{placed_new, placed_still}
@@ -39,23 +40,24 @@ use Rattle.zt_laws.proofs.Sorting.{printed, printed_sorted}
 use Rattle.zt_theorem_tree_invariant.proofs.Members.{each_gateway_nth}
 use Rattle.zt_theorem_tree_invariant.proofs.Turning.{nth_other}
 use Rattle.zt_theorem_tree_knowledge.proofs.Plain.{is_client}
+use Rattle.zt_theorem_tree_knowledge.proofs.Premise.{FacesMayFormTrees, IsOfClientsIfListed}
 
 -- what trees say of an end of a link
 pub record EndFacts {K : Type 0} (own : Node K) (r : Region) : Type 0 where
   pub client : is_north r ≡ true → own.rows.mode ≡ Client
-  pub serves : list_all is_client_region own.rows.regions ≡ true
+  pub serves : is_region_of own.rows.regions r ≡ true → is_client_region r ≡ true
 
 module _ {K : Type 0} (cmp : K → K → Ordering) (matching : K → K → Bool) where
-  -- an opening leaves a gateway's faces to the north, and adds its own
-  north_still : (zid : Zid) (whatami : WhatAmI) (region : Region) (bound : Bound) (first : ℕ) (g : Rows K) → list_any (λ f. is_north f.region) (rows_after_call cmp matching (NewTransport zid whatami region bound first) g).faces ≡ (list_any (λ f. is_north f.region) g.faces || (is_north region || false))
+  -- an opening leaves the regions of a gateway's faces, and adds its own
+  faces_still : (test : Region → Bool) (zid : Zid) (whatami : WhatAmI) (region : Region) (bound : Bound) (first : ℕ) (g : Rows K) → list_any (λ f. test f.region) (rows_after_call cmp matching (NewTransport zid whatami region bound first) g).faces ≡ (list_any (λ f. test f.region) g.faces || (test region || false))
   unfolding parts_of altered_by rows_heard
-  north_still zid whatami region bound first g =
+  faces_still test zid whatami region bound first g =
       let c : PlainCall K = NewTransport zid whatami region bound first in
       let h = altered cmp matching c g in
       let hears = λ (f : Face K). heard_all cmp h.moment (messages_for f.number (said cmp matching c g)) f in
-      any-map (λ (f : Face K). is_north f.region) hears h.faces
-      ∙ any_alike (λ f. is_north (hears f).region) (λ f. is_north f.region) (λ f. ap is_north (heard_all-region cmp h.moment (messages_for f.number (said cmp matching c g)) f)) h.faces
-      ∙ any-append (λ (f : Face K). is_north f.region) g.faces (face_opened zid whatami region bound first g ∷ [])
+      any-map (λ (f : Face K). test f.region) hears h.faces
+      ∙ any_alike (λ f. test (hears f).region) (λ f. test f.region) (λ f. ap test (heard_all-region cmp h.moment (messages_for f.number (said cmp matching c g)) f)) h.faces
+      ∙ any-append (λ (f : Face K). test f.region) g.faces (face_opened zid whatami region bound first g ∷ [])
 
   settings_still : (zid : Zid) (whatami : WhatAmI) (region : Region) (bound : Bound) (first : ℕ) (g : Rows K) → ((rows_after_call cmp matching (NewTransport zid whatami region bound first) g).mode ≡ g.mode) × ((rows_after_call cmp matching (NewTransport zid whatami region bound first) g).regions ≡ g.regions)
   unfolding parts_of altered_by rows_heard
@@ -163,56 +165,63 @@ module _ {K : Type 0} (cmp : K → K → Ordering) (matching : K → K → Bool)
             ∙ heard_elsewhere (said_of ends) (opened_ends cmp matching ends s) linked.links linked.waiting
             ∙ ap (λ (Y : Fabric K). Y.gateways) (hearing_alike cmp (said_of ends) all (opened_ends cmp matching ends s) (λ n. printed_sorted n all) ∙ both_opened)
 
-        module _ (trees : IsTreeFabric Then) where
+        module _ (trees : FacesMayFormTrees Then) where
           -- a gateway with a face to the north is a client's
           client_at : (n : ℕ) (node : Node K) → nth n o2.gateways ≡ Some node → list_any (λ f. is_north f.region) node.rows.faces ≡ true → node.rows.mode ≡ Client
           client_at n node at_ some =
               let all : Each (LeadsUpByLink Then n node.rows) node.rows.faces = each_gateway_nth (λ j (x : Node K). Each (LeadsUpByLink Then j x.rows) x.rows.faces) 1 n n Then.gateways node (omega arith) trees.north (ap (nth n) gateways_are ∙ at_) in
               any_member (LeadsUpByLink Then n node.rows) (λ f. is_north f.region) node.rows.faces all some (λ f leads up. is_client node.rows.mode (leads up).0)
 
-          serves_at : (n : ℕ) (node : Node K) → nth n o2.gateways ≡ Some node → list_all is_client_region node.rows.regions ≡ true
-          serves_at n node at_ = (each_gateway_nth ServesClients 1 n n Then.gateways node (omega arith) trees.clients (ap (nth n) gateways_are ∙ at_)).0
+          -- no face stands in a listed region that isn't one of clients
+          serves_at : (n : ℕ) (node : Node K) → nth n o2.gateways ≡ Some node → list_any (λ f. is_region_of node.rows.regions f.region && not (is_client_region f.region)) node.rows.faces ≡ false
+          serves_at n node at_ =
+              let all : Each (IsOfClientsIfListed node.rows) node.rows.faces = each_gateway_nth (λ j (x : Node K). Each (IsOfClientsIfListed x.rows) x.rows.faces) 1 n n Then.gateways node (omega arith) trees.south (ap (nth n) gateways_are ∙ at_) in
+              any_none (λ f. is_region_of node.rows.regions f.region && not (is_client_region f.region)) node.rows.faces
+              (each_weaker (IsOfClientsIfListed node.rows) (λ f. (is_region_of node.rows.regions f.region && not (is_client_region f.region)) ≡ false) (λ f client. by_test (is_region_of node.rows.regions f.region) (λ listed. rw (listed, client listed) refl) (λ other. rw other refl)) node.rows.faces all)
 
-          -- the rows at an end, with its face and settings
+          -- the rows at an end, with its face
           record EndIs (n : ℕ) (own : Node K) (r : Region) : Type 0 where
             node : Node K
             at_end : nth n o2.gateways ≡ Some node
             mode : node.rows.mode ≡ own.rows.mode
             regions : node.rows.regions ≡ own.rows.regions
-            north : is_north r ≡ true → list_any (λ f. is_north f.region) node.rows.faces ≡ true
+            stands : (test : Region → Bool) → test r ≡ true → list_any (λ f. test f.region) node.rows.faces ≡ true
 
           facts_of : (n : ℕ) (own : Node K) (r : Region) → EndIs n own r → EndFacts own r
-          facts_of n own r is = record { client = λ up. sym is.mode ∙ client_at n is.node is.at_end (is.north up); serves = ap (list_all is_client_region) (sym is.regions) ∙ serves_at n is.node is.at_end }
+          facts_of n own r is = record {
+            client = λ up. sym is.mode ∙ client_at n is.node is.at_end (is.stands is_north up);
+            serves = λ listed.
+                by_test (is_client_region r) (λ here. here)
+                (λ other. never (is.stands (λ q. is_region_of is.node.rows.regions q && not (is_client_region q)) (and_from (is_region_of is.node.rows.regions r) (not (is_client_region r)) (ap (λ rs. is_region_of rs r) is.regions ∙ listed) (ap not other))) (serves_at n is.node is.at_end));
+          }
 
           one_is : two ≢ one → EndIs one a r1
           one_is apart =
-              let still = settings_still b.rows.zid b.rows.mode r1 b1 first a.rows in
               record {
                 node = changed1 a;
                 at_end = nth_other one two changed2 o1.gateways (changed1 a) (nth_real two o1.gateways nb at_nb) (λ is. apart (sym is)) (nth-at_nth one changed1 s.gateways a at_one);
-                mode = still.0;
-                regions = still.1;
-                north = λ up. north_still b.rows.zid b.rows.mode r1 b1 first a.rows ∙ or_right (list_any (λ f. is_north f.region) a.rows.faces) (is_north r1 || false) (or_left (is_north r1) false up);
+                mode = (settings_still b.rows.zid b.rows.mode r1 b1 first a.rows).0;
+                regions = (settings_still b.rows.zid b.rows.mode r1 b1 first a.rows).1;
+                stands = λ test own. faces_still test b.rows.zid b.rows.mode r1 b1 first a.rows ∙ or_right (list_any (λ f. test f.region) a.rows.faces) (test r1 || false) (or_left (test r1) false own);
               }
 
           two_is : nb.rows.mode ≡ b.rows.mode → nb.rows.regions ≡ b.rows.regions → EndIs two b r2
           two_is mode_ regions_ =
-              let still = settings_still a.rows.zid a.rows.mode r2 b2 back nb.rows in
               record {
                 node = changed2 nb;
                 at_end = nth-at_nth two changed2 o1.gateways nb at_nb;
-                mode = still.0 ∙ mode_;
-                regions = still.1 ∙ regions_;
-                north = λ up. north_still a.rows.zid a.rows.mode r2 b2 back nb.rows ∙ or_right (list_any (λ f. is_north f.region) nb.rows.faces) (is_north r2 || false) (or_left (is_north r2) false up);
+                mode = (settings_still a.rows.zid a.rows.mode r2 b2 back nb.rows).0 ∙ mode_;
+                regions = (settings_still a.rows.zid a.rows.mode r2 b2 back nb.rows).1 ∙ regions_;
+                stands = λ test own. faces_still test a.rows.zid a.rows.mode r2 b2 back nb.rows ∙ or_right (list_any (λ f. test f.region) nb.rows.faces) (test r2 || false) (or_left (test r2) false own);
               }
 
       -- what trees say of the two ends, be they at two gateways or at one
-      pub facts_apart : two ≢ one → IsTreeFabric Then → EndFacts a r1 × EndFacts b r2
+      pub facts_apart : two ≢ one → FacesMayFormTrees Then → EndFacts a r1 × EndFacts b r2
       facts_apart apart trees =
           let at_nb = nth_other two one changed1 s.gateways b (nth_real one s.gateways a at_one) apart at_two in
           (facts_of b at_nb trees one a r1 (one_is b at_nb trees apart), facts_of b at_nb trees two b r2 (two_is b at_nb trees refl refl))
 
-      pub facts_alone : two ≡ one → a ≡ b → IsTreeFabric Then → EndFacts b r2
+      pub facts_alone : two ≡ one → a ≡ b → FacesMayFormTrees Then → EndFacts b r2
       facts_alone same_ nodes trees =
           let at_nb : nth two o1.gateways ≡ Some (changed1 a) = ap (λ n. nth n o1.gateways) same_ ∙ nth-at_nth one changed1 s.gateways a at_one in
           let still = settings_still b.rows.zid b.rows.mode r1 b1 first a.rows in

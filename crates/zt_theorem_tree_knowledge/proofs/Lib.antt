@@ -8,6 +8,7 @@ pub mod Opening
 pub mod LineCalls
 pub mod Views
 pub mod Opened
+pub mod Premise
 pub mod Plain
 pub mod Queues
 pub mod Removed

@@ -2,7 +2,7 @@
 use Rattle.std.proofs.Common.{◌≡◌, ◌≢◌, ℕ, ◌+◌, ◌≤◌, Bool, true, false, ◌&&◌, ◌||◌, not, nat_le, List, [], ◌∷◌, length, Option, Some, None, is_none, option_map, Ok, Err, Result, refl, sym, ap, ◌∙◌, subst}
 use Rattle.std.proofs.lemmas.Bool.{and_from, or_left, or_right}
 use Rattle.std.specs.Cmp.{IsTotalOrder}
-use Rattle.std.specs.List.{list_all, list_any}
+use Rattle.std.specs.List.{list_any}
 use Rattle.std.specs.Result.{result_map_both}
 use Rattle.std.specs.declared.cmp.Ordering.{Ordering}
 use Rattle.std.specs.declared.cmp.Ordering.TheVariants.{Equal}
@@ -23,7 +23,7 @@ use Rattle.zt_model.specs.Linking.{LinkEnd, climbs_to, closes_loop, end_region, 
 use Rattle.zt_model.specs.Lists.{nth}
 use Rattle.zt_model.specs.Refusals.{GREATEST_NUMBER, first_cause, is_north_taken}
 use Rattle.zt_model.specs.Strategy.{is_region_of}
-use Rattle.zt_model.specs.TreePromises.{IsTreeFabric, is_client_region}
+use Rattle.zt_model.specs.TreePromises.{is_client_region}
 use Rattle.zt_model.proofs.Hats.{north_taken_is}
 use Rattle.zt_laws.specs.Order.{FabricIsInOrder}
 use Rattle.zt_laws.specs.Sound.{rows_after_call}
@@ -31,6 +31,7 @@ use Rattle.zt_laws.proofs.Calls.{no_cause}
 use Rattle.zt_laws.proofs.Lists.{by_test, each_fails, never}
 use Rattle.zt_laws.proofs.LinesOrder.{gateway_in_order}
 use Rattle.zt_theorem_tree_invariant.specs.Facts.{IsTreeGateway, TreesAgree}
+use Rattle.zt_theorem_tree_invariant.specs.Trees.{FacesFormTrees}
 use Rattle.zt_theorem_tree_invariant.proofs.Members.{each_nth}
 use Rattle.zt_theorem_tree_knowledge.proofs.Opening.{tree_after_north, tree_after_south}
 use Rattle.zt_theorem_tree_knowledge.proofs.Both.{EndFacts, facts_alone, facts_apart}
@@ -38,6 +39,7 @@ use Rattle.zt_theorem_tree_knowledge.proofs.LineCalls.{the_one}
 use Rattle.zt_theorem_tree_knowledge.proofs.Linked.{LinkIs, first_leads_up, link_is, second_leads_up}
 use Rattle.zt_theorem_tree_knowledge.proofs.Plain.{IsBelow, is_below, not_false}
 use Rattle.zt_theorem_tree_knowledge.proofs.Regions.{given_end, one_up_of_clients}
+use Rattle.zt_theorem_tree_knowledge.proofs.Premise.{FacesMayFormTrees, may_by_faces}
 
 not_itself : {G : Type 0} (b : Bool) → b ≡ not b → G
 not_itself true h = cc
@@ -77,7 +79,7 @@ module _ {K : Type 0} (cmp : K → K → Ordering) (matching : K → K → Bool)
     free : is_north_taken r own.rows ≡ false
     apart : ((north_hat own.rows.mode).has_one_face && (is_north r && climbs_to (length s.gateways) s beyond at)) ≡ false
 
-  module _ (a b : Node K) (at_one : nth one s.gateways ≡ Some a) (at_two : nth two s.gateways ≡ Some b) (r1 r2 : Region) (b1 b2 : Bound) (given1 : end_region a b ≡ Ok (r1, b1)) (given2 : end_region b a ≡ Ok (r2, b2)) (fits1 : EndFits a b r1 b1 two one) (fits2 : EndFits b a r2 b2 one two) (trees : IsTreeFabric Then) where
+  module _ (a b : Node K) (at_one : nth one s.gateways ≡ Some a) (at_two : nth two s.gateways ≡ Some b) (r1 r2 : Region) (b1 b2 : Bound) (given1 : end_region a b ≡ Ok (r1, b1)) (given2 : end_region b a ≡ Ok (r2, b2)) (fits1 : EndFits a b r1 b1 two one) (fits2 : EndFits b a r2 b2 one two) (trees : FacesMayFormTrees Then) where
     -- both are clients: one end leads up
     of_clients : a.rows.mode ≡ Client → b.rows.mode ≡ Client → is_north r2 ≡ not (is_north r1)
     of_clients client_a client_b =
@@ -90,10 +92,10 @@ module _ {K : Type 0} (cmp : K → K → Ordering) (matching : K → K → Bool)
         (subst (λ m. (hat_of Client r2).fits r2 m b2 ≡ true) client_a (subst (λ m. (hat_of m r2).fits r2 a.rows.mode b2 ≡ true) client_b fits2.fitting))
 
     below1 : EndFacts a r1 → is_north r1 ≡ false → IsBelow r1 b.rows.mode
-    below1 facts down = is_below a.rows.mode a.rows.regions r1 b.rows.mode b1 fits1.listed fits1.fitting facts.serves down
+    below1 facts down = is_below a.rows.mode r1 b.rows.mode b1 fits1.fitting (facts.serves fits1.listed) down
 
     below2 : EndFacts b r2 → is_north r2 ≡ false → IsBelow r2 a.rows.mode
-    below2 facts down = is_below b.rows.mode b.rows.regions r2 a.rows.mode b2 fits2.listed fits2.fitting facts.serves down
+    below2 facts down = is_below b.rows.mode r2 a.rows.mode b2 fits2.fitting (facts.serves fits2.listed) down
 
     one_up : EndFacts a r1 → EndFacts b r2 → is_north r2 ≡ not (is_north r1)
     one_up facts_a facts_b =
@@ -108,7 +110,7 @@ module _ {K : Type 0} (cmp : K → K → Ordering) (matching : K → K → Bool)
         let both : Ok (r1, b1) ≡ Ok (r2, b2) = sym given1 ∙ ap (λ n. end_region n b) nodes ∙ ap (end_region b) (sym nodes) ∙ given2 in
         let regions : r1 ≡ r2 = first_of_pair both in
         let facts_b = facts_alone cmp matching total s fine one two first back real1 real2 a b at_one at_two r1 r2 b1 b2 given1 given2 same_ nodes trees in
-        let facts_a : EndFacts a r1 = record { client = λ up. ap (λ (n : Node K). n.rows.mode) nodes ∙ facts_b.client (ap is_north (sym regions) ∙ up); serves = ap (λ (n : Node K). list_all is_client_region n.rows.regions) nodes ∙ facts_b.serves } in
+        let facts_a : EndFacts a r1 = record { client = λ up. ap (λ (n : Node K). n.rows.mode) nodes ∙ facts_b.client (ap is_north (sym regions) ∙ up); serves = λ listed. ap is_client_region regions ∙ facts_b.serves (ap (λ (n : Node K). is_region_of n.rows.regions r2) (sym nodes) ∙ ap (is_region_of a.rows.regions) (sym regions) ∙ listed) } in
         not_itself (is_north r1) (ap is_north regions ∙ one_up facts_a facts_b)
       where
         first_of_pair : {r q : Region} {c d : Bound} → (let x : RegionAnswer = Ok (r, c) in let y : RegionAnswer = Ok (q, d) in x ≡ y) → r ≡ q
@@ -130,7 +132,7 @@ module _ {K : Type 0} (cmp : K → K → Ordering) (matching : K → K → Bool)
         subst (λ q. IsTreeGateway cmp matching (rows_after_call cmp matching (NewTransport other.rows.zid other.rows.mode q bound start) own.rows)) (sym region)
         (subst (λ c. IsTreeGateway cmp matching (rows_after_call cmp matching (NewTransport other.rows.zid other.rows.mode North c start) own.rows)) (sym south) (tree_after_north cmp matching total equal_is_same other.rows.zid other.rows.mode start own.rows client none_ ordered tree)))
         (λ down.
-        let below = is_below own.rows.mode own.rows.regions r other.rows.mode bound end.listed end.fitting facts.serves down in
+        let below = is_below own.rows.mode r other.rows.mode bound end.fitting (facts.serves end.listed) down in
         subst (λ q. IsTreeGateway cmp matching (rows_after_call cmp matching (NewTransport other.rows.zid other.rows.mode q bound start) own.rows)) (sym below.region_is)
         (subst (λ k. IsTreeGateway cmp matching (rows_after_call cmp matching (NewTransport other.rows.zid k (South below.id Client) bound start) own.rows)) (sym below.whatami_is) (tree_after_south cmp matching total equal_is_same other.rows.zid below.id bound start own.rows ordered tree)))
 
@@ -189,7 +191,7 @@ module _ {K : Type 0} (cmp : K → K → Ordering) (matching : K → K → Bool)
     at_given : (test : Region → Bound → Bool) (o : RegionAnswer) (r : Region) (bound : Bound) → o ≡ Ok (r, bound) → is_answer o test ≡ false → test r bound ≡ false
     at_given test o r bound given fails = ap (λ x. is_answer x test) (sym given) ∙ fails
 
-    accepted_link : (spent : Bool) → Accepts spent (e1 ∷ e2 ∷ []) → IsTreeFabric Then → TreesAgree cmp matching Then × LinkIs cmp matching s Then (said_by_line cmp matching line s)
+    accepted_link : (spent : Bool) → Accepts spent (e1 ∷ e2 ∷ []) → FacesMayFormTrees Then → TreesAgree cmp matching Then × LinkIs cmp matching s Then (said_by_line cmp matching line s)
     accepted_link spent accepted trees =
         let known = no_cause _ _ _ accepted in
         let region = no_cause _ _ _ known.1 in
@@ -225,7 +227,7 @@ module _ {K : Type 0} (cmp : K → K → Ordering) (matching : K → K → Bool)
         cases (Err e) given1 o2 given2 listed refused_ fitting free apart_ = never (ap refused given1) refused_.0
         cases (Ok x1) given1 (Err e) given2 listed refused_ fitting free apart_ = never (ap refused given2) refused_.1
 
-  both_after : (spent : Bool) → first_cause (line_causes cmp matching spent line s) ≡ None → IsTreeFabric Then → TreesAgree cmp matching Then × LinkIs cmp matching s Then (said_by_line cmp matching line s)
+  both_after : (spent : Bool) → first_cause (line_causes cmp matching spent line s) ≡ None → FacesMayFormTrees Then → TreesAgree cmp matching Then × LinkIs cmp matching s Then (said_by_line cmp matching line s)
   unfolding line_causes
   both_after spent accepted trees = cases (nth one s.gateways) refl (nth two s.gateways) refl
     where
@@ -242,8 +244,8 @@ module _ {K : Type 0} (cmp : K → K → Ordering) (matching : K → K → Bool)
           accepted_link a b at_one at_two spent (subst (Accepts spent) ends_are accepts) trees
 
   -- An accepted link of a script of trees keeps all that is true of trees.
-  pub after_link : (spent : Bool) → first_cause (line_causes cmp matching spent line s) ≡ None → IsTreeFabric Then → TreesAgree cmp matching Then
+  pub after_link : (spent : Bool) → first_cause (line_causes cmp matching spent line s) ≡ None → FacesMayFormTrees Then → TreesAgree cmp matching Then
   after_link spent accepted trees = (both_after spent accepted trees).0
 
-  pub link_comes_to : (spent : Bool) → first_cause (line_causes cmp matching spent line s) ≡ None → IsTreeFabric Then → LinkIs cmp matching s Then (said_by_line cmp matching line s)
-  link_comes_to spent accepted trees = (both_after spent accepted trees).1
+  pub link_comes_to : (spent : Bool) → first_cause (line_causes cmp matching spent line s) ≡ None → FacesFormTrees Then → LinkIs cmp matching s Then (said_by_line cmp matching line s)
+  link_comes_to spent accepted trees = (both_after spent accepted (may_by_faces Then trees)).1

@@ -1,8 +1,8 @@
 -- Lines that make a gateway or open a plain face, in a script of trees.
-use Rattle.std.proofs.Common.{◌≡◌, ℕ, ◌+◌, ◌≤◌, ◌<◌, Bool, true, false, not, List, [], ◌∷◌, ◌++◌, length, map, Option, Some, None, is_none, refl, sym, ap, ◌∙◌, subst, arith, ⊎_elim}
-use Rattle.std.proofs.lemmas.Bool.{and_parts, or_cases}
+use Rattle.std.proofs.Common.{◌≡◌, ℕ, ◌+◌, ◌≤◌, ◌<◌, Bool, true, false, not, List, [], ◌∷◌, ◌++◌, length, map, Option, Some, None, is_none, refl, sym, ap, ◌∙◌, subst, arith}
+use Rattle.std.proofs.lemmas.Bool.{and_parts}
 use Rattle.std.specs.Cmp.{IsTotalOrder}
-use Rattle.std.specs.List.{list_all, list_any}
+use Rattle.std.specs.List.{list_any}
 use Rattle.std.specs.declared.cmp.Ordering.{Ordering}
 use Rattle.std.specs.declared.cmp.Ordering.TheVariants.{Equal}
 use Rattle.zt_region.specs.declared.region.Bound.{Bound}
@@ -11,7 +11,7 @@ use Rattle.zt_region.specs.declared.region.Region.TheVariants.{North, Local, Sou
 use Rattle.zt_region.specs.declared.region.WhatAmI.{WhatAmI}
 use Rattle.zt_region.specs.declared.region.WhatAmI.TheVariants.{Router, Peer, Client}
 use Rattle.zt_region.specs.declared.region.Zid.{Zid}
-use Rattle.zt_region.specs.Region.{bound_eq, is_north, region_eq, region_eq-same, whatami_eq}
+use Rattle.zt_region.specs.Region.{bound_eq, is_north, whatami_eq}
 use Rattle.zt_region.specs.South.{PlainSouth}
 use Rattle.zt_protocol.specs.Plain.{PlainCall, NewSession, NewTransport, PlainLine, Gateway, Session, Face as FaceLine}
 use Rattle.zt_protocol.specs.declared.entries.Sent.{Sent}
@@ -26,9 +26,9 @@ use Rattle.zt_model.specs.Parts.{altered_by}
 use Rattle.zt_model.specs.Refusals.{call_causes, first_cause}
 use Rattle.zt_model.specs.Rows.{ById, Face}
 use Rattle.zt_model.specs.Says.{altered, parts_of, said, said_by}
-use Rattle.zt_model.specs.Strategy.{is_region_of}
 use Rattle.zt_model.specs.Transcript.{Each}
-use Rattle.zt_model.specs.TreePromises.{IsTreeFabric, LeadsUpByLink, ServesClients, is_client_region, is_plain}
+use Rattle.zt_model.specs.Strategy.{is_region_of}
+use Rattle.zt_model.specs.TreePromises.{LeadsUpByLink, is_client_region, is_plain}
 use Rattle.zt_model.proofs.Hats.{fits_south}
 use Rattle.zt_laws.specs.Order.{FabricIsInOrder}
 use Rattle.zt_laws.specs.Sound.{opens_face, places_of, rows_after_call}
@@ -45,14 +45,9 @@ use Rattle.zt_theorem_tree_invariant.proofs.Making.{changes, opened_is}
 use Rattle.zt_theorem_tree_invariant.proofs.Members.{each_gateway_nth, each_nth}
 use Rattle.zt_theorem_tree_knowledge.proofs.Opening.{tree_after_session, tree_after_south}
 use Rattle.zt_theorem_tree_knowledge.proofs.Opened.{after_opened, end_made, trees_after_gateway, trees_after_opened}
+use Rattle.zt_theorem_tree_knowledge.proofs.Premise.{FacesMayFormTrees, IsOfClientsIfListed}
 
 -- ---- tables
-
-any_all : {A G : Type 0} (p q : A → Bool) (xs : List A) → list_all p xs ≡ true → list_any q xs ≡ true → ((x : A) → p x ≡ true → q x ≡ true → G) → G
-any_all p q [] all some at = never some refl
-any_all p q (x ∷ xs) all some at =
-    let parts = and_parts (p x) (list_all p xs) all in
-    ⊎_elim (λ here. at x parts.0 here) (λ there. any_all p q xs parts.1 there at) (or_cases (q x) (list_any q xs) some)
 
 pub is_client : (mode : WhatAmI) → whatami_eq mode Client ≡ true → mode ≡ Client
 is_client Router h = cc
@@ -69,17 +64,14 @@ pub record IsBelow (region : Region) (whatami : WhatAmI) : Type 0 where
   pub region_is : region ≡ South id Client
   pub whatami_is : whatami ≡ Client
 
--- a region that serves clients alone and isn't to the north
-pub is_below : (mode : WhatAmI) (regions : List Region) (region : Region) (whatami : WhatAmI) (bound : Bound) → is_region_of regions region ≡ true → (hat_of mode region).fits region whatami bound ≡ true → list_all is_client_region regions ≡ true → is_north region ≡ false → IsBelow region whatami
-is_below mode regions North whatami bound listed fits_ clients down = never refl down
-is_below mode regions Local whatami bound listed fits_ clients down = never fits_ refl
-is_below mode regions (South id remote) whatami bound listed fits_ clients down =
-    any_all is_client_region (region_eq (South id remote)) regions clients listed
-    (λ r client same_.
-    let is : South id remote ≡ r = region_eq-same (South id remote) r same_ in
-    let remote_is : remote ≡ Client = is_client remote (ap is_client_region is ∙ client) in
+-- a client region that isn't to the north
+pub is_below : (mode : WhatAmI) (region : Region) (whatami : WhatAmI) (bound : Bound) → (hat_of mode region).fits region whatami bound ≡ true → is_client_region region ≡ true → is_north region ≡ false → IsBelow region whatami
+is_below mode North whatami bound fits_ client down = never refl down
+is_below mode Local whatami bound fits_ client down = never fits_ refl
+is_below mode (South id remote) whatami bound fits_ client down =
+    let remote_is : remote ≡ Client = is_client remote client in
     let own : whatami ≡ remote = whatami_same whatami remote (and_parts (whatami_eq whatami remote) (bound_eq bound _) (sym (fits_south mode id remote whatami bound) ∙ fits_)).0 in
-    record { id = id; region_is = ap (South id) remote_is; whatami_is = own ∙ remote_is })
+    record { id = id; region_is = ap (South id) remote_is; whatami_is = own ∙ remote_is }
   where
     whatami_same : (a b : WhatAmI) → whatami_eq a b ≡ true → a ≡ b
     whatami_same Router Router h = refl
@@ -113,7 +105,7 @@ module _ {K : Type 0} (cmp : K → K → Ordering) (matching : K → K → Bool)
         ap (λ k. number_from 1 n (node.rows.made + 1) (s.faces ++ record { gateway = n; face = k } ∷ [])) (ap next_face at_n) ∙ number_new 1 n (node.rows.made + 1) s.faces (not_placed_yet n (node.rows.made + 1) s.faces below)
 
     -- a new face leads down, since it ends no link
-    pub leads_down : IsTreeFabric opened_now → (f : Face K) → (altered cmp matching c node.rows).faces ≡ node.rows.faces ++ f ∷ [] → f.number ≡ node.rows.made + 1 → is_north f.region ≡ false
+    pub leads_down : FacesMayFormTrees opened_now → (f : Face K) → (altered cmp matching c node.rows).faces ≡ node.rows.faces ++ f ∷ [] → f.number ≡ node.rows.made + 1 → is_north f.region ≡ false
     unfolding rows_heard
     leads_down trees f faces_ made =
         let g = altered cmp matching c node.rows in
@@ -132,8 +124,17 @@ module _ {K : Type 0} (cmp : K → K → Ordering) (matching : K → K → Bool)
         absurd (omega arith))
         (λ down. down)
 
-    pub serves_clients : IsTreeFabric opened_now → list_all is_client_region (rows_after_call cmp matching c node.rows).regions ≡ true
-    serves_clients trees = (each_gateway_nth ServesClients 1 n n opened_now.gateways (changes cmp matching total s fine agree n node at_n c opens ms prints node) (omega arith) trees.clients node_now).0
+    -- and stands where clients do
+    pub stands_below : FacesMayFormTrees opened_now → (f : Face K) → (altered cmp matching c node.rows).faces ≡ node.rows.faces ++ f ∷ [] → is_region_of (altered cmp matching c node.rows).regions f.region ≡ true → is_client_region f.region ≡ true
+    unfolding rows_heard
+    stands_below trees f faces_ listed =
+        let g = altered cmp matching c node.rows in
+        let ss = said cmp matching c node.rows in
+        let hears = λ (k : Face K). heard_all cmp g.moment (messages_for k.number ss) k in
+        let all : Each (IsOfClientsIfListed g) (map hears g.faces) = each_gateway_nth (λ j (x : Node K). Each (IsOfClientsIfListed x.rows) x.rows.faces) 1 n n opened_now.gateways (changes cmp matching total s fine agree n node at_n c opens ms prints node) (omega arith) trees.south node_now in
+        let own : IsOfClientsIfListed g (hears f) = each_last (IsOfClientsIfListed g) hears node.rows.faces f (subst (λ (fs : List (Face K)). Each (IsOfClientsIfListed g) (map hears fs)) faces_ all) in
+        let region_ : (hears f).region ≡ f.region = heard_all-region cmp g.moment (messages_for f.number ss) f in
+        ap is_client_region (sym region_) ∙ own (ap (is_region_of g.regions) region_ ∙ listed)
 
   -- ---- lines
 
@@ -167,7 +168,7 @@ module _ {K : Type 0} (cmp : K → K → Ordering) (matching : K → K → Bool)
           (trees_after_opened cmp matching total s fine agree n node at_ c refl [] prints
           (tree_after_session cmp matching total equal_is_same first node.rows (gateway_in_order cmp matching s n node at_ fine).rows (each_nth (λ (x : Node K). IsTreeGateway cmp matching x.rows) n s.gateways node agree.gateways at_)))
 
-  pub after_face : (spent : Bool) (n : ℕ) (mode : WhatAmI) (zid : Zid) (region : Region) (bound : Bound) (first : ℕ) → first_cause (line_causes cmp matching spent (FaceLine n mode zid region bound first) s) ≡ None → IsTreeFabric (Then (FaceLine n mode zid region bound first)) → TreesAgree cmp matching (Then (FaceLine n mode zid region bound first))
+  pub after_face : (spent : Bool) (n : ℕ) (mode : WhatAmI) (zid : Zid) (region : Region) (bound : Bound) (first : ℕ) → first_cause (line_causes cmp matching spent (FaceLine n mode zid region bound first) s) ≡ None → FacesMayFormTrees (Then (FaceLine n mode zid region bound first)) → TreesAgree cmp matching (Then (FaceLine n mode zid region bound first))
   unfolding line_causes call_causes call_of said_by_line altered_by_line parts_of altered_by rows_heard
   after_face spent n mode zid region bound first accepted trees = cases (nth n s.gateways) refl accepted trees
     where
@@ -179,18 +180,18 @@ module _ {K : Type 0} (cmp : K → K → Ordering) (matching : K → K → Bool)
 
       cases : (o : Option (Node K)) → nth n s.gateways ≡ o
           → first_cause ((is_none o, refusal.UnknownGateway) ∷ causes_of_call cmp matching spent (elim o [ None ↦ None | Some node ↦ Some (record { gateway = n; rows = node.rows; call = c }) ]) ++ (is_full s.faces, refusal.NumbersSpent) ∷ []) ≡ None
-          → IsTreeFabric (T (elim o [ None ↦ None | Some node ↦ Some (record { gateway = n; rows = node.rows; call = c }) ])) → TreesAgree cmp matching (T (elim o [ None ↦ None | Some node ↦ Some (record { gateway = n; rows = node.rows; call = c }) ]))
+          → FacesMayFormTrees (T (elim o [ None ↦ None | Some node ↦ Some (record { gateway = n; rows = node.rows; call = c }) ])) → TreesAgree cmp matching (T (elim o [ None ↦ None | Some node ↦ Some (record { gateway = n; rows = node.rows; call = c }) ]))
       cases None at_ accepted_ trees_ = never refl (no_cause _ _ _ accepted_).0
       cases (Some node) at_ accepted_ trees_ =
           let ms = sorted_by_face (said_at cmp matching (with_place n s) (Some (record { gateway = n; rows = node.rows; call = c }))) in
           let prints = prints_sorted (with_place n s).faces n (said cmp matching c node.rows) in
           let is = opened_is cmp matching total s fine agree n node at_ c refl ms prints in
-          let now_ : IsTreeFabric (opened_now n node at_ c refl ms prints) = subst IsTreeFabric is trees_ in
+          let now_ : FacesMayFormTrees (opened_now n node at_ c refl ms prints) = subst FacesMayFormTrees is trees_ in
           let one = no_cause _ _ _ accepted_ in
           let two = no_cause _ _ _ one.1 in
           let three = no_cause _ _ _ two.1 in
           let down = leads_down n node at_ c refl ms prints now_ _ refl refl in
-          let below = is_below node.rows.mode node.rows.regions region mode bound (not_false _ two.0) (not_false _ three.0) (serves_clients n node at_ c refl ms prints now_) down in
+          let below = is_below node.rows.mode region mode bound (not_false _ three.0) (stands_below n node at_ c refl ms prints now_ _ refl (not_false _ two.0)) down in
           let tree = tree_after_south cmp matching total equal_is_same zid below.id bound first node.rows (gateway_in_order cmp matching s n node at_ fine).rows (each_nth (λ (x : Node K). IsTreeGateway cmp matching x.rows) n s.gateways node agree.gateways at_) in
           let tree_c : IsTreeGateway cmp matching (rows_after_call cmp matching c node.rows) =
           subst (λ r. IsTreeGateway cmp matching (rows_after_call cmp matching (NewTransport zid mode r bound first) node.rows)) (sym below.region_is) (subst (λ m. IsTreeGateway cmp matching (rows_after_call cmp matching (NewTransport zid m (South below.id Client) bound first) node.rows)) (sym below.whatami_is) tree) in

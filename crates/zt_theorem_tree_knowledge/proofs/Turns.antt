@@ -24,9 +24,11 @@ use Rattle.zt_theorem_soundness.specs.Lines.{EachGatewayIs}
 use Rattle.zt_theorem_soundness.specs.Sound.{IsSound}
 use Rattle.zt_theorem_soundness.proofs.Sound.{sound_after_line, sound_gateways_keep}
 use Rattle.zt_theorem_tree_invariant.specs.Facts.{TreesAgree}
+use Rattle.zt_theorem_tree_invariant.specs.Trees.{FacesFormTrees, IsOfClients, LeavesTrees, RefusesNoFaces}
 use Rattle.zt_theorem_tree_invariant.proofs.Knowledge.{plain_face_knows}
 use Rattle.zt_theorem_tree_invariant.proofs.Members.{numbered}
-use Rattle.zt_theorem_tree_knowledge.proofs.Lines.{trees_after_each}
+use Rattle.zt_theorem_tree_knowledge.proofs.Lines.{trees_after_any, trees_after_each}
+use Rattle.zt_theorem_tree_knowledge.proofs.Premise.{formed_by_regions, may_by_regions}
 
 -- ---- gateways one by one
 
@@ -59,8 +61,22 @@ nth-map n f (x ∷ xs) = by_test (n == 1) (λ here. rw here refl) (λ here. rw h
 module _ {K : Type 0} (cmp : K → K → Ordering) (matching : K → K → Bool) where
   -- ---- what a transcript shows of a fabric of trees
 
-  pub tree_unshown : (s : Fabric K) → IsTreeFabric (as_shown s) → IsTreeFabric s
+  pub tree_unshown : (s : Fabric K) → FacesFormTrees (as_shown s) → FacesFormTrees s
   tree_unshown s trees = record {
+    north = each_gateway_weaker (λ n (node : Node K). Each (LeadsUpByLink (as_shown s) n node.rows) node.rows.faces) (λ n (node : Node K). Each (LeadsUpByLink s n node.rows) node.rows.faces) node_shown (λ n node all. all) 1 s.gateways trees.north;
+    south = each_gateway_weaker (λ n (node : Node K). Each IsOfClients node.rows.faces) (λ n (node : Node K). Each IsOfClients node.rows.faces) node_shown (λ n node all. all) 1 s.gateways trees.south;
+    admitted = each_gateway_weaker RefusesNoFaces RefusesNoFaces node_shown (λ n node all. all) 1 s.gateways trees.admitted;
+  }
+
+  tree_shown : (s : Fabric K) → FacesFormTrees s → FacesFormTrees (as_shown s)
+  tree_shown s trees = record {
+    north = each_gateway_changed (λ n (node : Node K). Each (LeadsUpByLink s n node.rows) node.rows.faces) (λ n (node : Node K). Each (LeadsUpByLink (as_shown s) n node.rows) node.rows.faces) node_shown (λ n node all. all) 1 s.gateways trees.north;
+    south = each_gateway_changed (λ n (node : Node K). Each IsOfClients node.rows.faces) (λ n (node : Node K). Each IsOfClients node.rows.faces) node_shown (λ n node all. all) 1 s.gateways trees.south;
+    admitted = each_gateway_changed RefusesNoFaces RefusesNoFaces node_shown (λ n node all. all) 1 s.gateways trees.admitted;
+  }
+
+  regions_unshown : (s : Fabric K) → IsTreeFabric (as_shown s) → IsTreeFabric s
+  regions_unshown s trees = record {
     north = each_gateway_weaker (λ n (node : Node K). Each (LeadsUpByLink (as_shown s) n node.rows) node.rows.faces) (λ n (node : Node K). Each (LeadsUpByLink s n node.rows) node.rows.faces) node_shown (λ n node all. all) 1 s.gateways trees.north;
     clients = each_gateway_weaker ServesClients ServesClients node_shown (λ n node all. all) 1 s.gateways trees.clients;
   }
@@ -111,7 +127,7 @@ module _ {K : Type 0} (cmp : K → K → Ordering) (matching : K → K → Bool)
     SoundFabric s = EachGatewayIs cmp matching (IsSound cmp matching) s
 
     -- in a sound fabric of trees that agree, each plain face knows its tree where nothing waits
-    faces_know : (s : Fabric K) → SoundFabric s → TreesAgree cmp matching s → IsTreeFabric s → are_links_empty s ≡ true → EachFace (λ n g f. is_plain s n f ≡ true → KnowsItsTree cmp matching s n f) s
+    faces_know : (s : Fabric K) → SoundFabric s → TreesAgree cmp matching s → FacesFormTrees s → are_links_empty s ≡ true → EachFace (λ n g f. is_plain s n f ≡ true → KnowsItsTree cmp matching s n f) s
     faces_know s sound agree trees quiet =
         let fine = sound.order in
         each_gateway_from (λ n (node : Node K). Each (λ f. is_plain s n f ≡ true → KnowsItsTree cmp matching s n f) node.rows.faces) 1 s.gateways
@@ -128,7 +144,7 @@ module _ {K : Type 0} (cmp : K → K → Ordering) (matching : K → K → Bool)
         plain_face_knows cmp matching s fine agree trees (sound_gateways_keep cmp matching s sound) quiet equal_is_same k (record { gateway = n; rows = node.rows; face = f }) (numbered s k (record { gateway = n; face = f.number }) node f place_ at_ found) plain)
         node.rows.faces (found_by_number 1 node.rows.faces gateway.rows.lists.faces_rise) gateway.placed))
 
-    turn_knows : (s : Fabric K) (t : Turn K) → t.after ≡ as_shown s → SoundFabric s → TreesAgree cmp matching s → IsTreeFabric s → KnowsTrees cmp matching t
+    turn_knows : (s : Fabric K) (t : Turn K) → t.after ≡ as_shown s → SoundFabric s → TreesAgree cmp matching s → FacesFormTrees s → KnowsTrees cmp matching t
     turn_knows s t is sound agree trees =
         subst (λ (u : Fabric K). are_links_empty u ≡ true → EachFace (λ n g f. is_plain u n f ≡ true → holds_both cmp matching f ≡ true → KnowsItsTree cmp matching u n f) u) (sym is)
         (λ quiet.
@@ -141,7 +157,7 @@ module _ {K : Type 0} (cmp : K → K → Ordering) (matching : K → K → Bool)
 
     -- Knowledge after each turn, from a sound fabric of trees that agree.
     pub turns_know : (lines : List (PlainLine K)) (s : Fabric K) → Each HasFirstIds lines → SoundFabric s → TreesAgree cmp matching s
-        → (let turns = turns_from cmp matching lines (entries_from cmp matching lines s) (as_shown s) in Each (IsTreeTurn cmp matching) turns → Each (KnowsTrees cmp matching) turns)
+        → (let turns = turns_from cmp matching lines (entries_from cmp matching lines s) (as_shown s) in Each (LeavesTrees cmp matching) turns → Each (KnowsTrees cmp matching) turns)
     unfolding turns_from entries_from
     turns_know [] s real sound agree = λ trees. tt
     turns_know (line ∷ lines) s real sound agree =
@@ -149,9 +165,26 @@ module _ {K : Type 0} (cmp : K → K → Ordering) (matching : K → K → Bool)
         let next = fabric_after cmp matching line entry s in
         let is = fabric_is_shown cmp matching total line s sound.order in
         λ trees.
-        let here : IsTreeFabric next = tree_unshown next (subst IsTreeFabric is trees.0.0) in
+        let here : FacesFormTrees next = tree_unshown next (subst FacesFormTrees is trees.0.0) in
         let sound_next = sound_after_line cmp matching total equal_is_same line s real.0 sound in
         let agree_next = trees_after_each cmp matching total equal_is_same s sound.order agree line real.0 (not_spent entry trees.0.1) here in (
           turn_knows next (record { line = line; entry = entry; before = as_shown s; after = fabric_shown cmp matching line entry (as_shown s) }) is sound_next agree_next here,
-          subst (λ (after : Fabric K). (let turns = turns_from cmp matching lines (entries_from cmp matching lines next) after in Each (IsTreeTurn cmp matching) turns → Each (KnowsTrees cmp matching) turns)) (sym is) (turns_know lines next real.1 sound_next agree_next) trees.1,
+          subst (λ (after : Fabric K). (let turns = turns_from cmp matching lines (entries_from cmp matching lines next) after in Each (LeavesTrees cmp matching) turns → Each (KnowsTrees cmp matching) turns)) (sym is) (turns_know lines next real.1 sound_next agree_next) trees.1,
+        )
+
+    -- Where gateways list client regions alone and refuse no pairs, after each turn, faces form trees.
+    pub turns_form_trees : (lines : List (PlainLine K)) (s : Fabric K) → Each HasFirstIds lines → SoundFabric s → TreesAgree cmp matching s
+        → (let turns = turns_from cmp matching lines (entries_from cmp matching lines s) (as_shown s) in Each (IsTreeTurn cmp matching) turns → Each (LeavesTrees cmp matching) turns)
+    unfolding turns_from entries_from
+    turns_form_trees [] s real sound agree = λ trees. tt
+    turns_form_trees (line ∷ lines) s real sound agree =
+        let entry = entry_of cmp matching line s in
+        let next = fabric_after cmp matching line entry s in
+        let is = fabric_is_shown cmp matching total line s sound.order in
+        λ trees.
+        let here : IsTreeFabric next = regions_unshown next (subst IsTreeFabric is trees.0.0) in
+        let sound_next = sound_after_line cmp matching total equal_is_same line s real.0 sound in
+        let agree_next = trees_after_any cmp matching total equal_is_same s sound.order agree line real.0 (not_spent entry trees.0.1) (may_by_regions next here) in (
+          (subst FacesFormTrees (sym is) (tree_shown next (formed_by_regions cmp matching next agree_next here)), trees.0.1),
+          subst (λ (after : Fabric K). (let turns = turns_from cmp matching lines (entries_from cmp matching lines next) after in Each (IsTreeTurn cmp matching) turns → Each (LeavesTrees cmp matching) turns)) (sym is) (turns_form_trees lines next real.1 sound_next agree_next) trees.1,
         )

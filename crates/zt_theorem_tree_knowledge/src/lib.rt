@@ -19,10 +19,11 @@ ghost use Rattle.zt_model.specs.Rows.{Face, Rows};
 ghost use Rattle.zt_laws.specs.Order.{RowsAreInOrder, FabricIsInOrder};
 ghost use Rattle.zt_laws.specs.Sound.{opens_face, rows_after_call, HasFirstIds};
 ghost use Rattle.zt_theorem_tree_invariant.specs.Facts.{IsTreeGateway, TreesAgree};
+ghost use Rattle.zt_theorem_tree_invariant.specs.Trees.{FacesFormTrees, LeavesTrees};
 ghost use Rattle.zt_protocol.specs.declared.errors.Refusal.TheVariants.{IdsSpent};
 ghost use Rattle.zt_model.specs.Fabric.{Fabric, empty_fabric, entry_of, fabric_after};
 ghost use Rattle.zt_model.specs.Transcript.{Each};
-ghost use Rattle.zt_model.specs.TreePromises.{IsTreeFabric, IsTreeTurn, KnowsTrees};
+ghost use Rattle.zt_model.specs.TreePromises.{IsTreeTurn, KnowsTrees};
 ghost use Rattle.zt_laws.specs.Shown.{turns_of};
 ghost use Rattle.zt_theorem_soundness.specs.Lines.{EachGatewayIs};
 ghost use Rattle.zt_theorem_soundness.specs.Sound.{IsSound};
@@ -66,7 +67,7 @@ pub fn lines_keep_trees<K: Key>()
         → FabricIsInOrder K.cmp K.matching s → TreesAgree K.cmp K.matching s
         → entry_of K.cmp K.matching line s ≢ Err IdsSpent
         → (let after = fabric_after K.cmp K.matching line (entry_of K.cmp K.matching line s) s in
-        IsTreeFabric after → TreesAgree K.cmp K.matching after) }
+        FacesFormTrees after → TreesAgree K.cmp K.matching after) }
 {}
 
 /// Knowledge, of every list of lines: in a transcript of trees that refuses no line for want of
@@ -76,10 +77,19 @@ pub fn lines_keep_trees<K: Key>()
 pub fn turns_know_their_trees<K: Key>()
     ensures start { (lines : List (PlainLine K)) → Each HasFirstIds lines
         → (let turns = turns_of K.cmp K.matching lines empty_fabric in
-        Each (IsTreeTurn K.cmp K.matching) turns → Each (KnowsTrees K.cmp K.matching) turns) }
+        Each (LeavesTrees K.cmp K.matching) turns → Each (KnowsTrees K.cmp K.matching) turns) }
     ensures later { (lines : List (PlainLine K)) (s : Fabric K) → Each HasFirstIds lines
         → EachGatewayIs K.cmp K.matching (IsSound K.cmp K.matching) s
         → TreesAgree K.cmp K.matching s
         → (let turns = turns_of K.cmp K.matching lines s in
-        Each (IsTreeTurn K.cmp K.matching) turns → Each (KnowsTrees K.cmp K.matching) turns) }
+        Each (LeavesTrees K.cmp K.matching) turns → Each (KnowsTrees K.cmp K.matching) turns) }
+{}
+
+/// Gateways that list client regions alone, and whose admission tables refuse nothing, leave trees:
+/// in their transcripts open faces form trees after each turn. So what is promised of faces that
+/// form trees holds there too, and that can be read off the lines that make gateways.
+pub fn client_regions_form_trees<K: Key>()
+    ensures { (lines : List (PlainLine K)) → Each HasFirstIds lines
+        → (let turns = turns_of K.cmp K.matching lines empty_fabric in
+        Each (IsTreeTurn K.cmp K.matching) turns → Each (LeavesTrees K.cmp K.matching) turns) }
 {}

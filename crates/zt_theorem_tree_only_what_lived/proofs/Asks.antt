@@ -20,7 +20,7 @@ use Rattle.zt_model.specs.Parts.{find_face}
 use Rattle.zt_model.specs.Promises.{EachGateway, Turn, answered_by, answers_in, is_accepted, printed, turns_from}
 use Rattle.zt_model.specs.Rows.{ById, InterestRow}
 use Rattle.zt_model.specs.Transcript.{Each, FaceAt, fabric_shown, face_numbered, messages_of}
-use Rattle.zt_model.specs.TreePromises.{GetsOnlyWhatWas, Here, IsMember, IsTreeFabric, IsTreeTurn, MakesAsk, There, answers_of_turn, are_links_empty, disturbs, is_live_at, is_plain_number, is_plainly_live_at}
+use Rattle.zt_model.specs.TreePromises.{GetsOnlyWhatWas, Here, IsMember, MakesAsk, There, answers_of_turn, are_links_empty, disturbs, is_live_at, is_plain_number, is_plainly_live_at}
 use Rattle.zt_model.specs.Visible.{keeps}
 use Rattle.zt_laws.specs.Shown.{as_shown}
 use Rattle.zt_laws.specs.Sound.{HasFirstIds, is_placed}
@@ -32,6 +32,7 @@ use Rattle.zt_laws.proofs.ShownLines.{fabric_is_shown}
 use Rattle.zt_laws.proofs.ToldFrom.{found_by_number}
 use Rattle.zt_theorem_soundness.proofs.Sound.{sound_after_line, sound_gateways_keep}
 use Rattle.zt_theorem_tree_invariant.specs.Facts.{TreesAgree}
+use Rattle.zt_theorem_tree_invariant.specs.Trees.{FacesFormTrees, LeavesTrees}
 use Rattle.zt_theorem_tree_invariant.proofs.Knowledge.{kept_is_plainly_live}
 use Rattle.zt_theorem_tree_invariant.proofs.Members.{each_nth, numbered}
 use Rattle.zt_theorem_tree_invariant.proofs.Quiet.{joined_back, quiet_joint}
@@ -121,7 +122,7 @@ module _ {K : Type 0} (cmp : K → K → Ordering) (matching : K → K → Bool)
     no_queues Q ((q, []) ∷ w) h = (tt, no_queues Q w h)
     no_queues Q ((q, m ∷ ms) ∷ w) h = cc
 
-    module _ (s : Fabric K) (sound : SoundFabric cmp matching total equal_is_same s) (agree : TreesAgree cmp matching s) (trees : IsTreeFabric s) (quiet : are_links_empty s ≡ true) where
+    module _ (s : Fabric K) (sound : SoundFabric cmp matching total equal_is_same s) (agree : TreesAgree cmp matching s) (trees : FacesFormTrees s) (quiet : are_links_empty s ≡ true) where
       to_live : (k : ℕ) (x : FaceAt K) (e : K) → face_numbered s k ≡ Some x → keeps cmp x.face e ≡ true → LiveAt cmp matching s e
       to_live k x e found kept =
           let live = kept_is_plainly_live cmp matching s sound.order agree trees (sound_gateways_keep cmp matching s sound) quiet k x e found kept in
@@ -179,8 +180,8 @@ module _ {K : Type 0} (cmp : K → K → Ordering) (matching : K → K → Bool)
 
     module _ (face id : ℕ) (interest : InterestRow K) where
       -- a line that doesn't disturb the ask is no accepted unlinking
-      calm_leaves : (line : PlainLine K) (s : Fabric K) (sound : SoundFabric cmp matching total equal_is_same s) (agree : TreesAgree cmp matching s) (trees : IsTreeFabric s) (Q : K → Type 0) (all : Everywhere Q s) (before after : Fabric K)
-          → disturbs cmp matching face id interest (record { line = line; entry = entry_of cmp matching line s; before = before; after = after }) ≡ false → HasFirstIds line → IsTreeFabric (fabric_after cmp matching line (entry_of cmp matching line s) s)
+      calm_leaves : (line : PlainLine K) (s : Fabric K) (sound : SoundFabric cmp matching total equal_is_same s) (agree : TreesAgree cmp matching s) (trees : FacesFormTrees s) (Q : K → Type 0) (all : Everywhere Q s) (before after : Fabric K)
+          → disturbs cmp matching face id interest (record { line = line; entry = entry_of cmp matching line s; before = before; after = after }) ≡ false → HasFirstIds line → FacesFormTrees (fabric_after cmp matching line (entry_of cmp matching line s) s)
           → Leaves cmp matching total equal_is_same s sound.order agree trees Q all (messages_of (entry_of cmp matching line s)) (fabric_after cmp matching line (entry_of cmp matching line s) s)
       unfolding fabric_after
       calm_leaves (Unlink n) s sound agree trees Q all before after calm real now_ = refused (entry_of cmp matching (Unlink n) s) calm
@@ -216,8 +217,8 @@ module _ {K : Type 0} (cmp : K → K → Ordering) (matching : K → K → Bool)
       Next line s = fabric_after cmp matching line (entry_of cmp matching line s) s
 
       -- from tokens of a kind on, answers are of the kind, where what becomes live is too
-      goes : (lines : List (PlainLine K)) (s : Fabric K) → Each HasFirstIds lines → SoundFabric cmp matching total equal_is_same s → TreesAgree cmp matching s → IsTreeFabric s → (Q : K → Type 0) → Everywhere Q s
-          → (between : List (Turn K)) (ending : Option (Turn K)) (later : List (Turn K)) → TurnsOf lines s (as_shown s) ≡ between ++ option_to_list ending ++ later → Each (IsTreeTurn cmp matching) (TurnsOf lines s (as_shown s)) → Each (Closed Q) between → Each Calm (between ++ option_to_list ending)
+      goes : (lines : List (PlainLine K)) (s : Fabric K) → Each HasFirstIds lines → SoundFabric cmp matching total equal_is_same s → TreesAgree cmp matching s → FacesFormTrees s → (Q : K → Type 0) → Everywhere Q s
+          → (between : List (Turn K)) (ending : Option (Turn K)) (later : List (Turn K)) → TurnsOf lines s (as_shown s) ≡ between ++ option_to_list ending ++ later → Each (LeavesTrees cmp matching) (TurnsOf lines s (as_shown s)) → Each (Closed Q) between → Each Calm (between ++ option_to_list ending)
           → Each (Answers Q) (between ++ option_to_list ending)
       unfolding turns_from entries_from
       goes [] s real sound agree trees_s Q all [] None later = λ is trees closed calm. tt
@@ -226,14 +227,14 @@ module _ {K : Type 0} (cmp : K → K → Ordering) (matching : K → K → Bool)
       goes (line ∷ lines) s real sound agree trees_s Q all [] None later = λ is trees closed calm. tt
       goes (line ∷ lines) s real sound agree trees_s Q all [] (Some t) later = λ is trees closed calm.
           let shown = fabric_is_shown cmp matching total line s sound.order in
-          let here : IsTreeFabric (Next line s) = tree_unshown cmp matching (Next line s) (subst IsTreeFabric shown trees.0.0) in
+          let here : FacesFormTrees (Next line s) = tree_unshown cmp matching (Next line s) (subst FacesFormTrees shown trees.0.0) in
           let head_ : TurnOf line s ≡ t = heads is in
           let leaves = calm_leaves line s sound agree trees_s Q all (as_shown s) (TurnOf line s).after (subst Calm (sym head_) calm.0) real.0 here in
           (subst (Answers Q) head_ leaves.1, tt)
       goes (line ∷ lines) s real sound agree trees_s Q all (t ∷ ts) ending later = λ is trees closed calm.
           let next = Next line s in
           let shown = fabric_is_shown cmp matching total line s sound.order in
-          let here : IsTreeFabric next = tree_unshown cmp matching next (subst IsTreeFabric shown trees.0.0) in
+          let here : FacesFormTrees next = tree_unshown cmp matching next (subst FacesFormTrees shown trees.0.0) in
           let head_ : TurnOf line s ≡ t = heads is in
           let leaves = calm_leaves line s sound agree trees_s Q all (as_shown s) (TurnOf line s).after (subst Calm (sym head_) calm.0) real.0 here in
           let sound_next = sound_after_line cmp matching total equal_is_same line s real.0 sound in
@@ -241,7 +242,7 @@ module _ {K : Type 0} (cmp : K → K → Ordering) (matching : K → K → Bool)
           let closed_ : (e : K) → LiveAt cmp matching (as_shown next) e → Q e = subst (λ (u : Fabric K). (e : K) → LiveAt cmp matching u e → Q e) shown (subst (Closed Q) (sym head_) closed.0) in
           let all_next : Everywhere Q next = everywhere_weaker (OrLive cmp matching Q next) Q (λ e own. ⊎_elim (λ q. q) (λ live. closed_ e (shown_live next e live)) own) next leaves.0 in (
             subst (Answers Q) head_ leaves.1,
-            goes lines next real.1 sound_next agree_next here Q all_next ts ending later (subst (λ (u : Fabric K). TurnsOf lines next u ≡ ts ++ option_to_list ending ++ later) shown (tails is)) (subst (λ (u : Fabric K). Each (IsTreeTurn cmp matching) (TurnsOf lines next u)) shown trees.1) closed.1 calm.1,
+            goes lines next real.1 sound_next agree_next here Q all_next ts ending later (subst (λ (u : Fabric K). TurnsOf lines next u ≡ ts ++ option_to_list ending ++ later) shown (tails is)) (subst (λ (u : Fabric K). Each (LeavesTrees cmp matching) (TurnsOf lines next u)) shown trees.1) closed.1 calm.1,
           )
 
       -- what was live since the asking
@@ -249,8 +250,8 @@ module _ {K : Type 0} (cmp : K → K → Ordering) (matching : K → K → Bool)
       Was turns e = (t : Turn K) × (face : ℕ) × IsMember t turns × (is_plainly_live_at cmp matching t.after face e ≡ true)
 
       -- the asking itself
-      at_ask : (n i : ℕ) (mode : InterestMode) (options : InterestOptions) (ex : Option K) (s : Fabric K) (sound : SoundFabric cmp matching total equal_is_same s) (agree : TreesAgree cmp matching s) (trees_s : IsTreeFabric s) → are_links_empty s ≡ true
-          → (let line : PlainLine K = Speak (Interest n i mode options ex) in HasFirstIds line → IsTreeFabric (Next line s) → Everywhere (LiveAt cmp matching (Next line s)) (Next line s) × AnswersIn cmp matching (LiveAt cmp matching (Next line s)) (messages_of (entry_of cmp matching line s)))
+      at_ask : (n i : ℕ) (mode : InterestMode) (options : InterestOptions) (ex : Option K) (s : Fabric K) (sound : SoundFabric cmp matching total equal_is_same s) (agree : TreesAgree cmp matching s) (trees_s : FacesFormTrees s) → are_links_empty s ≡ true
+          → (let line : PlainLine K = Speak (Interest n i mode options ex) in HasFirstIds line → FacesFormTrees (Next line s) → Everywhere (LiveAt cmp matching (Next line s)) (Next line s) × AnswersIn cmp matching (LiveAt cmp matching (Next line s)) (messages_of (entry_of cmp matching line s)))
       at_ask n i mode options ex s sound agree trees_s quiet = λ real now_.
           let line : PlainLine K = Speak (Interest n i mode options ex) in
           let next = Next line s in
@@ -261,8 +262,8 @@ module _ {K : Type 0} (cmp : K → K → Ordering) (matching : K → K → Bool)
             answers_weaker (LiveAt cmp matching s) L stay (messages_of (entry_of cmp matching line s)) leaves.1,
           )
 
-      asked : (lines : List (PlainLine K)) (s : Fabric K) → Each HasFirstIds lines → SoundFabric cmp matching total equal_is_same s → TreesAgree cmp matching s → IsTreeFabric s
-          → (earlier : List (Turn K)) (asking : Turn K) (between : List (Turn K)) (ending : Option (Turn K)) (later : List (Turn K)) → TurnsOf lines s (as_shown s) ≡ earlier ++ asking ∷ between ++ option_to_list ending ++ later → Each (IsTreeTurn cmp matching) (TurnsOf lines s (as_shown s))
+      asked : (lines : List (PlainLine K)) (s : Fabric K) → Each HasFirstIds lines → SoundFabric cmp matching total equal_is_same s → TreesAgree cmp matching s → FacesFormTrees s
+          → (earlier : List (Turn K)) (asking : Turn K) (between : List (Turn K)) (ending : Option (Turn K)) (later : List (Turn K)) → TurnsOf lines s (as_shown s) ≡ earlier ++ asking ∷ between ++ option_to_list ending ++ later → Each (LeavesTrees cmp matching) (TurnsOf lines s (as_shown s))
           → MakesAsk cmp matching asking face id interest → are_links_empty asking.before ≡ true → Each Calm (between ++ option_to_list ending)
           → Each (Answers (Was (asking ∷ between))) (asking ∷ between ++ option_to_list ending)
       unfolding turns_from entries_from
@@ -272,32 +273,32 @@ module _ {K : Type 0} (cmp : K → K → Ordering) (matching : K → K → Bool)
           let next = Next line s in
           let Q = Was (asking ∷ between) in
           let shown = fabric_is_shown cmp matching total line s sound.order in
-          let here : IsTreeFabric next = tree_unshown cmp matching next (subst IsTreeFabric shown trees.0.0) in
+          let here : FacesFormTrees next = tree_unshown cmp matching next (subst FacesFormTrees shown trees.0.0) in
           let head_ : TurnOf line s ≡ asking = heads is in
           let line_is : line ≡ Speak (Interest face id interest.mode made.options interest.expr) = ap (λ (t : Turn K). t.line) head_ ∙ made.line in
           let quiet_ : are_links_empty s ≡ true = ap (λ (t : Turn K). are_links_empty t.before) head_ ∙ quiet in
           let at_ =
-          subst (λ (l : PlainLine K). HasFirstIds l → IsTreeFabric (Next l s) → Everywhere (LiveAt cmp matching (Next l s)) (Next l s) × AnswersIn cmp matching (LiveAt cmp matching (Next l s)) (messages_of (entry_of cmp matching l s))) (sym line_is)
+          subst (λ (l : PlainLine K). HasFirstIds l → FacesFormTrees (Next l s) → Everywhere (LiveAt cmp matching (Next l s)) (Next l s) × AnswersIn cmp matching (LiveAt cmp matching (Next l s)) (messages_of (entry_of cmp matching l s))) (sym line_is)
           (at_ask face id interest.mode made.options interest.expr s sound agree trees_s quiet_) real.0 here in
           let after_ : as_shown next ≡ asking.after = sym shown ∙ ap (λ (t : Turn K). t.after) head_ in
           let was : (e : K) → LiveAt cmp matching next e → Q e = λ e live. let l = subst (λ (u : Fabric K). LiveAt cmp matching u e) after_ (shown_live next e live) in (asking, l.0, Here between, l.1) in
           let sound_next = sound_after_line cmp matching total equal_is_same line s real.0 sound in
           let agree_next = trees_after_each cmp matching total equal_is_same s sound.order agree line real.0 (not_spent cmp matching total equal_is_same (entry_of cmp matching line s) trees.0.1) here in (
             subst (Answers Q) head_ (answers_weaker (LiveAt cmp matching next) Q was (messages_of (entry_of cmp matching line s)) at_.1),
-            goes lines next real.1 sound_next agree_next here Q (everywhere_weaker (LiveAt cmp matching next) Q was next at_.0) between ending later (subst (λ (u : Fabric K). TurnsOf lines next u ≡ between ++ option_to_list ending ++ later) shown (tails is)) (subst (λ (u : Fabric K). Each (IsTreeTurn cmp matching) (TurnsOf lines next u)) shown trees.1)
+            goes lines next real.1 sound_next agree_next here Q (everywhere_weaker (LiveAt cmp matching next) Q was next at_.0) between ending later (subst (λ (u : Fabric K). TurnsOf lines next u ≡ between ++ option_to_list ending ++ later) shown (tails is)) (subst (λ (u : Fabric K). Each (LeavesTrees cmp matching) (TurnsOf lines next u)) shown trees.1)
                 (each_of_members (Closed Q) between (λ t member e live. (t, live.0, There asking between member, live.1))) calm,
           )
       asked (line ∷ lines) s real sound agree trees_s (t ∷ ts) asking between ending later = λ is trees made quiet calm.
           let next = Next line s in
           let shown = fabric_is_shown cmp matching total line s sound.order in
-          let here : IsTreeFabric next = tree_unshown cmp matching next (subst IsTreeFabric shown trees.0.0) in
+          let here : FacesFormTrees next = tree_unshown cmp matching next (subst FacesFormTrees shown trees.0.0) in
           let sound_next = sound_after_line cmp matching total equal_is_same line s real.0 sound in
           let agree_next = trees_after_each cmp matching total equal_is_same s sound.order agree line real.0 (not_spent cmp matching total equal_is_same (entry_of cmp matching line s) trees.0.1) here in
-          asked lines next real.1 sound_next agree_next here ts asking between ending later (subst (λ (u : Fabric K). TurnsOf lines next u ≡ ts ++ asking ∷ between ++ option_to_list ending ++ later) shown (tails is)) (subst (λ (u : Fabric K). Each (IsTreeTurn cmp matching) (TurnsOf lines next u)) shown trees.1) made quiet calm
+          asked lines next real.1 sound_next agree_next here ts asking between ending later (subst (λ (u : Fabric K). TurnsOf lines next u ≡ ts ++ asking ∷ between ++ option_to_list ending ++ later) shown (tails is)) (subst (λ (u : Fabric K). Each (LeavesTrees cmp matching) (TurnsOf lines next u)) shown trees.1) made quiet calm
 
     -- An ask is answered only what was live at a plain face since.
-    pub gets_only : (lines : List (PlainLine K)) (s : Fabric K) → Each HasFirstIds lines → SoundFabric cmp matching total equal_is_same s → TreesAgree cmp matching s → IsTreeFabric s
-        → (let turns = turns_from cmp matching lines (entries_from cmp matching lines s) (as_shown s) in Each (IsTreeTurn cmp matching) turns → GetsOnlyWhatWas cmp matching turns)
+    pub gets_only : (lines : List (PlainLine K)) (s : Fabric K) → Each HasFirstIds lines → SoundFabric cmp matching total equal_is_same s → TreesAgree cmp matching s → FacesFormTrees s
+        → (let turns = turns_from cmp matching lines (entries_from cmp matching lines s) (as_shown s) in Each (LeavesTrees cmp matching) turns → GetsOnlyWhatWas cmp matching turns)
     gets_only lines s real sound agree trees_s = λ trees a e answered.
         let Q = Was a.face a.id a.interest (a.asking ∷ a.between) in
         let calm = none_each (disturbs cmp matching a.face a.id a.interest) (a.asking ∷ a.between ++ option_to_list a.ending) a.undisturbed in

@@ -29,7 +29,7 @@ use Rattle.zt_model.specs.Strategy.{is_region_of}
 use Rattle.zt_theorem_tree_invariant.proofs.Knowledge.{is_no_router}
 use Rattle.zt_model.specs.Says.{altered, altered_by, parts_of, registered, registers, said, said_by}
 use Rattle.zt_model.specs.Transcript.{Each, face_numbered, messages_of}
-use Rattle.zt_model.specs.TreePromises.{IsTreeFabric, LeadsUpByLink, is_live_at, is_plain_number, is_plainly_live_at}
+use Rattle.zt_model.specs.TreePromises.{LeadsUpByLink, is_live_at, is_plain_number, is_plainly_live_at}
 use Rattle.zt_laws.specs.Order.{FabricIsInOrder}
 use Rattle.zt_laws.specs.Sound.{HasFirstIds, opens_face, rows_after_call}
 use Rattle.zt_laws.proofs.Calls.{no_cause, not_on_face}
@@ -43,6 +43,7 @@ use Rattle.zt_laws.proofs.Places.{number_of_nth}
 use Rattle.zt_laws.proofs.Sorting.{printed, sorted_each}
 use Rattle.zt_theorem_tree_invariant.specs.Facts.{IsTreeFace, TreesAgree}
 use Rattle.zt_theorem_tree_invariant.specs.Joints.{is_call_or_step}
+use Rattle.zt_theorem_tree_invariant.specs.Trees.{FacesFormTrees}
 use Rattle.zt_theorem_tree_invariant.proofs.Effects.{own_declare}
 use Rattle.zt_theorem_tree_invariant.proofs.Lasting.{IsLess, LeftByCalls, LineSaid, MessageSaid, printed_by, stand_after, turned_by}
 use Rattle.zt_theorem_tree_invariant.proofs.Lines.{is_linked, tree_rows}
@@ -84,7 +85,7 @@ module _ {K : Type 0} (cmp : K → K → Ordering) (matching : K → K → Bool)
   pub answers_of_prints : (Q : K → Type 0) (ms : List (Sent K)) → PrintsIn Q ms → AnswersIn Q ms
   answers_of_prints Q ms all = each_weaker (λ m. TokenIn Q m.message) (λ m. AnswerIn Q m.message) (λ m own. answer_of_token Q m.message own) ms all
 
-  module _ (total : IsTotalOrder cmp) (equal_is_same : (a b : K) → cmp a b ≡ Equal → a ≡ b) (s : Fabric K) (fine : FabricIsInOrder cmp matching s) (agree : TreesAgree cmp matching s) (trees : IsTreeFabric s) (Q : K → Type 0) (all : Everywhere Q s) where
+  module _ (total : IsTotalOrder cmp) (equal_is_same : (a b : K) → cmp a b ≡ Equal → a ≡ b) (s : Fabric K) (fine : FabricIsInOrder cmp matching s) (agree : TreesAgree cmp matching s) (trees : FacesFormTrees s) (Q : K → Type 0) (all : Everywhere Q s) where
     -- a face of the place that ends no open link
     abbrev pub IsPlainPlace : ℕ → ℕ → Type 0
     IsPlainPlace j n = (k : ℕ) × (nth k s.faces ≡ Some (record { gateway = j; face = n })) × (is_linked_face s (Some k) ≡ false)
@@ -358,15 +359,15 @@ module _ {K : Type 0} (cmp : K → K → Ordering) (matching : K → K → Bool)
     itself : Leaves [] s
     itself = (everywhere_weaker Q (OrLive Q s) (λ e own. inl own) s all, tt)
 
-    by_entry : (line : PlainLine K) → ((r : Refusal) → after_refusal cmp matching line r s ≡ s) → (first_cause (line_causes cmp matching (line_spends_ids cmp matching line s) line s) ≡ None → IsTreeFabric (Then line) → ThenLeaves line)
-        → IsTreeFabric (After line) → Leaves (messages_of (entry_of cmp matching line s)) (After line)
+    by_entry : (line : PlainLine K) → ((r : Refusal) → after_refusal cmp matching line r s ≡ s) → (first_cause (line_causes cmp matching (line_spends_ids cmp matching line s) line s) ≡ None → FacesFormTrees (Then line) → ThenLeaves line)
+        → FacesFormTrees (After line) → Leaves (messages_of (entry_of cmp matching line s)) (After line)
     unfolding fabric_after entry_of
     by_entry line still accepted_ trees_ = cases (first_cause (line_causes cmp matching (line_spends_ids cmp matching line s) line s)) refl trees_
       where
         entry : Option Refusal → PlainEntry K
         entry o = entry_by cmp matching o (sorted_by_face (said_by_line cmp matching line s))
 
-        cases : (o : Option Refusal) → first_cause (line_causes cmp matching (line_spends_ids cmp matching line s) line s) ≡ o → IsTreeFabric (fabric_after cmp matching line (entry o) s) → Leaves (messages_of (entry o)) (fabric_after cmp matching line (entry o) s)
+        cases : (o : Option Refusal) → first_cause (line_causes cmp matching (line_spends_ids cmp matching line s) line s) ≡ o → FacesFormTrees (fabric_after cmp matching line (entry o) s) → Leaves (messages_of (entry o)) (fabric_after cmp matching line (entry o) s)
         cases None accepted now_ = accepted_ accepted now_
         cases (Some r) refused now_ = subst (Leaves []) (sym (still r)) itself
 
@@ -374,7 +375,7 @@ module _ {K : Type 0} (cmp : K → K → Ordering) (matching : K → K → Bool)
     is_no_unlink (Unlink n) = false
     is_no_unlink _ = true
 
-    pub line_leaves : (line : PlainLine K) → is_no_unlink line ≡ true → HasFirstIds line → IsTreeFabric (After line) → Leaves (messages_of (entry_of cmp matching line s)) (After line)
+    pub line_leaves : (line : PlainLine K) → is_no_unlink line ≡ true → HasFirstIds line → FacesFormTrees (After line) → Leaves (messages_of (entry_of cmp matching line s)) (After line)
     line_leaves (Step n back) no_ real now_ = call_leaves (Step n back) (comes_by_line (Step n back)) refl
     line_leaves (Speak call) no_ real now_ = call_leaves (Speak call) (comes_by_line (Speak call)) refl
     line_leaves (Moment n now) no_ real now_ = call_leaves (Moment n now) tt refl

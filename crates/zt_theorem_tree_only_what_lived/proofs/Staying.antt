@@ -21,7 +21,7 @@ use Rattle.zt_model.specs.Routing.{asked_as, sent_as}
 use Rattle.zt_model.specs.Rows.{ById, Face}
 use Rattle.zt_model.specs.Says.{altered, row_of, said}
 use Rattle.zt_model.specs.Transcript.{Each, FaceAt, face_numbered}
-use Rattle.zt_model.specs.TreePromises.{IsTreeFabric, LeadsUpByLink, is_live_at, is_plain_number}
+use Rattle.zt_model.specs.TreePromises.{LeadsUpByLink, is_live_at, is_plain_number}
 use Rattle.zt_laws.specs.Order.{FabricIsInOrder}
 use Rattle.zt_laws.specs.Sound.{opens_face, rows_after_call}
 use Rattle.zt_laws.proofs.Calls.{no_cause}
@@ -32,6 +32,7 @@ use Rattle.zt_laws.proofs.LinesOrder.{gateway_in_order}
 use Rattle.zt_laws.proofs.Numbered.{nth_real}
 use Rattle.zt_laws.proofs.Places.{number_of_nth}
 use Rattle.zt_theorem_tree_invariant.specs.Facts.{TreesAgree}
+use Rattle.zt_theorem_tree_invariant.specs.Trees.{FacesFormTrees}
 use Rattle.zt_theorem_tree_invariant.proofs.Effects.{other_interest, own_interest}
 use Rattle.zt_theorem_tree_invariant.proofs.Lasting.{LeftByCalls, stand_after, turned_by}
 use Rattle.zt_theorem_tree_invariant.proofs.Lines.{is_linked, tree_rows}
@@ -40,7 +41,7 @@ use Rattle.zt_theorem_tree_invariant.proofs.Saying.{find_heard_at}
 use Rattle.zt_theorem_tree_invariant.proofs.Turning.{nth_other}
 use Rattle.zt_theorem_tree_only_what_lived.proofs.Calls.{LiveAt}
 
-module _ {K : Type 0} (cmp : K → K → Ordering) (matching : K → K → Bool) (total : IsTotalOrder cmp) (equal_is_same : (a b : K) → cmp a b ≡ Equal → a ≡ b) (s : Fabric K) (fine : FabricIsInOrder cmp matching s) (agree : TreesAgree cmp matching s) (trees : IsTreeFabric s) where
+module _ {K : Type 0} (cmp : K → K → Ordering) (matching : K → K → Bool) (total : IsTotalOrder cmp) (equal_is_same : (a b : K) → cmp a b ≡ Equal → a ≡ b) (s : Fabric K) (fine : FabricIsInOrder cmp matching s) (agree : TreesAgree cmp matching s) (trees : FacesFormTrees s) where
   -- an interest of a face that ends no open link
   abbrev Asks : ℕ → PlainCall K → Type 0
   Asks j (Interest n id mode options e) = (k : ℕ) × (nth k s.faces ≡ Some (record { gateway = j; face = n })) × (is_linked_face s (Some k) ≡ false)

@@ -7,7 +7,7 @@ ghost use Rattle.std.specs.Prelude.{◌≡◌, Bool, true, List};
 ghost use Rattle.zt_protocol.specs.Plain.{PlainCall, PlainLine};
 ghost use Rattle.zt_model.specs.Fabric.{Fabric, empty_fabric};
 ghost use Rattle.zt_model.specs.Transcript.{Each};
-ghost use Rattle.zt_model.specs.TreePromises.{GetsOnlyWhatWas, IsTreeFabric, IsTreeTurn};
+ghost use Rattle.zt_model.specs.TreePromises.{GetsOnlyWhatWas};
 ghost use Rattle.zt_model.specs.Rows.{Rows};
 ghost use Rattle.zt_model.specs.Says.{said};
 ghost use Rattle.zt_laws.specs.Shown.{turns_of};
@@ -15,6 +15,7 @@ ghost use Rattle.zt_laws.specs.Sound.{HasFirstIds, rows_after_call};
 ghost use Rattle.zt_theorem_soundness.specs.Lines.{EachGatewayIs};
 ghost use Rattle.zt_theorem_soundness.specs.Sound.{IsSound};
 ghost use Rattle.zt_theorem_tree_invariant.specs.Facts.{TreesAgree};
+ghost use Rattle.zt_theorem_tree_invariant.specs.Trees.{FacesFormTrees, LeavesTrees};
 ghost use Rattle.zt_theorem_tree_only_what_lived.specs.Tokens.{CallIn, IsIn, SaysIn};
 
 use zt_keys::Key;
@@ -39,10 +40,10 @@ pub fn calls_declare_what_was_declared<K: Key>()
 pub fn asks_get_only_what_was<K: Key>()
     ensures start { (lines : List (PlainLine K)) → Each HasFirstIds lines
         → (let turns = turns_of K.cmp K.matching lines empty_fabric in
-        Each (IsTreeTurn K.cmp K.matching) turns → GetsOnlyWhatWas K.cmp K.matching turns) }
+        Each (LeavesTrees K.cmp K.matching) turns → GetsOnlyWhatWas K.cmp K.matching turns) }
     ensures later { (lines : List (PlainLine K)) (s : Fabric K) → Each HasFirstIds lines
         → EachGatewayIs K.cmp K.matching (IsSound K.cmp K.matching) s
-        → TreesAgree K.cmp K.matching s → IsTreeFabric s
+        → TreesAgree K.cmp K.matching s → FacesFormTrees s
         → (let turns = turns_of K.cmp K.matching lines s in
-        Each (IsTreeTurn K.cmp K.matching) turns → GetsOnlyWhatWas K.cmp K.matching turns) }
+        Each (LeavesTrees K.cmp K.matching) turns → GetsOnlyWhatWas K.cmp K.matching turns) }
 {}

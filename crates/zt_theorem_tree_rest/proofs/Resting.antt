@@ -6,7 +6,8 @@ use Rattle.std.specs.List.{list_all, list_any}
 use Rattle.std.specs.declared.cmp.Ordering.{Ordering}
 use Rattle.std.specs.declared.cmp.Ordering.TheVariants.{Equal}
 use Rattle.zt_region.specs.declared.region.WhatAmI.TheVariants.{Client}
-use Rattle.zt_region.specs.Region.{is_north, whatami_eq}
+use Rattle.zt_region.specs.declared.region.Region.{Region}
+use Rattle.zt_region.specs.Region.{is_north, region_eq, whatami_eq}
 use Rattle.zt_protocol.specs.Plain.{PlainCall, NewSession, NewTransport, DeclareToken, UndeclareToken, Interest, InterestFinal, DeclareFinal, CloseFace, Expire, SetTrees, SetEntities, PlainLine, Step}
 use Rattle.zt_protocol.specs.Refusal.{number_of}
 use Rattle.zt_protocol.specs.declared.errors.Refusal.{Refusal}
@@ -19,14 +20,15 @@ use Rattle.zt_model.specs.Promises.{turns_from}
 use Rattle.zt_model.specs.Refusals.{Causes, call_causes, first_cause}
 use Rattle.zt_model.specs.Rows.{ById, Rows}
 use Rattle.zt_model.specs.Transcript.{Each}
-use Rattle.zt_model.specs.TreePromises.{IsTreeFabric, IsTreeTurn, LeadsUpByLink, ServesClients, are_links_empty, is_client_region}
+use Rattle.zt_model.specs.TreePromises.{LeadsUpByLink, are_links_empty, is_client_region}
 use Rattle.zt_laws.specs.Shown.{as_shown}
 use Rattle.zt_laws.specs.Sound.{HasFirstIds, RiseFrom}
-use Rattle.zt_laws.proofs.Lists.{by_test, each_map, each_weaker, never, rise_above}
+use Rattle.zt_laws.proofs.Lists.{any-map, by_test, each_map, each_weaker, never, rise_above}
 use Rattle.zt_laws.proofs.Numbered.{nth_real}
 use Rattle.zt_laws.proofs.PartsOrder.{each_of_map}
 use Rattle.zt_laws.proofs.ShownLines.{fabric_is_shown}
 use Rattle.zt_theorem_soundness.proofs.Sound.{sound_after_line, sound_gateways_keep, sound_start}
+use Rattle.zt_theorem_tree_invariant.specs.Trees.{FacesFormTrees, IsOfClients, LeavesTrees, RefusesNoFaces, has_face_in, have_both_faces}
 use Rattle.zt_theorem_tree_invariant.proofs.Knowledge.{plain_face_knows}
 use Rattle.zt_theorem_tree_invariant.proofs.Members.{each_gateway_nth}
 use Rattle.zt_theorem_tree_invariant.proofs.Start.{agree_at_first}
@@ -159,7 +161,7 @@ module _ {K : Type 0} (cmp : K → K → Ordering) (matching : K → K → Bool)
 
   -- ---- steps keep fabrics of trees
 
-  tree_then : (tokens : List K) (s now : Fabric K) → Since cmp matching tokens s now → IsTreeFabric s → IsTreeFabric now
+  tree_then : (tokens : List K) (s now : Fabric K) → Since cmp matching tokens s now → FacesFormTrees s → FacesFormTrees now
   tree_then tokens s now since trees = record {
     north =
         each_gateway_from (λ n (node : Node K). Each (LeadsUpByLink now n node.rows) node.rows.faces) 1 now.gateways
@@ -178,15 +180,26 @@ module _ {K : Type 0} (cmp : K → K → Ordering) (matching : K → K → Bool)
         let plain_ : not (list_any (is_end_of (number_of_place s n f.number)) s.links) ≡ false = not_true (not (list_any (is_end_of (number_of_place s n f.number)) s.links)) both.1 in
         (both.0, ap (λ ls. not (list_any (is_end_of (number_of_place now n f.number)) ls)) since.links ∙ ap (λ ps. not (list_any (is_end_of (number_of_place (record s { faces = ps }) n f.number)) s.links)) since.places ∙ plain_))
         node.rows.faces (each_of_map (Leads (frame_of node.rows)) outline node.rows.faces now_)));
-    clients =
-        each_gateway_from ServesClients 1 now.gateways
+    south =
+        each_gateway_from (λ n (node : Node K). Each IsOfClients node.rows.faces) 1 now.gateways
         (λ m node at_.
-        let n_is : m + 1 ≡ 1 + m = omega arith in
         let was = node_was cmp matching tokens s now since.framed (m + 1) node at_ in
-        let serves : ServesClients (m + 1) was.0 = each_gateway_nth ServesClients 1 (m + 1) (m + 1) s.gateways was.0 (omega arith) trees.clients was.1 in (
-          ap (λ (f : Frame K). list_all is_client_region f.regions) was.2 ∙ serves.0,
-          ap (λ (f : Frame K). f.refused) was.2 ∙ serves.1,
-        ));
+        let all : Each IsOfClients was.0.rows.faces = each_gateway_nth (λ i (x : Node K). Each IsOfClients x.rows.faces) 1 (m + 1) (m + 1) s.gateways was.0 (omega arith) trees.south was.1 in
+        let Stands = λ (o : Outline K). is_client_region o.region ≡ true in
+        each_of_map Stands outline node.rows.faces (subst (λ (f : Frame K). Each Stands f.outlines) (sym was.2) (each_map Stands outline was.0.rows.faces all)));
+    admitted =
+        each_gateway_from RefusesNoFaces 1 now.gateways
+        (λ m node at_.
+        let was = node_was cmp matching tokens s now since.framed (m + 1) node at_ in
+        let admits_ : RefusesNoFaces (m + 1) was.0 = each_gateway_nth RefusesNoFaces 1 (m + 1) (m + 1) s.gateways was.0 (omega arith) trees.admitted was.1 in
+        let there = λ (f : Frame K) (r : Region). list_any (λ (o : Outline K). region_eq o.region r) f.outlines in
+        let Refuses = λ (f : Frame K). Each (λ (pair : Region × Region). (there f pair.0 && there f pair.1) ≡ false) f.refused in
+        let same_ = λ (g : Rows K) (pair : Region × Region).
+        ap (λ b. b && there (frame_of g) pair.1) (any-map (λ (o : Outline K). region_eq o.region pair.0) outline g.faces)
+        ∙ ap (λ b. has_face_in g pair.0 && b) (any-map (λ (o : Outline K). region_eq o.region pair.1) outline g.faces) in
+        let then_ : Refuses (frame_of was.0.rows) = each_weaker (λ pair. have_both_faces was.0.rows pair ≡ false) (λ pair. (there (frame_of was.0.rows) pair.0 && there (frame_of was.0.rows) pair.1) ≡ false) (λ pair none_. same_ was.0.rows pair ∙ none_) was.0.rows.refused admits_ in
+        let now_ : Refuses (frame_of node.rows) = subst Refuses (sym was.2) then_ in
+        each_weaker (λ pair. (there (frame_of node.rows) pair.0 && there (frame_of node.rows) pair.1) ≡ false) (λ pair. have_both_faces node.rows pair ≡ false) (λ pair none_. sym (same_ node.rows pair) ∙ none_) node.rows.refused now_);
   }
     where
       not_true : (b : Bool) → not b ≡ true → b ≡ false
@@ -194,14 +207,14 @@ module _ {K : Type 0} (cmp : K → K → Ordering) (matching : K → K → Bool)
       not_true false h = refl
 
   module _ (total_order : IsTotalOrder cmp) (equal_is_same : (a b : K) → cmp a b ≡ Equal → a ≡ b) where
-    pub all_know : (s : Fabric K) → TreesStand cmp matching s → IsTreeFabric s → are_links_empty s ≡ true → AllKnowTheirTrees cmp matching s
+    pub all_know : (s : Fabric K) → TreesStand cmp matching s → FacesFormTrees s → are_links_empty s ≡ true → AllKnowTheirTrees cmp matching s
     all_know s stand trees quiet = λ n x found plain. plain_face_knows cmp matching s stand.sound.order stand.agree trees (sound_gateways_keep cmp matching s stand.sound) quiet equal_is_same n x found plain
 
     stand_then : (tokens : List K) (s now : Fabric K) → Since cmp matching tokens s now → TreesStand cmp matching now
     stand_then tokens s now since = record { sound = since.sound; agree = since.agree; queues = since.queued }
 
     -- Where no step follows any more, or so many have followed, all is at rest.
-    pub at_rest : (lines : List (PlainLine K)) (s : Fabric K) → TreesStand cmp matching s → IsTreeFabric s → StepsFollow cmp matching lines s
+    pub at_rest : (lines : List (PlainLine K)) (s : Fabric K) → TreesStand cmp matching s → FacesFormTrees s → StepsFollow cmp matching lines s
         → (NoneFollows cmp matching (fabric_after_all cmp matching lines s) ⊎ (most_steps cmp s ≤ length lines)) → IsAtRest cmp matching (fabric_after_all cmp matching lines s)
     at_rest lines s stand trees follow ends =
         let tokens = tokens_of cmp s in
@@ -217,7 +230,7 @@ module _ {K : Type 0} (cmp : K → K → Ordering) (matching : K → K → Bool)
     pub stand_start : TreesStand cmp matching empty_fabric
     stand_start = record { sound = sound_start cmp matching; agree = agree_at_first cmp matching; queues = record { rise = tt; ends = tt } }
 
-    pub stand_after_line : (line : PlainLine K) (s : Fabric K) → HasFirstIds line → TreesStand cmp matching s → (let entry = entry_of cmp matching line s in entry ≢ Err refusal.IdsSpent → IsTreeFabric (fabric_after cmp matching line entry s) → TreesStand cmp matching (fabric_after cmp matching line entry s))
+    pub stand_after_line : (line : PlainLine K) (s : Fabric K) → HasFirstIds line → TreesStand cmp matching s → (let entry = entry_of cmp matching line s in entry ≢ Err refusal.IdsSpent → FacesFormTrees (fabric_after cmp matching line entry s) → TreesStand cmp matching (fabric_after cmp matching line entry s))
     stand_after_line line s real stand = λ other trees. record {
       sound = sound_after_line cmp matching total_order equal_is_same line s real stand.sound;
       agree = trees_after_each cmp matching total_order equal_is_same s stand.sound.order stand.agree line real other trees;
@@ -225,8 +238,8 @@ module _ {K : Type 0} (cmp : K → K → Ordering) (matching : K → K → Bool)
     }
 
     -- what stands after the lines of a transcript of trees
-    pub stand_after_all : (lines : List (PlainLine K)) (s : Fabric K) → Each HasFirstIds lines → TreesStand cmp matching s → IsTreeFabric s
-        → (let turns = turns_from cmp matching lines (entries_from cmp matching lines s) (as_shown s) in Each (IsTreeTurn cmp matching) turns → TreesStand cmp matching (fabric_after_all cmp matching lines s) × IsTreeFabric (fabric_after_all cmp matching lines s))
+    pub stand_after_all : (lines : List (PlainLine K)) (s : Fabric K) → Each HasFirstIds lines → TreesStand cmp matching s → FacesFormTrees s
+        → (let turns = turns_from cmp matching lines (entries_from cmp matching lines s) (as_shown s) in Each (LeavesTrees cmp matching) turns → TreesStand cmp matching (fabric_after_all cmp matching lines s) × FacesFormTrees (fabric_after_all cmp matching lines s))
     unfolding turns_from entries_from
     stand_after_all [] s real stand trees = λ turns. (stand, trees)
     stand_after_all (line ∷ lines) s real stand trees =
@@ -234,9 +247,9 @@ module _ {K : Type 0} (cmp : K → K → Ordering) (matching : K → K → Bool)
         let next = fabric_after cmp matching line entry s in
         let is = fabric_is_shown cmp matching total_order line s stand.sound.order in
         λ turns.
-        let here : IsTreeFabric next = tree_unshown cmp matching next (subst IsTreeFabric is turns.0.0) in
+        let here : FacesFormTrees next = tree_unshown cmp matching next (subst FacesFormTrees is turns.0.0) in
         let now_ = stand_after_line line s real.0 stand (not_spent cmp matching total_order equal_is_same entry turns.0.1) here in
-        subst (λ (after : Fabric K). (let more = turns_from cmp matching lines (entries_from cmp matching lines next) after in Each (IsTreeTurn cmp matching) more → TreesStand cmp matching (fabric_after_all cmp matching lines next) × IsTreeFabric (fabric_after_all cmp matching lines next))) (sym is) (stand_after_all lines next real.1 now_ here) turns.1
+        subst (λ (after : Fabric K). (let more = turns_from cmp matching lines (entries_from cmp matching lines next) after in Each (LeavesTrees cmp matching) more → TreesStand cmp matching (fabric_after_all cmp matching lines next) × FacesFormTrees (fabric_after_all cmp matching lines next))) (sym is) (stand_after_all lines next real.1 now_ here) turns.1
 
   -- a step that takes no message changes nothing
   pub takes_nothing : (link : ℕ) (back : Bool) (s : Fabric K) → (let entry = entry_of cmp matching (Step link back) s in takes_message entry ≡ false → fabric_after cmp matching (Step link back) entry s ≡ s)

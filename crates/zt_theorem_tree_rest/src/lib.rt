@@ -15,10 +15,11 @@ ghost use Rattle.zt_model.specs.Promises.{turns_from};
 ghost use Rattle.zt_model.specs.Rows.{Face, Rows};
 ghost use Rattle.zt_model.specs.Says.{said};
 ghost use Rattle.zt_model.specs.Transcript.{Each};
-ghost use Rattle.zt_model.specs.TreePromises.{IsTreeFabric, IsTreeTurn, are_links_empty};
+ghost use Rattle.zt_model.specs.TreePromises.{are_links_empty};
 ghost use Rattle.zt_laws.specs.Sound.{HasFirstIds};
 ghost use Rattle.zt_theorem_soundness.specs.Sound.{IsSound};
 ghost use Rattle.zt_theorem_tree_invariant.specs.Facts.{IsTreeGateway};
+ghost use Rattle.zt_theorem_tree_invariant.specs.Trees.{FacesFormTrees, LeavesTrees};
 ghost use Rattle.zt_theorem_tree_rest.specs.Rest.{IsAtRest, NoneFollows, StepsFollow, TreesStand};
 ghost use Rattle.zt_theorem_tree_rest.specs.Rest.{fabric_after_all};
 ghost use Rattle.zt_theorem_tree_rest.specs.Steps.{QueuesStand, messages_waiting, most_steps, plain_most};
@@ -49,7 +50,7 @@ pub fn trees_stand_after_every_line<K: Key>()
         → HasFirstIds line → TreesStand K.cmp K.matching s
         → (let entry = entry_of K.cmp K.matching line s in
         let after = fabric_after K.cmp K.matching line entry s in
-        entry ≢ Err IdsSpent → IsTreeFabric after → TreesStand K.cmp K.matching after) }
+        entry ≢ Err IdsSpent → FacesFormTrees after → TreesStand K.cmp K.matching after) }
 {}
 
 /// Steps come to an end. Where nothing but steps comes, each of which takes a message and isn't
@@ -78,7 +79,7 @@ pub fn steps_come_to_an_end<K: Key>()
 /// keeps, of what is owed to it, exactly what is live at plain faces of its gateway's tree.
 pub fn trees_come_to_rest<K: Key>()
     ensures { (lines : List (PlainLine K)) (s : Fabric K)
-        → TreesStand K.cmp K.matching s → IsTreeFabric s
+        → TreesStand K.cmp K.matching s → FacesFormTrees s
         → StepsFollow K.cmp K.matching lines s
         → (let after = fabric_after_all K.cmp K.matching lines s in
         NoneFollows K.cmp K.matching after ⊎ (most_steps K.cmp s ≤ length lines)
@@ -93,7 +94,7 @@ pub fn scripts_come_to_rest<K: Key>()
         → (let entries = entries_from K.cmp K.matching lines empty_fabric in
         let last = fabric_after_all K.cmp K.matching lines empty_fabric in
         let after = fabric_after_all K.cmp K.matching steps last in
-        Each (IsTreeTurn K.cmp K.matching) (turns_from K.cmp K.matching lines entries empty_fabric)
+        Each (LeavesTrees K.cmp K.matching) (turns_from K.cmp K.matching lines entries empty_fabric)
         → StepsFollow K.cmp K.matching steps last
         → messages_waiting after + length steps ≤ most_steps K.cmp last) }
     ensures rests { (lines steps : List (PlainLine K))
@@ -101,7 +102,7 @@ pub fn scripts_come_to_rest<K: Key>()
         → (let entries = entries_from K.cmp K.matching lines empty_fabric in
         let last = fabric_after_all K.cmp K.matching lines empty_fabric in
         let after = fabric_after_all K.cmp K.matching steps last in
-        Each (IsTreeTurn K.cmp K.matching) (turns_from K.cmp K.matching lines entries empty_fabric)
+        Each (LeavesTrees K.cmp K.matching) (turns_from K.cmp K.matching lines entries empty_fabric)
         → StepsFollow K.cmp K.matching steps last
         → NoneFollows K.cmp K.matching after ⊎ (most_steps K.cmp last ≤ length steps)
         → IsAtRest K.cmp K.matching after) }

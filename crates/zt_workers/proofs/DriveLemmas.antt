@@ -20,9 +20,9 @@ use Rattle.zt_wire.proofs.ReadingLaw.{read_exactly}
 use Rattle.zt_model.specs.Fabric.{empty_fabric, entries_from}
 use Rattle.zt_model.specs.Promises.{MeetsPromises, MeetsStricterPromises, turns_from}
 use Rattle.zt_model.specs.Transcript.{Each, IsFaithfulFrom, IsStrictFrom}
-use Rattle.zt_model.specs.TreePromises.{KeepTreePromises}
 use Rattle.zt_theorem_exact_messages.specs.Exact.{PrintsExactly}
 use Rattle.zt_theorem_message_ids.specs.Anew.{TellsWhatIsNew}
+use Rattle.zt_theorem_tree_invariant.specs.Trees.{KeepPromisesOfTrees}
 use Rattle.zt_laws.specs.Sound.{HasFirstIds}
 use Rattle.zt_laws.proofs.Lists.{by_test}
 use Rattle.zt_theorem_transcript.specs.Named.{HasNamedOptions}
@@ -233,7 +233,7 @@ module _ {K : Type 0} (reading : List ℕ → Result K KeyError) where
             keep_stricter_promises = subst (λ es. Each (MeetsStricterPromises cmp matching) (turns_from cmp matching lines es empty_fabric)) back right.stricter_promises;
             tell_what_is_new = subst (λ es. Each (TellsWhatIsNew cmp matching) (turns_from cmp matching lines es empty_fabric)) back right.news;
             print_exactly = subst (λ es. Each (PrintsExactly cmp matching) (turns_from cmp matching lines es empty_fabric)) back right.exactly;
-            keep_tree_promises = subst (λ es. KeepTreePromises cmp matching (turns_from cmp matching lines es empty_fabric)) back right.tree_promises;
+            keep_tree_promises = subst (λ es. KeepPromisesOfTrees cmp matching (turns_from cmp matching lines es empty_fabric)) back right.tree_promises;
           }
 
       pub transcribed : (bytes text : List ℕ) (longer : Bool) (report : Report) (plan : Option (Plan K)) (answers : List (ℕ × PlainEntry K)) → ReadsScript reading bytes longer plan → CarriesOut cmp matching (script_lines plan) answers

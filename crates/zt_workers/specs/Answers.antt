@@ -16,9 +16,9 @@ use Rattle.zt_model.specs.Fabric.{empty_fabric, entries_from}
 use Rattle.zt_model.specs.Journal.{IsReordered, is_driven}
 use Rattle.zt_model.specs.Promises.{MeetsPromises, MeetsStricterPromises, turns_from}
 use Rattle.zt_model.specs.Transcript.{Each, IsFaithfulFrom, IsStrictFrom, report_of}
-use Rattle.zt_model.specs.TreePromises.{KeepTreePromises}
 use Rattle.zt_theorem_exact_messages.specs.Exact.{PrintsExactly}
 use Rattle.zt_theorem_message_ids.specs.Anew.{TellsWhatIsNew}
+use Rattle.zt_theorem_tree_invariant.specs.Trees.{KeepPromisesOfTrees}
 use Rattle.zt_laws.specs.Sound.{HasFirstIds}
 use Rattle.zt_theorem_transcript.specs.Named.{HasNamedOptions}
 use Rattle.zt_theorem_journal.specs.Dealt.{numbered_from}
@@ -67,7 +67,7 @@ module _ {K : Type 0} (cmp : K → K → Ordering) (matching : K → K → Bool)
     pub keep_stricter_promises : Each (MeetsStricterPromises cmp matching) (turns_from cmp matching (map (λ x. x.1) reorders.order) (map (λ x. x.1) answers) empty_fabric)
     pub tell_what_is_new : Each (TellsWhatIsNew cmp matching) (turns_from cmp matching (map (λ x. x.1) reorders.order) (map (λ x. x.1) answers) empty_fabric)
     pub print_exactly : Each (PrintsExactly cmp matching) (turns_from cmp matching (map (λ x. x.1) reorders.order) (map (λ x. x.1) answers) empty_fabric)
-    pub keep_tree_promises : KeepTreePromises cmp matching (turns_from cmp matching (map (λ x. x.1) reorders.order) (map (λ x. x.1) answers) empty_fabric)
+    pub keep_tree_promises : KeepPromisesOfTrees cmp matching (turns_from cmp matching (map (λ x. x.1) reorders.order) (map (λ x. x.1) answers) empty_fabric)
 
 module _ {K : Type 0} (reading : List ℕ → Result K KeyError) where
   -- a script of at most 2^20 bytes, each line of which is one of the grammar and stands where it may

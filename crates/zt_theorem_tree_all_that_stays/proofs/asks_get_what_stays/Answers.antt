@@ -7,6 +7,6 @@ use Rattle.zt_theorem_tree_all_that_stays.proofs.asks_get_what_stays.Goals as go
 pub returns : goal.returns
 returns g c = record {
   start = λ lines real trees.
-      gets_what_stays g.K.Ord.cmp g.K.Key.matching g.met.K.Ord.total g.met.K.Key.laws.equal_is_same lines empty_fabric real (sound_start g.K.Ord.cmp g.K.Key.matching) (agree_at_first g.K.Ord.cmp g.K.Key.matching) (record { north = tt; clients = tt }) trees;
+      gets_what_stays g.K.Ord.cmp g.K.Key.matching g.met.K.Ord.total g.met.K.Key.laws.equal_is_same lines empty_fabric real (sound_start g.K.Ord.cmp g.K.Key.matching) (agree_at_first g.K.Ord.cmp g.K.Key.matching) (record { north = tt; south = tt; admitted = tt }) trees;
   later = λ lines s real sound agree trees_s trees. gets_what_stays g.K.Ord.cmp g.K.Key.matching g.met.K.Ord.total g.met.K.Key.laws.equal_is_same lines s real sound agree trees_s trees;
 }
