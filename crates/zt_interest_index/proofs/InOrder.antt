@@ -29,6 +29,10 @@ module _ {A : Type 0} (same : A → A → Bool) (test : A → Bool) (alike : (x 
 pub among-dedup : (n : ℕ) (numbers : List ℕ) → is_among n (dedup nat_eq numbers) ≡ is_among n numbers
 among-dedup n numbers = any-dedup nat_eq (λ m. n == m) (λ x y t. ap (λ m. n == m) (same-number x y t)) numbers
 
+-- without repeats a test is passed where it was
+pub tests-dedup : (test : ℕ → Bool) (numbers : List ℕ) → list_any test (dedup nat_eq numbers) ≡ list_any test numbers
+tests-dedup test numbers = any-dedup nat_eq test (λ x y t. ap test (same-number x y t)) numbers
+
 -- one more of those that were found so far
 pub or_rest : (a b c d : Bool) → c ≡ d → ((a || b) || c) ≡ (a || (b || d))
 or_rest true b c d h = refl

@@ -42,9 +42,15 @@ at-place [] k d h = absurd (omega arith)
 at-place (n ∷ ns) zero d h = or_left (nat_eq n n) (list_any (nat_eq n) ns) (number-itself n)
 at-place (n ∷ ns) (suc k) d h = or_right (nat_eq (get_or ns k d) n) (is_number (get_or ns k d) ns) (at-place ns k d (omega arith))
 
-pub none-pass : {A : Type 0} (xs : List A) → list_any (λ x. false) xs ≡ false
-none-pass [] = refl
-none-pass (x ∷ xs) = none-pass xs
+-- a test that fails each fails them all
+pub none-pass : {A : Type 0} (test : A → Bool) → ((x : A) → test x ≡ false) → (xs : List A) → list_any test xs ≡ false
+none-pass test fails [] = refl
+none-pass test fails (x ∷ xs) = rw (fails x) (none-pass test fails xs)
+
+-- a number that is one of these is one of those that pass the same tests
+pub placed-among : (place : Option ℕ) (ns ms : List ℕ) → ((test : ℕ → Bool) → list_any test ns ≡ list_any test ms) → IfSome place (λ n. is_number n ns ≡ true) → IfSome place (λ n. is_number n ms ≡ true)
+placed-among None ns ms same h = h
+placed-among (Some n) ns ms same h = sym (same (nat_eq n)) ∙ h
 
 module _ {K : Type 0} (cmp : K → K → Ordering) where
   pub keeps-all : (key : K) (wilds : List (Option ℕ × List K)) → KeepsOthers cmp key wilds wilds

@@ -74,8 +74,7 @@ fn is_about_as<K: Key>(tried: &Option<Tried<'_, K>>, about: &Option<K>, expr: &K
     }
 }
 
-// Puts a face among those found. One that was found last isn't put there again. The only error is
-// want of memory.
+// Puts a face among those found. One that was found last isn't put there again.
 fn add_face(found: &mut Vec<u32>, face: u32) -> Result<(), Memory>
     ensures { OnOk result ((n : ℕ) → is_among n found.new.items
         ≡ (is_among n found.old.items || n == face)) }
@@ -86,7 +85,7 @@ fn add_face(found: &mut Vec<u32>, face: u32) -> Result<(), Memory>
     Ok(())
 }
 
-// Puts the faces that hold these interests among those found. The only error is want of memory.
+// Puts the faces that hold these interests among those found.
 fn add_faces<K: Key>(found: &mut Vec<u32>, rows: &[((u32, u32), Option<K>)]) -> Result<(), Memory>
     ensures { OnOk result ((n : ℕ) → is_among n found.new.items
         ≡ (is_among n found.old.items || list_any (is_by n) rows.now)) }
@@ -99,7 +98,7 @@ fn add_faces<K: Key>(found: &mut Vec<u32>, rows: &[((u32, u32), Option<K>)]) -> 
 }
 
 // Puts the faces among those found that hold interests, all in one expression, if that is about the
-// key. So it is matched once. The only error is want of memory.
+// key. So it is matched once.
 fn gather_alike<K: Key>(
     found: &mut Vec<u32>,
     rows: &[((u32, u32), Option<K>)],
@@ -122,7 +121,7 @@ fn gather_alike<K: Key>(
 }
 
 // Puts the faces among those found whose interests are about the key, one that holds several maybe
-// more than once. The only error is want of memory.
+// more than once.
 fn gather_in<K: Key>(
     found: &mut Vec<u32>,
     rows: &[((u32, u32), Option<K>)],
@@ -145,7 +144,7 @@ fn gather_in<K: Key>(
     Ok(())
 }
 
-// The same expression, if there is one. The only error is want of memory.
+// The same expression, if there is one.
 fn copy_about<K: Key>(alloc: Global, about: &Option<K>) -> Result<Option<K>, Memory>
     ensures { IfOk result (λ copy. copy ≡ about.now) }
 {
@@ -155,7 +154,7 @@ fn copy_about<K: Key>(alloc: Global, about: &Option<K>) -> Result<Option<K>, Mem
     }
 }
 
-// Equal interests. The only error is want of memory.
+// Equal interests.
 fn copy_rows<K: Key>(
     alloc: Global,
     rows: &[((u32, u32), Option<K>)],
@@ -202,8 +201,7 @@ impl<K: Key> Holdings<K> {
         }
     }
 
-    /// One interest, and room for it alone, since most buckets hold no other. The only error is
-    /// want of memory.
+    /// One interest, and room for it alone, since most buckets hold no other.
     pub fn of_one(alloc: Global, face: u32, id: u32, about: Option<K>) -> Result<Self, Memory>
         ensures { IfOk result (λ rows. rows ≡ ((face, id), about) ∷ []) }
     {
@@ -220,7 +218,7 @@ impl<K: Key> Holdings<K> {
         *self.rows.allocator()
     }
 
-    /// An interest more. The only error is want of memory, and then the interests stay.
+    /// An interest more. After an error the interests stay.
     pub fn push(&mut self, face: u32, id: u32, about: Option<K>) -> Result<(), Memory>
         ensures ok { OnOk result (self.new ≡ self.old ++ ((face, id), about) ∷ []) }
         ensures err { OnErr result (self.new ≡ self.old) }
@@ -253,7 +251,7 @@ impl<K: Key> Holdings<K> {
     }
 
     /// Puts the faces among those found whose interests are about the key, one that holds several
-    /// maybe more than once. The only error is want of memory.
+    /// maybe more than once.
     pub fn gather(&self, found: &mut Vec<u32>, expr: &K) -> Result<(), Memory>
         ensures { OnOk result ((n : ℕ) → is_among n found.new.items
             ≡ (is_among n found.old.items
@@ -266,7 +264,7 @@ impl<K: Key> Holdings<K> {
         }
     }
 
-    /// Equal interests. The only error is want of memory.
+    /// Equal interests.
     pub fn copy(&self, alloc: Global) -> Result<Self, Memory>
         ensures { IfOk result (λ copy. copy ≡ self.now) }
     {

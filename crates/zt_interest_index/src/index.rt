@@ -10,11 +10,11 @@ ghost use Rattle.zt_interest_index.specs.Index.{ChangesAt};
 
 use crate::holdings::Holdings;
 use crate::keyed::{add_to, copy_keyed, drop_from, drop_key, gather_from, put_first, rows_in};
+use crate::wild_keys::WildKeys;
 use crate::wilds::{drop_wild, gather_wilds, is_plain, put_wild, wilds_of};
 use std::alloc::Global;
 use std::collections::HashMap;
 use std::marker::Model;
-use zt_indexes::KeyGroups;
 use zt_keys::{Key, Memory};
 
 /// The interests of faces, each under its face and id, found by the key of what they are about. An
@@ -25,7 +25,7 @@ use zt_keys::{Key, Memory};
 pub struct InterestIndex<K: Key> {
     any: Holdings<K>,
     keyed: HashMap<K, Holdings<K>>,
-    wilds: KeyGroups<K>,
+    wilds: WildKeys<K>,
 }
 
 impl<K: Key> Model for InterestIndex<K> {
@@ -53,7 +53,7 @@ fn put_in_order(numbers: &mut Vec<u32>)
 const FEW: usize = 8;
 
 // These faces, and those whose interests are about the key, with room for so many beside the
-// others. The only error is want of memory.
+// others.
 fn found_in<K: Key>(
     alloc: Global,
     rows: &Holdings<K>,
@@ -78,11 +78,11 @@ impl<K: Key> InterestIndex<K> {
         InterestIndex {
             any: Holdings::new(alloc),
             keyed: HashMap::new(alloc),
-            wilds: KeyGroups::new(alloc),
+            wilds: WildKeys::new(alloc),
         }
     }
 
-    // The face holds an interest in the key under an id. The only error is want of memory.
+    // The face holds an interest in the key under an id.
     fn put_keyed(&mut self, alloc: Global, face: u32, id: u32, key: &K) -> Result<(), Memory>
         ensures { OnOk result (ChangesAt K.cmp (Some key.now)
             (λ rows. rows ++ ((face, id), Some key.now) ∷ []) self.old self.new) }
@@ -95,8 +95,7 @@ impl<K: Key> InterestIndex<K> {
         Ok(())
     }
 
-    /// The face holds an interest in the expression, or in all keys, under an id. The only error is
-    /// want of memory.
+    /// The face holds an interest in the expression, or in all keys, under an id.
     pub fn put(
         &mut self,
         alloc: Global,
@@ -139,7 +138,7 @@ impl<K: Key> InterestIndex<K> {
 
     /// The faces that hold an interest in the key, and these others, in order of number, each once;
     /// `None` where an interest isn't in all keys, and the key has no number as a whole: any face
-    /// may hold one. The only error is want of memory.
+    /// may hold one.
     pub fn holders_and(
         &self,
         alloc: Global,
@@ -179,7 +178,7 @@ impl<K: Key> InterestIndex<K> {
         }
     }
 
-    /// An equal index. The only error is want of memory.
+    /// An equal index.
     pub fn copy(&self, alloc: Global) -> Result<Self, Memory>
         ensures { IfOk result (λ copy. copy ≡ self.now) }
     {

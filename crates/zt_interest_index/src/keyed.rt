@@ -15,8 +15,7 @@ use std::alloc::Global;
 use std::collections::HashMap;
 use zt_keys::{Key, Memory};
 
-/// An interest more in a key, where others in it are kept. Whether they are. The only error is want
-/// of memory.
+/// An interest more in a key, where others in it are kept. Whether they are.
 pub(crate) fn add_to<K: Key>(
     alloc: Global,
     keyed: &mut HashMap<K, Holdings<K>>,
@@ -41,7 +40,7 @@ pub(crate) fn add_to<K: Key>(
     }
 }
 
-// These interests are in a key. The only error is want of memory, and then all stays.
+// These interests are in a key. After an error all stays.
 fn put_rows<K: Key>(
     alloc: Global,
     keyed: &mut HashMap<K, Holdings<K>>,
@@ -55,7 +54,7 @@ fn put_rows<K: Key>(
     Ok(())
 }
 
-/// The first interest in a key. The only error is want of memory, and then all stays.
+/// The first interest in a key. After an error all stays.
 pub(crate) fn put_first<K: Key>(
     alloc: Global,
     keyed: &mut HashMap<K, Holdings<K>>,
@@ -115,8 +114,7 @@ pub(crate) fn rows_in<'a, K: Key>(
     }
 }
 
-/// Puts the faces among those found whose interests in a key are about another. The only error is
-/// want of memory.
+/// Puts the faces among those found whose interests in a key are about another.
 pub(crate) fn gather_from<K: Key>(
     found: &mut Vec<u32>,
     keyed: &HashMap<K, Holdings<K>>,
@@ -133,7 +131,7 @@ pub(crate) fn gather_from<K: Key>(
     }
 }
 
-// Equal interests are in a key. The only error is want of memory.
+// Equal interests are in a key.
 fn put_copy<K: Key>(
     alloc: Global,
     keyed: &mut HashMap<K, Holdings<K>>,
@@ -147,7 +145,7 @@ fn put_copy<K: Key>(
     put_rows(alloc, keyed, key, copy)
 }
 
-/// Equal interests in equal keys. The only error is want of memory.
+/// Equal interests in equal keys.
 pub(crate) fn copy_keyed<K: Key>(
     alloc: Global,
     keyed: &HashMap<K, Holdings<K>>,

@@ -10,6 +10,7 @@
 mod holdings;
 mod index;
 mod keyed;
+mod wild_keys;
 mod wilds;
 
 pub use holdings::Holdings;

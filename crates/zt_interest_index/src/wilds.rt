@@ -1,5 +1,5 @@
 // The keys with wildcards that interests are in, by the numbers of their chunks.
-ghost use Rattle.std.specs.Prelude.{◌≡◌, ℕ, ◌||◌, Some, None, is_some, true, IfOk, IfSome, OnOk};
+ghost use Rattle.std.specs.Prelude.{◌≡◌, ℕ, Bool, ◌||◌, Some, None, is_some, true, IfOk, IfSome, OnOk};
 ghost use Rattle.std.specs.List.{list_any};
 ghost use Rattle.zt_indexes.specs.Grouped.{Grows, as_list, keys_at};
 ghost use Rattle.zt_interest_index.specs.Holdings.{is_among};
@@ -9,9 +9,10 @@ ghost use Rattle.zt_keys.specs.declared.anchor.Anchor.TheVariants.{Whole};
 
 use crate::holdings::Holdings;
 use crate::keyed::gather_from;
+use crate::wild_keys::WildKeys;
 use std::alloc::Global;
 use std::collections::{HashMap, HashSet};
-use zt_indexes::{BoxedKeys, KeyGroups, KeySet};
+use zt_indexes::{BoxedKeys, KeySet};
 use zt_keys::{Anchor, Key, Memory};
 
 /// Whether the key has no wildcards.
@@ -23,13 +24,13 @@ pub(crate) fn is_plain<K: Key>(key: &K) -> bool
 
 // The number at which the fewest keys stand. So a number that many keys have is taken for few of
 // them, whichever it is.
-fn place_of<K: Key>(wilds: &KeyGroups<K>, numbers: &[u64]) -> Option<u64>
+fn place_of<K: Key>(wilds: &WildKeys<K>, numbers: &[u64]) -> Option<u64>
     ensures { IfSome result (λ number. is_number number numbers.now ≡ true) }
 {
     let mut place = None;
     let mut fewest = usize::MAX;
     for number in numbers {
-        let count = wilds.count(Some(*number));
+        let count = wilds.count(*number);
         if count < fewest {
             fewest = count;
             place = Some(*number);
@@ -38,11 +39,10 @@ fn place_of<K: Key>(wilds: &KeyGroups<K>, numbers: &[u64]) -> Option<u64>
     place
 }
 
-/// A key stands at one of its numbers, if it has wildcards; at none if it has no number. The only
-/// error is want of memory.
+/// A key stands at one of its numbers, if it has wildcards; at none if it has no number.
 pub(crate) fn put_wild<K: Key>(
     alloc: Global,
-    wilds: &mut KeyGroups<K>,
+    wilds: &mut WildKeys<K>,
     key: &K,
 ) -> Result<(), Memory>
     ensures grows { Grows K.cmp wilds.old wilds.new }
@@ -52,36 +52,36 @@ pub(crate) fn put_wild<K: Key>(
     if is_plain(key) {
         return Ok(());
     }
-    let numbers = key.numbers(alloc)?;
+    let numbers = numbers_of(alloc, key)?;
     let place = place_of(wilds, &numbers);
     wilds.put_at(alloc, place, key)
 }
 
 /// A key stands at its numbers no more. Where memory runs out it may stay, which changes nothing
 /// that is found.
-pub(crate) fn drop_wild<K: Key>(alloc: Global, wilds: &mut KeyGroups<K>, key: &K)
+pub(crate) fn drop_wild<K: Key>(alloc: Global, wilds: &mut WildKeys<K>, key: &K)
     ensures { KeepsOthers K.cmp key.now wilds.old wilds.new }
 {
     if is_plain(key) {
         return;
     }
-    wilds.remove_at(None, key);
-    if let Ok(numbers) = key.numbers(alloc) {
+    wilds.remove_free(key);
+    if let Ok(numbers) = numbers_of(alloc, key) {
         drop_at(wilds, &numbers, key);
     }
 }
 
 // A key stands at these numbers no more.
-fn drop_at<K: Key>(wilds: &mut KeyGroups<K>, numbers: &[u64], key: &K)
+fn drop_at<K: Key>(wilds: &mut WildKeys<K>, numbers: &[u64], key: &K)
     ensures { KeepsOthers K.cmp key.now wilds.old wilds.new }
 {
     for number in numbers {
-        wilds.remove_at(Some(*number), key);
+        wilds.remove_at(*number, key);
     }
 }
 
 // Puts the faces among those found whose interests are in a key that matches, and about the
-// expression. The only error is want of memory.
+// expression.
 fn gather_key<K: Key>(
     found: &mut Vec<u32>,
     keyed: &HashMap<K, Holdings<K>>,
@@ -161,17 +161,17 @@ fn gather_group<K: Key>(
     gather_more(found, keyed, more, expr)
 }
 
-// The same of the keys at a number, or at none.
+// The same of the keys at a number.
 fn gather_at<K: Key>(
     found: &mut Vec<u32>,
     keyed: &HashMap<K, Holdings<K>>,
-    wilds: &KeyGroups<K>,
-    number: Option<u64>,
+    wilds: &WildKeys<K>,
+    number: u64,
     expr: &K,
 ) -> Result<(), Memory>
     ensures { OnOk result ((n : ℕ) → is_among n found.new.items ≡ (is_among n found.old.items
         || list_any (asks_in K.cmp K.matching expr.now n keyed.now.entries)
-        (keys_at number wilds.now))) }
+        (keys_at (Some number) wilds.now))) }
 {
     match wilds.get(number) {
         Some(group) => gather_group(found, keyed, group, expr),
@@ -183,7 +183,7 @@ fn gather_at<K: Key>(
 fn gather_numbers<K: Key>(
     found: &mut Vec<u32>,
     keyed: &HashMap<K, Holdings<K>>,
-    wilds: &KeyGroups<K>,
+    wilds: &WildKeys<K>,
     numbers: &[u64],
     expr: &K,
 ) -> Result<(), Memory>
@@ -192,18 +192,29 @@ fn gather_numbers<K: Key>(
         (keys_at (Some number) wilds.now)) numbers.now)) }
 {
     for number in numbers {
-        gather_at(found, keyed, wilds, Some(*number), expr)?;
+        gather_at(found, keyed, wilds, *number, expr)?;
     }
     Ok(())
 }
 
+// The numbers of a key, each once, since chunks may come again and again.
+fn numbers_of<K: Key>(alloc: Global, key: &K) -> Result<Vec<u64>, Memory>
+    ensures { IfOk result (λ numbers. (test : ℕ → Bool) →
+        list_any test numbers.items ≡ list_any test (K.numbered key.now)) }
+{
+    let mut numbers = key.numbers(alloc)?;
+    numbers.sort_unstable();
+    numbers.dedup();
+    Ok(numbers)
+}
+
 /// Puts the faces among those found that hold interests, about the expression, in keys at its
-/// numbers or at none. The only error is want of memory.
+/// numbers or at none.
 pub(crate) fn gather_wilds<K: Key>(
     alloc: Global,
     found: &mut Vec<u32>,
     keyed: &HashMap<K, Holdings<K>>,
-    wilds: &KeyGroups<K>,
+    wilds: &WildKeys<K>,
     expr: &K,
 ) -> Result<(), Memory>
     ensures { OnOk result ((n : ℕ) → is_among n found.new.items ≡ ((is_among n found.old.items
@@ -212,23 +223,23 @@ pub(crate) fn gather_wilds<K: Key>(
         || list_any (λ number. list_any (asks_in K.cmp K.matching expr.now n keyed.now.entries)
         (keys_at (Some number) wilds.now)) (K.numbered expr.now))) }
 {
-    if wilds.is_empty() {
+    gather_group(found, keyed, wilds.free(), expr)?;
+    if !wilds.has_numbers() {
         return Ok(());
     }
-    gather_at(found, keyed, wilds, None, expr)?;
-    let numbers = expr.numbers(alloc)?;
+    let numbers = numbers_of(alloc, expr)?;
     gather_numbers(found, keyed, wilds, &numbers, expr)
 }
 
-/// The keys of these interests, each at one of its numbers. The only error is want of memory.
+/// The keys of these interests, each at one of its numbers.
 pub(crate) fn wilds_of<K: Key>(
     alloc: Global,
     keyed: &HashMap<K, Holdings<K>>,
-) -> Result<KeyGroups<K>, Memory>
+) -> Result<WildKeys<K>, Memory>
     ensures { IfOk result
         (λ wilds. AreCovered K.cmp K.anchored K.numbered wilds keyed.now.entries) }
 {
-    let mut wilds = KeyGroups::new(alloc);
+    let mut wilds = WildKeys::new(alloc);
     for (key, _) in keyed {
         put_wild(alloc, &mut wilds, key)?;
     }

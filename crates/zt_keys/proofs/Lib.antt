@@ -1,3 +1,4 @@
+pub mod Agree
 pub mod Alone
 pub mod Common
 pub mod Folds

@@ -3,6 +3,7 @@ pub mod Anchors
 pub mod Chunks
 pub mod Expression
 pub mod Key
+pub mod Kinds
 pub mod Laws
 pub mod Matching
 pub mod Meet

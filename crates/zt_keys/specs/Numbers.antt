@@ -47,14 +47,14 @@ abbrev pub is_number : ℕ → List ℕ → Bool
 is_number n numbers = list_any (nat_eq n) numbers
 
 -- none of these is a wildcard
-abbrev are_named : List Part → Bool
+abbrev pub are_named : List Part → Bool
 are_named [] = true
 are_named (many ∷ ys) = false
 are_named (one ∷ ys) = false
 are_named (marked chunk ∷ ys) = are_named ys
 are_named (plain chunk ∷ ys) = are_named ys
 
-tail-named : (y : Part) (ys : List Part) → are_named (y ∷ ys) ≡ true → are_named ys ≡ true
+pub tail-named : (y : Part) (ys : List Part) → are_named (y ∷ ys) ≡ true → are_named ys ≡ true
 tail-named many ys h = absurd (false≢true h)
 tail-named one ys h = absurd (false≢true h)
 tail-named (marked c) ys h = h
@@ -130,7 +130,7 @@ named-parts : (es : List (List ℕ)) → Starless es → are_named (map part_of 
 named-parts [] s = refl
 named-parts (e ∷ es) s = let u = or-false (list_any is_star e) (list_any (list_any is_star) es) s in named-cons e (map part_of es) u.0 (named-parts es u.1)
 
-named-text : (text : List ℕ) (n : ℕ) → number_of text ≡ Some n → are_named (parts text) ≡ true
+pub named-text : (text : List ℕ) (n : ℕ) → number_of text ≡ Some n → are_named (parts text) ≡ true
 named-text text n e = named-parts (chunks text) (any-chunks is_star is_star-slash text ∙ starless text n e)
 
 -- each number of a key expression is one of each without wildcards that it matches

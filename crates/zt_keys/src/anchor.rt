@@ -1,4 +1,4 @@
-// Where keys may be told apart by a number.
+// Where keys may be distinguished by a number.
 
 /// Where a key may be told from others by a number.
 #[derive(Clone, Copy, PartialEq, Eq, PartialOrd, Ord, Hash, Debug)]

@@ -32,8 +32,7 @@ fn chunk_number(chunk: &[u8]) -> Option<u64>
     Some(hash_of(chunk))
 }
 
-// What a chunk adds behind the one before it: its number, and that of the two. The only error is
-// want of memory.
+// What a chunk adds behind the one before it: its number, and that of the two.
 fn push_numbers(
     numbers: &mut Vec<u64>,
     before: Option<u64>,
@@ -52,7 +51,7 @@ fn push_numbers(
 }
 
 // The numbers of the text's chunks that have no wildcard, each followed by that of the chunk and
-// the one before it, if that has none either. The only error is want of memory.
+// the one before it, if that has none either.
 pub(crate) fn text_numbers(alloc: Global, text: &[u8]) -> Result<Vec<u64>, AllocError>
     ensures { IfOk result (λ numbers. numbers.items ≡ numbers_from None (walked text.now)) }
 {

@@ -1,5 +1,5 @@
 // Key expressions.
-ghost use Rattle.std.specs.Prelude.{◌≡◌, ◌++◌, nat_eq, Some, ◌≢◌, ◌↔◌, IsTrue, IfOk, IfErr};
+ghost use Rattle.std.specs.Prelude.{◌≡◌, ◌++◌, nat_eq, Some, ◌≢◌, ◌↔◌, IsTrue, IfOk, IfErr, true};
 ghost use Rattle.std.specs.Prelude.{string_bytes, if◌then◌else◌, is_ok, refl};
 ghost use Rattle.std.specs.Arc.{arc_value};
 ghost use Rattle.std.specs.Hash as fed;
@@ -56,6 +56,13 @@ impl KeyExpr {
         ensures { result.now ≡ self.now.bytes }
     {
         self.shared.text()
+    }
+
+    // Whether the two may match, as far as the kinds of their chunks tell.
+    fn may_match(&self, other: &KeyExpr) -> bool
+        ensures { matching self.now other.now ≡ true → result ≡ true }
+    {
+        self.shared.may_match(&other.shared) && other.shared.may_match(&self.shared)
     }
 }
 
@@ -118,15 +125,16 @@ impl Key for KeyExpr {
 
     ghost numbered = { numbered };
 
-    /// Whether some plain list of chunks is a member of both. The two texts are walked together,
-    /// and the number of chunks that are looked at is at most a fixed multiple of the product of
-    /// the two numbers of chunks, however many `**` there are.
+    /// Whether some plain list of chunks is a member of both. Most that don't match a text without
+    /// wildcards are distinguished by the kinds of their chunks. Else the two texts are walked
+    /// together, and the number of chunks that are looked at is at most a fixed multiple of the
+    /// product of the two numbers of chunks, however many `**` there are.
     fn matches(&self, other: &KeyExpr) -> bool
         ensures value { result ≡ matching self.now other.now }
         ensures member { IsTrue result
             ↔ Intersect (chunks self.now.bytes) (chunks other.now.bytes) }
     {
-        texts_match(self.text().as_bytes(), other.text().as_bytes())
+        self.may_match(other) && texts_match(self.text().as_bytes(), other.text().as_bytes())
     }
 
     /// A number of the whole text, of its first chunk, of its first two or of its last, where no

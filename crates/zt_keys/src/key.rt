@@ -15,7 +15,7 @@ pub trait Key: Ord + Eq + Hash + Drop + Sized {
     /// Whether two keys match.
     ghost matching: { Self → Self → Bool };
 
-    /// What a text is read as; never want of memory.
+    /// What a text is read as; never out of memory.
     ghost reading: { List ℕ → Result Self KeyError };
 
     /// The bytes of a key's text.
@@ -39,7 +39,7 @@ pub trait Key: Ord + Eq + Hash + Drop + Sized {
 
     /// The numbers of the key's parts that have no wildcard. A key that matches one without
     /// wildcards has no number that the other lacks: so keys with wildcards are found by any of
-    /// their numbers. The only error is want of memory.
+    /// their numbers.
     fn numbers(&self, alloc: Global) -> Result<Vec<u64>, Memory>
         ensures { IfOk result (λ numbers. numbers.items ≡ numbered self.now) };
 
@@ -47,12 +47,11 @@ pub trait Key: Ord + Eq + Hash + Drop + Sized {
     fn read(alloc: Global, text: &str) -> Result<Self, KeyError>
         ensures { Reads (reading text.now) result };
 
-    /// The key's text, which `read` reads back. The only error is want of memory.
+    /// The key's text, which `read` reads back.
     fn print(&self, alloc: Global) -> Result<String, Memory>
         ensures { IfOk result (λ text. string_bytes text ≡ printed self.now) };
 
-    /// Appends the key's text to `out`. The only error is want of memory, and it leaves `out` as it
-    /// was.
+    /// Appends the key's text to `out`. After an error `out` is as before.
     fn print_to(&self, out: &mut String) -> Result<(), Memory>
         ensures { string_bytes out.new
             ≡ (if is_ok result then string_bytes out.old ++ printed self.now
@@ -64,7 +63,7 @@ pub trait Key: Ord + Eq + Hash + Drop + Sized {
         Ok(())
     }
 
-    /// A key equal to this one. The only error is want of memory.
+    /// A key equal to this one.
     fn copy(&self, alloc: Global) -> Result<Self, Memory>
         ensures { IfOk result (λ key. key ≡ self.now) };
 

@@ -7,6 +7,7 @@ mod chunk_numbers;
 mod error;
 mod expr;
 mod key;
+mod kinds;
 mod numbers;
 mod shared;
 mod spelling;

@@ -4,7 +4,9 @@ ghost use Rattle.std.specs.List.{list_any};
 ghost use Rattle.zt_keys.specs.Chunks.{chunks, is_star};
 ghost use Rattle.zt_keys.specs.Anchors.{hash_of, number_of};
 ghost use Rattle.zt_keys.specs.Anchors.{first_chunk, first_two, last_chunk};
+ghost use Rattle.zt_keys.specs.Kinds.{kinds_of};
 
+use crate::kinds::kinds_of;
 use std::hash::{DefaultHasher, Hasher};
 
 // SipHash, which keeps 256 bits while it reads: to find many texts of one hash, one has to try texts
@@ -30,16 +32,19 @@ fn has_star(text: &[u8]) -> bool
 pub(crate) struct Digest {
     pub(crate) hash: u64,
     pub(crate) has_star: bool,
+    pub(crate) kinds: u64,
 }
 
 impl Digest {
     pub(crate) fn of(text: &[u8]) -> Digest
         ensures hash { result.hash ≡ hash_of text.now }
         ensures star { result.has_star ≡ list_any is_star text.now }
+        ensures kinds { result.kinds ≡ kinds_of text.now }
     {
         Digest {
             hash: hash_of(text),
             has_star: has_star(text),
+            kinds: kinds_of(text),
         }
     }
 

@@ -1,8 +1,9 @@
 // The text of a key expression, with what is asked of it often.
-ghost use Rattle.std.specs.Prelude.{◌≡◌, List, ℕ, IfOk};
+ghost use Rattle.std.specs.Prelude.{◌≡◌, ◌||◌, ◌==◌, List, ℕ, IfOk, bit_and};
 ghost use Rattle.std.specs.List.{list_any};
 ghost use Rattle.zt_keys.specs.Chunks.{is_star};
 ghost use Rattle.zt_keys.specs.Anchors.{hash_of, number_of};
+ghost use Rattle.zt_keys.specs.Kinds.{kinds_of};
 ghost use Rattle.zt_keys.specs.Shared.{text_bytes};
 
 use crate::numbers::Digest;
@@ -30,11 +31,11 @@ impl Model for Shared {
     ghost view = { λ s. text_bytes s.text };
 
     ghost invariant = { λ s. (s.digest.hash ≡ hash_of (text_bytes s.text))
-        × (s.digest.has_star ≡ list_any is_star (text_bytes s.text)) };
+        × (s.digest.has_star ≡ list_any is_star (text_bytes s.text))
+        × (s.digest.kinds ≡ kinds_of (text_bytes s.text)) };
 }
 
 impl Shared {
-    // The only error is want of memory.
     pub(crate) fn new(alloc: Global, text: &str) -> Result<Shared, AllocError>
         ensures { IfOk result (λ shared. shared ≡ text.now) }
     {
@@ -60,6 +61,15 @@ impl Shared {
         ensures { result ≡ hash_of self.now }
     {
         self.digest.hash
+    }
+
+    // Whether the text has a `*`, or chunks of each kind of which the other's chunks are. Looks at no
+    // byte of them.
+    pub(crate) fn may_match(&self, other: &Shared) -> bool
+        ensures { result ≡ (list_any is_star self.now
+            || bit_and (kinds_of other.now) (kinds_of self.now) == kinds_of self.now) }
+    {
+        self.digest.has_star || other.digest.kinds & self.digest.kinds == self.digest.kinds
     }
 
     // The number of the text, or `None` if it has a `*`. Looks at no byte of it.

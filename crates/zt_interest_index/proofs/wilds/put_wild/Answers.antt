@@ -1,8 +1,8 @@
-use Rattle.std.proofs.Common.{◌≡◌, true, IfSome, subst, sym, ◌∙◌}
+use Rattle.std.proofs.Common.{ap, sym, ◌∙◌}
 use Rattle.std.proofs.lemmas.Result.{on_ok_weaker}
-use Rattle.zt_keys.specs.Numbers.{is_number}
+use Rattle.std.specs.List.{list_any}
 use Rattle.zt_indexes.specs.Grouped.{own-put}
-use Rattle.zt_interest_index.proofs.Kept.{covered-placed, covered-plain}
+use Rattle.zt_interest_index.proofs.Kept.{covered-placed, covered-plain, placed-among}
 use Rattle.zt_interest_index.proofs.wilds.put_wild.Goals as goal
 
 pub returns-then-is_plain-clause-covered : goal.returns-then-is_plain-clause-covered
@@ -17,6 +17,6 @@ returns-clause-covered g c =
     on_ok_weaker c.put_at.result
     (λ changed.
     covered-placed cmp g.K.Key.anchored g.K.Key.numbered key c.put_at.new.self place
-    (subst (λ ns. IfSome place (λ n. is_number n ns ≡ true)) (c.deref.ensures.value ∙ c.in_ok-numbers.ensures) c.place_of-place.ensures)
+    (placed-among place c.deref.result.now (g.K.Key.numbered key) (λ test. ap (list_any test) c.deref.ensures.value ∙ c.in_ok-numbers.ensures test) c.place_of-place.ensures)
     (own-put cmp g.met.K.Ord.total place key c.args.wilds.now c.put_at.new.self changed))
     c.put_at.ensures.ok
