@@ -12,7 +12,7 @@ use zt_keys::{Key, Memory};
 use zt_protocol::{InterestId, TokenId};
 use zt_rows::RowsById;
 
-// Holds an interest that asks for what comes later. The only error is want of memory.
+// Holds an interest that asks for what comes later.
 fn put_held<K: Key>(
     alloc: Global,
     held: &mut RowsById<RemoteInterest<K>>,
@@ -28,7 +28,7 @@ fn put_held<K: Key>(
     Ok(())
 }
 
-// Asks by an interest that asks for what is there now. The only error is want of memory.
+// Asks by an interest that asks for what is there now.
 fn put_ask<K: Key>(
     alloc: Global,
     asks: &mut RowsById<AskState<K>>,
@@ -50,7 +50,7 @@ fn put_ask<K: Key>(
 }
 
 impl<K: Key> FaceState<K> {
-    /// The face declares a token. The only error is want of memory.
+    /// The face declares a token.
     pub fn register(&mut self, alloc: Global, id: TokenId, expr: &K) -> Result<(), Memory>
         ensures { OnOk result (self.new ≡ registered id expr.now self.old) }
     {
@@ -58,8 +58,7 @@ impl<K: Key> FaceState<K> {
     }
 
     /// The face holds an interest that asks for what comes later, and asks one that asks for what
-    /// is there now, which was sent upstream as these, each a face and an id. The only error is
-    /// want of memory.
+    /// is there now, which was sent upstream as these, each a face and an id.
     pub fn ask(
         &mut self,
         alloc: Global,

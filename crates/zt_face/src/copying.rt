@@ -3,12 +3,13 @@ ghost use Rattle.std.specs.Prelude.{◌≡◌, IfOk};
 
 use crate::face::{AskState, FaceRows, FaceState, PendingInterest};
 use crate::interest::RemoteInterest;
+use indexmap::IndexSet;
 use std::alloc::Global;
 use zt_keys::{Key, Memory};
 use zt_protocol::QueryableInfo;
 use zt_rows::RowsById;
 
-/// Equal keys. The only error is want of memory.
+/// Equal keys.
 pub fn copy_keys<K: Key>(alloc: Global, keys: &[K]) -> Result<Vec<K>, Memory>
     ensures { IfOk result (λ copies. copies.items ≡ keys.now) }
 {
@@ -19,7 +20,18 @@ pub fn copy_keys<K: Key>(alloc: Global, keys: &[K]) -> Result<Vec<K>, Memory>
     Ok(copies)
 }
 
-// Equal keys under equal ids. The only error is want of memory.
+// Equal keys, in the same order.
+fn copy_key_set<K: Key>(alloc: Global, keys: &IndexSet<K>) -> Result<IndexSet<K>, Memory>
+    ensures { IfOk result (λ copies. copies.keys ≡ keys.now.keys) }
+{
+    let mut copies = IndexSet::new(alloc);
+    for key in keys {
+        copies.insert(key.copy(alloc)?)?;
+    }
+    Ok(copies)
+}
+
+// Equal keys under equal ids.
 fn copy_key_rows<K: Key>(alloc: Global, rows: &RowsById<K>) -> Result<RowsById<K>, Memory>
     ensures { IfOk result (λ copies. copies ≡ rows.now) }
 {
@@ -30,7 +42,7 @@ fn copy_key_rows<K: Key>(alloc: Global, rows: &RowsById<K>) -> Result<RowsById<K
     Ok(copies)
 }
 
-/// Equal queryables. The only error is want of memory.
+/// Equal queryables.
 pub fn copy_queryables<K: Key>(
     alloc: Global,
     queryables: &[(K, QueryableInfo)],
@@ -48,12 +60,12 @@ pub fn copy_queryables<K: Key>(
 pub trait Duplicate: Drop + Sized {
     ghost use Rattle.std.specs.Prelude.{◌≡◌, IfOk};
 
-    /// An equal value. The only error is want of memory.
+    /// An equal value.
     fn duplicate(&self, alloc: Global) -> Result<Self, Memory>
         ensures { IfOk result (λ copy. copy ≡ self.now) };
 }
 
-/// Equal values. The only error is want of memory.
+/// Equal values.
 pub fn copy_all<T: Duplicate>(alloc: Global, values: &[T]) -> Result<Vec<T>, Memory>
     ensures { IfOk result (λ copies. copies.items ≡ values.now) }
 {
@@ -64,7 +76,7 @@ pub fn copy_all<T: Duplicate>(alloc: Global, values: &[T]) -> Result<Vec<T>, Mem
     Ok(copies)
 }
 
-// Equal rows under equal ids. The only error is want of memory.
+// Equal rows under equal ids.
 fn copy_rows<T: Duplicate>(alloc: Global, rows: &RowsById<T>) -> Result<RowsById<T>, Memory>
     ensures { IfOk result (λ copies. copies ≡ rows.now) }
 {
@@ -86,7 +98,7 @@ impl<K: Key> Duplicate for AskState<K> {
         Ok(AskState {
             interest: self.interest.copy(alloc)?,
             pendings: self.pendings.to_vec(alloc)?,
-            answered: copy_keys(alloc, self.answered.as_slice())?,
+            answered: copy_key_set(alloc, &self.answered)?,
         })
     }
 }
@@ -124,7 +136,7 @@ impl<K: Key> Duplicate for FaceState<K> {
 }
 
 impl<K: Key> FaceState<K> {
-    /// An equal face. The only error is want of memory.
+    /// An equal face.
     pub fn copy(&self, alloc: Global) -> Result<Self, Memory>
         ensures { IfOk result (λ copy. copy ≡ self.now) }
     {

@@ -8,7 +8,7 @@ use zt_keys::{Key, Memory};
 use zt_protocol::QueryableInfo;
 
 impl<K: Key> FaceState<K> {
-    /// The face's subscribers and queryables are replaced. The only error is want of memory.
+    /// The face's subscribers and queryables are replaced.
     pub fn set_entities(
         &mut self,
         alloc: Global,

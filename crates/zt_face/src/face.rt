@@ -1,10 +1,12 @@
 // An open face with its rows.
 ghost use Rattle.std.specs.Prelude.{◌≡◌, [], IfOk};
+ghost use Rattle.zt_model.specs.Lists.{is_among};
 ghost use Rattle.zt_model.specs.Parts.{new_face};
 
 use crate::interest::RemoteInterest;
 use crate::local_interests::LocalInterests;
 use crate::local_tokens::LocalTokens;
+use indexmap::IndexSet;
 use std::alloc::Global;
 use std::marker::Model;
 use zt_keys::{Key, Memory};
@@ -52,12 +54,13 @@ impl PendingInterest {
 }
 
 /// A current-mode interest whose final wasn't sent: the face and id of each interest that it sent
-/// upstream, and the expressions that it was answered.
+/// upstream, and the expressions that it was answered. One ask may be answered many, and each
+/// answer asks whether its expression is among them: that is a look-up.
 #[derive(Drop)]
 pub struct AskState<K: Key> {
     pub(crate) interest: RemoteInterest<K>,
     pub(crate) pendings: Vec<(u32, u32)>,
-    pub(crate) answered: Vec<K>,
+    pub(crate) answered: IndexSet<K>,
 }
 
 impl<K: Key> Model for AskState<K> {
@@ -68,7 +71,7 @@ impl<K: Key> Model for AskState<K> {
     ghost view = { λ a. record {
       interest = a.interest;
       pendings = a.pendings.items;
-      answered = a.answered.items;
+      answered = a.answered.keys;
     } };
 }
 
@@ -84,7 +87,7 @@ impl<K: Key> AskState<K> {
         AskState {
             interest,
             pendings,
-            answered: Vec::new(alloc),
+            answered: IndexSet::new(alloc),
         }
     }
 
@@ -102,11 +105,18 @@ impl<K: Key> AskState<K> {
         &self.pendings
     }
 
-    /// The expressions that it was answered.
+    /// The expressions that it was answered, in the order of the answers.
     pub fn answered(&self) -> &[K]
         ensures { result.now ≡ self.now.answered }
     {
-        &self.answered
+        self.answered.as_slice()
+    }
+
+    /// Whether it was answered an expression. A look-up.
+    pub fn was_answered(&self, expr: &K) -> bool
+        ensures { result ≡ is_among K.cmp expr.now self.now.answered }
+    {
+        self.answered.contains(expr)
     }
 }
 
@@ -163,7 +173,7 @@ impl<K: Key> Model for FaceState<K> {
 }
 
 impl<K: Key> FaceState<K> {
-    /// A face without rows. The only error is want of memory.
+    /// A face without rows.
     pub fn new(
         alloc: Global,
         number: u32,

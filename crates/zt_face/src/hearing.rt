@@ -3,7 +3,7 @@ ghost use Rattle.std.specs.Prelude.{◌≡◌, map, IfOk, OnOk};
 ghost use Rattle.zt_face.specs.Told.{answered_with, heard_known, untold_known};
 ghost use Rattle.zt_model.specs.Hearing.{asks_answered, next_after, put_if, told_pair};
 ghost use Rattle.zt_model.specs.Hearing.{with_answer};
-ghost use Rattle.zt_model.specs.Lists.{is_among, without_id};
+ghost use Rattle.zt_model.specs.Lists.{without_id};
 ghost use Rattle.zt_protocol.specs.Interest.{is_current, is_future};
 
 use crate::face::{AskState, FaceState, PendingInterest};
@@ -14,7 +14,7 @@ use zt_keys::{Key, Memory};
 use zt_protocol::{InterestMode, InterestOptions, Message, copy_expression};
 use zt_rows::RowsById;
 
-// The next id after one was sent. Ids that run out count as want of memory.
+// The next id after one was sent. Ids that run out count as out of memory.
 fn next_after(id: u32, next: u32) -> Result<u32, Memory>
     ensures { IfOk result (λ after. after ≡ next_after id next) }
 {
@@ -24,15 +24,7 @@ fn next_after(id: u32, next: u32) -> Result<u32, Memory>
     }
 }
 
-/// Whether an expression is among others.
-pub fn is_among<K: Key>(expr: &K, exprs: &[K]) -> bool
-    ensures { result ≡ is_among K.cmp expr.now exprs.now }
-{
-    exprs.iter().any(|other| expr == other)
-}
-
-// The ask of the id is answered an expression. The only error is want of memory, and then the ask
-// may be gone.
+// The ask of the id is answered an expression. After an error the ask may be gone.
 fn answer_asks<K: Key>(
     alloc: Global,
     asks: &mut RowsById<AskState<K>>,
@@ -50,7 +42,7 @@ fn answer_asks<K: Key>(
     }
 }
 
-// Asks are answered, where the message answers one. The only error is want of memory.
+// Asks are answered, where the message answers one.
 fn answer_named<K: Key>(
     alloc: Global,
     asks: &mut RowsById<AskState<K>>,
@@ -65,8 +57,7 @@ fn answer_named<K: Key>(
     }
 }
 
-// Puts an interest that was sent, where it asks for what comes later. The only error is want of
-// memory.
+// Puts an interest that was sent, where it asks for what comes later.
 fn put_future<K: Key>(
     alloc: Global,
     locals: &mut LocalInterests<K>,
@@ -86,8 +77,7 @@ fn put_future<K: Key>(
     Ok(())
 }
 
-// Puts a pending, where the interest that was sent asks for what is there now. The only error is
-// want of memory.
+// Puts a pending, where the interest that was sent asks for what is there now.
 fn put_pending(
     rows: &mut RowsById<PendingInterest>,
     id: u32,
@@ -104,19 +94,17 @@ fn put_pending(
 }
 
 impl<K: Key> AskState<K> {
-    // An expression is answered, which is there once. The only error is want of memory.
+    // An expression is answered, which is there once.
     fn answer(&mut self, alloc: Global, expr: &K) -> Result<(), Memory>
         ensures { OnOk result (self.new ≡ answered_with K.cmp expr.now self.old) }
     {
-        if !is_among(expr, self.answered.as_slice()) {
-            self.answered.push(expr.copy(alloc)?)?;
-        }
+        self.answered.insert(expr.copy(alloc)?)?;
         Ok(())
     }
 }
 
 impl<K: Key> FaceState<K> {
-    // A declaration is sent to the face. The only error is want of memory, or of ids.
+    // A declaration is sent to the face. Ids that run out count as out of memory.
     fn hear_token(
         &mut self,
         alloc: Global,
@@ -135,7 +123,7 @@ impl<K: Key> FaceState<K> {
         answer_named(alloc, &mut self.rows.asks, interest, expr)
     }
 
-    // An interest is sent to the face. The only error is want of memory, or of ids.
+    // An interest is sent to the face. Ids that run out count as out of memory.
     fn hear_interest(
         &mut self,
         alloc: Global,
@@ -182,8 +170,8 @@ impl<K: Key> FaceState<K> {
     }
 
     /// The face is sent a message, at this moment. Where this says that an expression is gone,
-    /// `known` is the id under which the face was told it, if it was. The only error is want of
-    /// memory, or of ids.
+    /// `known` is the id under which the face was told it, if it was. Ids that run out count as out
+    /// of memory.
     pub fn hear(
         &mut self,
         alloc: Global,

@@ -12,7 +12,7 @@ use std::collections::{BTreeSet, HashMap};
 use std::hash::Hash;
 use zt_keys::Memory;
 
-// Puts an id into a set. The only error is want of memory, and then the set stays.
+// Puts an id into a set. After an error the set stays.
 fn insert_id(set: &mut BTreeSet<u32>, id: u32) -> Result<(), Memory>
     ensures ok { OnOk result ((n : ℕ) → contains nat_cmp set.new n
         ≡ (contains nat_cmp set.old n || (id == n))) }
@@ -32,7 +32,7 @@ fn remove_id(set: &mut BTreeSet<u32>, id: u32) -> bool
     set.is_empty()
 }
 
-// A set of one id. The only error is want of memory.
+// A set of one id.
 fn set_of_one(alloc: Global, id: u32) -> Result<BTreeSet<u32>, Memory>
     ensures { IfOk result (λ set. (n : ℕ) → contains nat_cmp set n ≡ (id == n)) }
 {
@@ -41,7 +41,7 @@ fn set_of_one(alloc: Global, id: u32) -> Result<BTreeSet<u32>, Memory>
     Ok(set)
 }
 
-// The ids of a set, in order. The only error is want of memory.
+// The ids of a set, in order.
 fn listed(alloc: Global, set: &BTreeSet<u32>) -> Result<Vec<u32>, Memory>
     ensures keys { IfOk result (λ list. list.items ≡ set.now.keys) }
     ensures in_order { IsStrictlySortedBy nat_cmp set.now.keys }
@@ -50,7 +50,7 @@ fn listed(alloc: Global, set: &BTreeSet<u32>) -> Result<Vec<u32>, Memory>
     Ok(list)
 }
 
-// One id more of those that ask for this. The only error is want of memory, and then the ids stay.
+// One id more of those that ask for this. After an error the ids stay.
 pub(crate) fn add_id<Q: Eq + Hash + Drop>(
     alloc: Global,
     sets: &mut HashMap<Q, BTreeSet<u32>>,
@@ -101,7 +101,7 @@ pub(crate) fn has_ids<Q: Eq + Hash + Drop>(sets: &HashMap<Q, BTreeSet<u32>>, ask
     }
 }
 
-// The ids of those that ask for this, in order. The only error is want of memory.
+// The ids of those that ask for this, in order.
 pub(crate) fn ids_of<Q: Eq + Hash + Drop>(
     alloc: Global,
     sets: &HashMap<Q, BTreeSet<u32>>,

@@ -49,8 +49,9 @@ fn have_other_numbers<K: Key>(first: &K, second: &K) -> bool
     }
 }
 
-/// Whether an interest in this expression, or in all keys, is about the key. Most expressions have no
-/// wildcards, and two of these are told apart by their numbers, which takes no walk along both.
+/// Whether an interest in this expression, or in all keys, is about the key. Most expressions have
+/// no wildcards, and two of these are distinguished by their numbers, which takes no walk along
+/// both.
 pub fn is_about<K: Key>(expr: &Option<K>, key: &K) -> bool
     ensures { result ≡ is_about K.matching expr.now key.now }
 {
@@ -99,7 +100,7 @@ impl<K: Key> RemoteInterest<K> {
         &self.asked
     }
 
-    // The same as a copy. The only error is want of memory.
+    // The same as a copy.
     pub(crate) fn copy_asked(&self, alloc: Global) -> Result<(Option<K>, InterestOptions), Memory>
         ensures { IfOk result (λ copy. copy ≡ asked_by self.now) }
     {
@@ -121,7 +122,7 @@ impl<K: Key> RemoteInterest<K> {
         self.options().contains(InterestOptions::TOKENS) && is_about(self.expr(), key)
     }
 
-    /// An interest equal to this one. The only error is want of memory.
+    /// An interest equal to this one.
     pub fn copy(&self, alloc: Global) -> Result<Self, Memory>
         ensures { IfOk result (λ copy. copy ≡ self.now) }
     {

@@ -16,7 +16,6 @@ mod local_tokens;
 
 pub use copying::{Duplicate, copy_all, copy_keys, copy_queryables};
 pub use face::{AskState, FaceState, PendingInterest};
-pub use hearing::is_among;
 pub use interest::RemoteInterest;
 pub use local_interests::LocalInterests;
 pub use local_tokens::LocalTokens;

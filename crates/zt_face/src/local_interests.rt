@@ -73,8 +73,7 @@ impl<K: Key> LocalInterests<K> {
         has_ids(&self.ids, interest.asked())
     }
 
-    /// The ids of those that ask for the same as this interest, in order. A look-up. The only error
-    /// is want of memory.
+    /// The ids of those that ask for the same as this interest, in order. A look-up.
     pub fn ids_of_same(
         &self,
         alloc: Global,
@@ -87,8 +86,7 @@ impl<K: Key> LocalInterests<K> {
         ids_of(alloc, &self.ids, interest.asked())
     }
 
-    // Adds an interest under an id that no other has. The only error is want of memory, and then
-    // the interests stay.
+    // Adds an interest under an id that no other has. After an error the interests stay.
     fn add(&mut self, alloc: Global, id: u32, interest: RemoteInterest<K>) -> Result<(), Memory>
         requires { at_id id self.old ≡ None }
         ensures ok { OnOk result (self.new ≡ put nat_cmp id interest self.old) }
@@ -105,8 +103,8 @@ impl<K: Key> LocalInterests<K> {
         }
     }
 
-    /// Puts an interest under its id, in place of the one that stands there, if any. The only error
-    /// is want of memory, and then none stands under the id.
+    /// Puts an interest under its id, in place of the one that stands there, if any. After an error
+    /// none stands under the id.
     pub fn put(&mut self, alloc: Global, id: u32, interest: RemoteInterest<K>) -> Result<(), Memory>
         ensures ok { OnOk result (self.new ≡ put nat_cmp id interest self.old) }
         ensures err { OnErr result (self.new ≡ without_id id self.old) }
@@ -126,7 +124,7 @@ impl<K: Key> LocalInterests<K> {
         }
     }
 
-    /// Equal interests. The only error is want of memory.
+    /// Equal interests.
     pub fn copy(&self, alloc: Global) -> Result<Self, Memory>
         ensures { IfOk result (λ copies. copies ≡ self.now) }
     {

@@ -54,7 +54,7 @@ impl<K: Key> LocalTokens<K> {
     }
 
     // Adds a pair of id and expression, which is there once. An id that has another expression, or
-    // that isn't above the others, never comes up in a gateway, and counts as want of memory.
+    // that isn't above the others, never comes up in a gateway, and counts as out of memory.
     fn add(&mut self, alloc: Global, id: u32, expr: &K) -> Result<(), Memory>
         ensures { OnOk result (self.new ≡ with_pair K.cmp id expr.now self.old) }
     {
@@ -65,9 +65,9 @@ impl<K: Key> LocalTokens<K> {
         }
     }
 
-    /// A pair of id and expression is told, which is there once; under the id 0 nothing is kept.
-    /// The only error is want of memory. An id that has another expression, or that isn't above the
-    /// others, never comes up in a gateway, and counts as want of memory.
+    /// A pair of id and expression is told, which is there once; under the id 0 nothing is kept. An
+    /// id that has another expression, or that isn't above the others, never comes up in a gateway,
+    /// and counts as out of memory.
     pub fn tell(&mut self, alloc: Global, id: u32, expr: &K) -> Result<(), Memory>
         ensures { OnOk result (self.new ≡ told_pair K.cmp id expr.now self.old) }
     {
@@ -91,7 +91,7 @@ impl<K: Key> LocalTokens<K> {
         }
     }
 
-    /// Equal tokens. The only error is want of memory.
+    /// Equal tokens.
     pub fn copy(&self, alloc: Global) -> Result<Self, Memory>
         ensures { IfOk result (λ copies. copies ≡ self.now) }
     {

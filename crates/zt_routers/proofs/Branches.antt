@@ -12,7 +12,7 @@ use Rattle.zt_protocol.specs.declared.messages.Message.TheVariants as message
 use Rattle.zt_model.specs.Parts.{to_each}
 use Rattle.zt_model.specs.Rows.{Face, Rows}
 use Rattle.zt_model.specs.Trees.{hide_to, is_child, is_face_of_router, is_hidden, is_newly_shown, node_of, pass_to, show_to, table_of, unpass_to}
-use Rattle.zt_routers.specs.Branches.{IsBranchOf, IsHiding, IsShowing, is_reached, passed, unpassed}
+use Rattle.zt_routers.specs.Branches.{IsBranchOf, IsOwnBranch, is_reached, passed, unpassed}
 
 and_false : (b : Bool) → (b && false) ≡ false
 and_false true = refl
@@ -66,7 +66,7 @@ module _ {K : Type 0} (g : Rows K) (region : Region) (children : List (Zid × Zi
 
 module _ {K : Type 0} (cmp : K → K → Ordering) (g : Rows K) (source : Region) (e : K) (region : Region) (children : List (Zid × Zid)) (node : ℕ) where
   -- in a region that is newly shown the token, and in one that isn't
-  pub shown_to : IsShowing cmp g source e region children node → (f : Face K) → f.region ≡ region → passed g region children node e f ≡ show_to cmp g source e f
+  pub shown_to : IsOwnBranch g region (is_newly_shown cmp g source e region) children node → (f : Face K) → f.region ≡ region → passed g region children node e f ≡ show_to cmp g source e f
   unfolding show_to
   shown_to shows f same =
       by_test (is_newly_shown cmp g source e region)
@@ -77,7 +77,7 @@ module _ {K : Type 0} (cmp : K → K → Ordering) (g : Rows K) (source : Region
       ∙ rw (same, unshown) refl)
 
   -- in a region that can't see the expression any more, and in one that can
-  pub hidden_to : IsHiding cmp g source e region children node → (f : Face K) → f.region ≡ region → unpassed g region children node e f ≡ hide_to cmp g source e f
+  pub hidden_to : IsOwnBranch g region (is_hidden cmp g source e region) children node → (f : Face K) → f.region ≡ region → unpassed g region children node e f ≡ hide_to cmp g source e f
   unfolding hide_to
   hidden_to hides f same =
       by_test (is_hidden cmp g source e region)

@@ -11,7 +11,6 @@ use Rattle.zt_model.specs.Parts.{to_each}
 use Rattle.zt_model.specs.Rows.{Face, Rows}
 use Rattle.zt_model.specs.Trees.{greet_to, is_child, is_face_of_router, routed_expressions, routers_in_order, table_of}
 use Rattle.zt_routers.specs.Greeting.{declared, greeted, greeted_by, has_child}
-use Rattle.zt_routers.proofs.Treeless.{none_each}
 
 -- whether a face stands for its router may be asked once, before the children are looked up
 asked_first : {A : Type 0} (here stands now before : Bool) (xs : List A)
@@ -30,6 +29,12 @@ one_more false xs ys = refl
 no_more : {A : Type 0} (b : Bool) → cond {A = List A} b [] [] ≡ []
 no_more true = refl
 no_more false = refl
+
+-- nothing for each is nothing
+none_each : {K : Type 0} (rule : Face K → List (Message K)) → ((f : Face K) → rule f ≡ []) → (fs : List (Face K)) → to_each rule fs ≡ []
+unfolding to_each
+none_each rule none [] = refl
+none_each rule none (f ∷ fs) = ap (λ ms. map (λ m. (f.number, m)) ms ++ to_each rule fs) (none f) ∙ none_each rule none fs
 
 module _ {K : Type 0} (rule other : Face K → List (Message K)) (alike : (f : Face K) → rule f ≡ other f) where
   pub to_each_alike : (fs : List (Face K)) → to_each rule fs ≡ to_each other fs

@@ -1,5 +1,7 @@
 mod Branches
 mod Greetings
+mod InOrder
 mod Loops
+mod Noted
 mod Origins
-mod Treeless
+mod Passed

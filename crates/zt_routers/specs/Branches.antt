@@ -3,17 +3,15 @@
 --     passed, unpassed           what it is told of a token that goes on, or of one that is gone
 --     IsBranchOf                 the branch is that of a source, by the region's table
 --     IsOwnBranch                where something goes on it is that of the gateway itself, and else one to nobody
---     IsShowing, IsHiding        where the token is newly shown it goes on; where it is hidden, that it is gone does
 use Rattle.std.specs.Prelude.{◌≡◌, ℕ, Bool, true, false, ◌&&◌, if◌then◌else◌, List, [], ◌∷◌, None, Some}
 use Rattle.std.specs.List.{list_any}
-use Rattle.std.specs.declared.cmp.Ordering.{Ordering}
 use Rattle.zt_region.specs.declared.region.Region.{Region}
 use Rattle.zt_region.specs.declared.region.Zid.{Zid}
 use Rattle.zt_region.specs.Region.{region_eq, zid_eq}
 use Rattle.zt_protocol.specs.declared.messages.Message.{Message}
 use Rattle.zt_protocol.specs.declared.messages.Message.TheVariants as message
 use Rattle.zt_model.specs.Rows.{Face, Rows}
-use Rattle.zt_model.specs.Trees.{is_face_of_router, is_hidden, is_newly_shown, node_of, table_of}
+use Rattle.zt_model.specs.Trees.{is_face_of_router, node_of, table_of}
 use Rattle.zt_link_state.specs.Lookups.{HaveChildrenOf}
 
 module _ {K : Type 0} (g : Rows K) (region : Region) where
@@ -33,10 +31,3 @@ module _ {K : Type 0} (g : Rows K) (region : Region) where
   pub record IsOwnBranch (goes_on : Bool) (children : List (Zid × Zid)) (node : ℕ) : Type 0 where
     pub own : goes_on ≡ true → IsBranchOf g.zid children node
     pub bare : goes_on ≡ false → children ≡ []
-
-module _ {K : Type 0} (cmp : K → K → Ordering) (g : Rows K) (source : Region) (e : K) (region : Region) where
-  abbrev pub IsShowing : List (Zid × Zid) → ℕ → Type 0
-  IsShowing children node = IsOwnBranch g region (is_newly_shown cmp g source e region) children node
-
-  abbrev pub IsHiding : List (Zid × Zid) → ℕ → Type 0
-  IsHiding children node = IsOwnBranch g region (is_hidden cmp g source e region) children node

@@ -5,6 +5,7 @@ mod greeting;
 mod ordering;
 mod own;
 mod passing;
+mod reaching;
 mod tables;
 
 pub use greeting::greet;

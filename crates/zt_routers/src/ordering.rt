@@ -13,7 +13,7 @@ use zt_region::{Region, Zid};
 use zt_state::GatewayState;
 use zt_tokens::KeysInOrder;
 
-// Puts keys in their places among those in order. The only error is want of memory.
+// Puts keys in their places among those in order.
 fn add_keys<K: Key>(
     alloc: Global,
     keys: &BTreeSet<K>,
@@ -28,7 +28,7 @@ fn add_keys<K: Key>(
 }
 
 // Puts the keys of an origin in their places among those in order, if the table leaves the origin
-// out. The only error is want of memory.
+// out.
 fn add_left_out<K: Key>(
     alloc: Global,
     region: Region,
@@ -48,7 +48,6 @@ fn add_left_out<K: Key>(
 }
 
 /// The expressions of a region's rows whose source the region's table doesn't list, in key order.
-/// The only error is want of memory.
 pub fn left_out<K: Key>(
     alloc: Global,
     g: &GatewayState<K>,

@@ -6,21 +6,22 @@ ghost use Rattle.zt_model.specs.Hat.{hat_of};
 ghost use Rattle.zt_model.specs.Lists.{is_among};
 ghost use Rattle.zt_model.specs.Parts.{to_each};
 ghost use Rattle.zt_link_state.specs.Routed.{rows_of};
-ghost use Rattle.zt_routers.specs.Branches.{IsHiding, IsShowing};
 ghost use Rattle.zt_routers.specs.Hiding.{hidden_among};
+ghost use Rattle.zt_routers.specs.Reached.{Notes, is_hidden_by, is_shown_by};
 ghost use Rattle.zt_model.specs.Trees.{hide_to, is_hidden, is_newly_shown, is_own_row};
 ghost use Rattle.zt_model.specs.Trees.{router_regions, show_to};
 
-use crate::passing::{Branch, own_branch, pass_to, unpass_to};
+use crate::passing::{own_branch, pass_to, unpass_to};
+use crate::reaching::{note_children, say_among};
 use std::alloc::Global;
 use std::collections::BTreeSet;
 use zt_hats::hat_of;
 use zt_keys::{Key, Memory};
-use zt_link_state::Origin;
+use zt_link_state::{KeptTable, Origin};
 use zt_protocol::Message;
 use zt_region::Region;
-use zt_state::GatewayState;
-use zt_tokens::is_visible;
+use zt_state::{FaceState, GatewayState};
+use zt_tokens::{FaceRule, is_visible, say_each};
 
 // Whether tokens of the region go by trees, as its hat says: whether it is a router region.
 fn goes_by_trees<K: Key>(g: &GatewayState<K>, region: Region) -> bool
@@ -55,27 +56,70 @@ fn is_hidden<K: Key>(g: &GatewayState<K>, source: Region, expr: &K, region: Regi
     goes_by_trees(g, region) && region != source && !is_visible(g, region, expr)
 }
 
-// The branch becomes that for the face's region. Mostly it is already, as that of the face before.
-fn turn_to_shown<'a, K: Key>(
-    g: &'a GatewayState<K>,
+// Whether the tables list more children of the gateway's own than there are faces, so that a walk
+// over the faces is shorter than one over the children.
+fn has_many_children<K: Key>(g: &GatewayState<K>) -> bool {
+    let mut left = g.faces().len();
+    for (_region, table) in g.trees() {
+        let count = table.children_of(g.zid()).len();
+        if count > left {
+            return true;
+        }
+        left -= count;
+    }
+    false
+}
+
+// What a face is sent where its region is newly shown a token of the region `source`.
+#[derive(Drop)]
+struct Shows<'a, K: Key> {
     source: Region,
-    expr: &K,
-    branch: &mut Branch<'a>,
-    region: Region,
-)
-    requires { IsShowing K.cmp g.now source expr.now branch.old.region branch.old.children.now
-        branch.old.node_id }
-    ensures region { branch.new.region ≡ region }
-    ensures shows { IsShowing K.cmp g.now source expr.now branch.new.region branch.new.children.now
-        branch.new.node_id }
-{
-    if region != branch.region {
-        *branch = own_branch(g, region, is_newly_shown(g, source, expr, region));
+    expr: &'a K,
+}
+
+impl<'a, K: Key> FaceRule<K> for Shows<'a, K> {
+    ghost use Rattle.zt_model.specs.Trees.{show_to};
+
+    ghost given = { λ s g. show_to K.cmp g s.source s.expr.now };
+
+    fn say(
+        &self,
+        alloc: Global,
+        g: &GatewayState<K>,
+        f: &FaceState<K>,
+        sends: &mut Vec<(u32, Message<K>)>,
+    ) -> Result<(), Memory> {
+        let goes_on = is_newly_shown(g, self.source, self.expr, f.region());
+        let branch = own_branch(g, f.region(), goes_on);
+        pass_to(alloc, g, &branch, self.expr, f, sends)
     }
 }
 
+// Adds the numbers of the faces that the gateway's own tokens go on to by the table of a region, if
+// this is newly shown a token of the region `source`.
+fn note_shown<K: Key>(
+    g: &GatewayState<K>,
+    source: Region,
+    expr: &K,
+    region: Region,
+    table: &KeptTable,
+    numbers: &mut Vec<u32>,
+) -> Result<(), Memory>
+    ensures { OnOk result (Notes (is_shown_by K.cmp g.now source expr.now (region, table.now))
+        numbers.old.items numbers.new.items) }
+{
+    let children = table.children_of(g.zid());
+    if children.is_empty() {
+        return Ok(());
+    }
+    if is_newly_shown(g, source, expr, region) {
+        note_children(g, region, children, numbers)?;
+    }
+    Ok(())
+}
+
 /// The gateway shows a token of the region `source` in its router regions that are newly shown it.
-/// Where it was handed no table there is nobody to tell. The only error is want of memory.
+/// Where it was handed no table there is nobody to tell.
 pub fn show<K: Key>(
     alloc: Global,
     g: &GatewayState<K>,
@@ -85,20 +129,15 @@ pub fn show<K: Key>(
     ensures { IfOk result (λ sends. sends.items
         ≡ to_each (show_to K.cmp g.now source expr.now) g.now.faces) }
 {
-    let mut sends = Vec::new(alloc);
-    if g.trees().is_empty() {
-        return Ok(sends);
+    let rule = Shows { source, expr };
+    if has_many_children(g) {
+        return say_each(alloc, g, &rule);
     }
-    let mut branch = own_branch(
-        g,
-        Region::North,
-        is_newly_shown(g, source, expr, Region::North),
-    );
-    for f in g.faces() {
-        turn_to_shown(g, source, expr, &mut branch, f.region());
-        pass_to(alloc, g, &branch, expr, f, &mut sends)?;
+    let mut numbers = Vec::new(alloc);
+    for (region, table) in g.trees() {
+        note_shown(g, source, expr, *region, table, &mut numbers)?;
     }
-    Ok(sends)
+    say_among(alloc, g, numbers, &rule)
 }
 
 // Adds the region, if it is a router region that is newly shown the token.
@@ -119,8 +158,7 @@ fn add_newly_shown<K: Key>(
     Ok(())
 }
 
-/// The router regions that are newly shown a token of the region `source`. The only error is want
-/// of memory.
+/// The router regions that are newly shown a token of the region `source`.
 pub fn newly_shown<K: Key>(
     alloc: Global,
     g: &GatewayState<K>,
@@ -155,7 +193,7 @@ fn is_hidden_at<K: Key>(
 }
 
 // Adds the region of an origin, if the gateway has an own row of the expression there and the
-// region can't see it any more. The only error is want of memory.
+// region can't see it any more.
 fn add_hidden<K: Key>(
     g: &GatewayState<K>,
     source: Region,
@@ -175,7 +213,7 @@ fn add_hidden<K: Key>(
 }
 
 /// The router regions in which the gateway has an own row of an expression that they can't see any
-/// more, since it is gone from the region `source`. The only error is want of memory.
+/// more, since it is gone from the region `source`.
 pub fn hidden_regions<K: Key>(
     alloc: Global,
     g: &GatewayState<K>,
@@ -192,28 +230,57 @@ pub fn hidden_regions<K: Key>(
     Ok(regions)
 }
 
-// The branch becomes that for the face's region. Mostly it is already, as that of the face before.
-fn turn_to_hidden<'a, K: Key>(
-    g: &'a GatewayState<K>,
+// What a face is sent where its region can't see the expression any more, which is gone from the
+// region `source`.
+#[derive(Drop)]
+struct Hides<'a, K: Key> {
     source: Region,
-    expr: &K,
-    branch: &mut Branch<'a>,
-    region: Region,
-)
-    requires { IsHiding K.cmp g.now source expr.now branch.old.region branch.old.children.now
-        branch.old.node_id }
-    ensures region { branch.new.region ≡ region }
-    ensures hides { IsHiding K.cmp g.now source expr.now branch.new.region branch.new.children.now
-        branch.new.node_id }
-{
-    if region != branch.region {
-        *branch = own_branch(g, region, is_hidden(g, source, expr, region));
+    expr: &'a K,
+}
+
+impl<'a, K: Key> FaceRule<K> for Hides<'a, K> {
+    ghost use Rattle.zt_model.specs.Trees.{hide_to};
+
+    ghost given = { λ h g. hide_to K.cmp g h.source h.expr.now };
+
+    fn say(
+        &self,
+        alloc: Global,
+        g: &GatewayState<K>,
+        f: &FaceState<K>,
+        sends: &mut Vec<(u32, Message<K>)>,
+    ) -> Result<(), Memory> {
+        let goes_on = is_hidden(g, self.source, self.expr, f.region());
+        let branch = own_branch(g, f.region(), goes_on);
+        unpass_to(alloc, g, &branch, self.expr, f, sends)
     }
 }
 
+// Adds the numbers of the faces that the gateway's own tokens go on to by the table of a region, if
+// this can't see the expression any more, which is gone from the region `source`.
+fn note_hidden<K: Key>(
+    g: &GatewayState<K>,
+    source: Region,
+    expr: &K,
+    region: Region,
+    table: &KeptTable,
+    numbers: &mut Vec<u32>,
+) -> Result<(), Memory>
+    ensures { OnOk result (Notes (is_hidden_by K.cmp g.now source expr.now (region, table.now))
+        numbers.old.items numbers.new.items) }
+{
+    let children = table.children_of(g.zid());
+    if children.is_empty() {
+        return Ok(());
+    }
+    if is_hidden(g, source, expr, region) {
+        note_children(g, region, children, numbers)?;
+    }
+    Ok(())
+}
+
 /// The gateway hides an expression that is gone from the region `source` in its router regions that
-/// can't see it now. Where it was handed no table there is nobody to tell. The only error is want
-/// of memory.
+/// can't see it now. Where it was handed no table there is nobody to tell.
 pub fn hide<K: Key>(
     alloc: Global,
     g: &GatewayState<K>,
@@ -223,14 +290,13 @@ pub fn hide<K: Key>(
     ensures { IfOk result (λ sends. sends.items
         ≡ to_each (hide_to K.cmp g.now source expr.now) g.now.faces) }
 {
-    let mut sends = Vec::new(alloc);
-    if g.trees().is_empty() {
-        return Ok(sends);
+    let rule = Hides { source, expr };
+    if has_many_children(g) {
+        return say_each(alloc, g, &rule);
     }
-    let mut branch = own_branch(g, Region::North, is_hidden(g, source, expr, Region::North));
-    for f in g.faces() {
-        turn_to_hidden(g, source, expr, &mut branch, f.region());
-        unpass_to(alloc, g, &branch, expr, f, &mut sends)?;
+    let mut numbers = Vec::new(alloc);
+    for (region, table) in g.trees() {
+        note_hidden(g, source, expr, *region, table, &mut numbers)?;
     }
-    Ok(sends)
+    say_among(alloc, g, numbers, &rule)
 }

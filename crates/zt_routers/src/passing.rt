@@ -4,6 +4,7 @@ ghost use Rattle.zt_model.specs.Trees.{is_face_of_router, pass_on, unpass};
 ghost use Rattle.zt_routers.specs.Branches.{IsBranchOf, IsOwnBranch};
 ghost use Rattle.zt_routers.specs.Branches.{is_reached, passed, unpassed};
 
+use crate::reaching::say_to_children;
 use crate::tables::table_in;
 use std::alloc::Global;
 use zt_keys::{Key, Memory};
@@ -11,6 +12,7 @@ use zt_link_state::is_child_among;
 use zt_protocol::Message;
 use zt_region::{NodeId, Region, Zid};
 use zt_state::{FaceState, GatewayState};
+use zt_tokens::FaceRule;
 
 // Whether the face stands for its router.
 pub(crate) fn is_face_of_router<K: Key>(g: &GatewayState<K>, f: &FaceState<K>) -> bool
@@ -130,7 +132,55 @@ pub(crate) fn unpass_to<K: Key>(
     Ok(())
 }
 
-/// A token of a source goes on to its children. The only error is want of memory.
+// A token of a source goes on along a branch.
+#[derive(Drop)]
+struct Passes<'a, K: Key> {
+    branch: Branch<'a>,
+    expr: &'a K,
+}
+
+impl<'a, K: Key> FaceRule<K> for Passes<'a, K> {
+    ghost use Rattle.zt_routers.specs.Branches.{passed};
+
+    ghost given = { λ p g.
+        passed g p.branch.region p.branch.children.now p.branch.node_id p.expr.now };
+
+    fn say(
+        &self,
+        alloc: Global,
+        g: &GatewayState<K>,
+        f: &FaceState<K>,
+        sends: &mut Vec<(u32, Message<K>)>,
+    ) -> Result<(), Memory> {
+        pass_to(alloc, g, &self.branch, self.expr, f, sends)
+    }
+}
+
+// A token of a source that is gone went on along a branch.
+#[derive(Drop)]
+struct Unpasses<'a, K: Key> {
+    branch: Branch<'a>,
+    expr: &'a K,
+}
+
+impl<'a, K: Key> FaceRule<K> for Unpasses<'a, K> {
+    ghost use Rattle.zt_routers.specs.Branches.{unpassed};
+
+    ghost given = { λ p g.
+        unpassed g p.branch.region p.branch.children.now p.branch.node_id p.expr.now };
+
+    fn say(
+        &self,
+        alloc: Global,
+        g: &GatewayState<K>,
+        f: &FaceState<K>,
+        sends: &mut Vec<(u32, Message<K>)>,
+    ) -> Result<(), Memory> {
+        unpass_to(alloc, g, &self.branch, self.expr, f, sends)
+    }
+}
+
+/// A token of a source goes on to its children.
 pub fn pass_on<K: Key>(
     alloc: Global,
     g: &GatewayState<K>,
@@ -141,14 +191,11 @@ pub fn pass_on<K: Key>(
     ensures { IfOk result (λ sends. sends.items ≡ pass_on K.cmp region source expr.now g.now) }
 {
     let branch = branch_of(g, region, source);
-    let mut sends = Vec::new(alloc);
-    for f in g.faces() {
-        pass_to(alloc, g, &branch, expr, f, &mut sends)?;
-    }
-    Ok(sends)
+    let children = branch.children;
+    say_to_children(alloc, g, region, children, &Passes { branch, expr })
 }
 
-/// That a token of a source is gone goes on to its children. The only error is want of memory.
+/// That a token of a source is gone goes on to its children.
 pub fn unpass<K: Key>(
     alloc: Global,
     g: &GatewayState<K>,
@@ -159,9 +206,6 @@ pub fn unpass<K: Key>(
     ensures { IfOk result (λ sends. sends.items ≡ unpass K.cmp region source expr.now g.now) }
 {
     let branch = branch_of(g, region, source);
-    let mut sends = Vec::new(alloc);
-    for f in g.faces() {
-        unpass_to(alloc, g, &branch, expr, f, &mut sends)?;
-    }
-    Ok(sends)
+    let children = branch.children;
+    say_to_children(alloc, g, region, children, &Unpasses { branch, expr })
 }

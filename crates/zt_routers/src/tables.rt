@@ -19,8 +19,7 @@ pub(crate) fn table_in<K: Key>(g: &GatewayState<K>, region: Region) -> Option<&K
     g.table_of(region)
 }
 
-/// A table that counts as that of a region; an empty one where it was handed none. The only error
-/// is want of memory.
+/// A table that counts as that of a region; an empty one where it was handed none.
 #[tactic(auto, unfolding(zt_model::specs::Trees::counted_table))]
 pub fn table_of<K: Key>(
     alloc: Global,

@@ -36,7 +36,7 @@ impl<K: Key> FaceChange<K> for Unhold {
     }
 }
 
-// The face of the number asks. The only error is want of memory.
+// The face of the number asks.
 fn ask_in<K: Key>(
     alloc: Global,
     faces: &mut Faces<K>,
@@ -74,8 +74,7 @@ fn unhold_in<K: Key>(faces: &mut Faces<K>, seekers: &mut Seekers<K>, face: u32, 
 #[tactic(auto, unfolding(zt_model::specs::Parts::with_face))]
 impl<K: Key> GatewayState<K> {
     /// The face holds an interest that asks for what comes later, and asks one that asks for what
-    /// is there now, which was sent upstream as these, each a face and an id. The only error is
-    /// want of memory.
+    /// is there now, which was sent upstream as these, each a face and an id.
     pub fn ask(
         &mut self,
         alloc: Global,

@@ -29,7 +29,7 @@ pub trait QuietAddition<K: Key>: FaceAddition<K> {
     ghost keeps_live: { (c : Self) (f : Face K) → KeepsLive f (Self.added c f) };
 }
 
-// Nothing is left, after want of memory.
+// Nothing is left, after an allocation failed.
 pub(crate) fn empty<K: Key>(
     alloc: Global,
     faces: &mut Faces<K>,
@@ -57,8 +57,7 @@ impl<K: Key> GatewayState<K> {
         self.faces.change(number, change);
     }
 
-    // Changes the face of a number in what it neither declares nor holds, nor was told. The only
-    // error is want of memory.
+    // Changes the face of a number in what it neither declares nor holds, nor was told.
     pub(crate) fn add_to_face<C: QuietAddition<K>>(
         &mut self,
         alloc: Global,

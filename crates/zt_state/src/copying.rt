@@ -8,7 +8,7 @@ use zt_keys::{Key, Memory};
 use zt_link_state::KeptTable;
 use zt_region::Region;
 
-// The same tables. The only error is want of memory.
+// The same tables.
 fn copy_trees(
     alloc: Global,
     trees: &BTreeMap<Region, KeptTable>,
@@ -23,7 +23,7 @@ fn copy_trees(
 }
 
 impl<K: Key> GatewayState<K> {
-    /// An equal gateway. The only error is want of memory.
+    /// An equal gateway.
     pub fn copy(&self, alloc: Global) -> Result<Self, Memory>
         ensures { IfOk result (λ copy. copy ≡ self.now) }
     {

@@ -33,7 +33,7 @@ use zt_region::{Admission, Region, WhatAmI, Zid};
 use zt_token_index::Seekers;
 
 /// A gateway: its settings, its open faces in order of number, the tokens of its router regions,
-/// the tables of these, and the numbers of expressions. A change that lacked memory may be half
+/// the tables of these, and the numbers of expressions. A change that ran out of memory may be half
 /// made: such changes are for a copy that is dropped then.
 #[derive(Drop)]
 pub struct GatewayState<K: Key> {
@@ -220,7 +220,7 @@ impl<K: Key> GatewayState<K> {
 
     /// The numbers of the faces that may be told of the expression, in order: those to the north,
     /// and those that hold an interest in its tokens. A look-up. `None` where the expression can't
-    /// be looked up, as a key expression with wild ends. The only error is want of memory.
+    /// be looked up, as a key expression with wild ends.
     pub fn find_seekers(&self, alloc: Global, expr: &K) -> Result<Option<Vec<u32>>, Memory>
         ensures rising { IsRising (λ f. f.number) self.now.faces }
         ensures found { IfOk result (λ found. IfSome found (λ numbers. numbers.items
@@ -256,7 +256,8 @@ impl<K: Key> GatewayState<K> {
         self.seekers.interests_in(about)
     }
 
-    /// The open face of this number. Found at once where none below it was closed, else by halves.
+    /// The open face of this number. Found at once where none below it was closed, else by binary
+    /// search.
     pub fn find_face(&self, number: u32) -> Option<&FaceState<K>>
         ensures { option_copied result ≡ find_face number self.now }
     {
@@ -271,7 +272,7 @@ impl<K: Key> GatewayState<K> {
         self.faces.asker(face, id)
     }
 
-    /// The lowest open face of a region behind which the router stands. Found by halves.
+    /// The lowest open face of a region behind which the router stands. Found by binary search.
     pub fn find_face_of(&self, region: Region, zid: Zid) -> Option<&FaceState<K>>
         ensures { option_copied result
             ≡ first_where (λ f. region_eq f.region region && zid_eq f.zid zid) self.now.faces }

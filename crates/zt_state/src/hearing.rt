@@ -39,7 +39,7 @@ impl<'a, K: Key> FaceAddition<K> for Hears<'a, K> {
     }
 }
 
-// The face of the number is sent a message. The only error is want of memory, or of ids.
+// The face of the number is sent a message. Ids that run out count as out of memory.
 fn hear_in<K: Key>(
     alloc: Global,
     faces: &mut Faces<K>,
@@ -66,7 +66,7 @@ fn hear_in<K: Key>(
 }
 
 impl<K: Key> GatewayState<K> {
-    // The face of the number is sent a message. The only error is want of memory, or of ids.
+    // The face of the number is sent a message. Ids that run out count as out of memory.
     #[tactic(auto, unfolding(zt_model::specs::Parts::with_face))]
     fn hear_at(&mut self, alloc: Global, face: u32, message: &Message<K>) -> Result<(), Memory>
         ensures { OnOk result (self.new
@@ -94,7 +94,7 @@ impl<K: Key> GatewayState<K> {
         }
     }
 
-    /// A face hears a message that it is sent. The only error is want of memory, or of ids.
+    /// A face hears a message that it is sent. Ids that run out count as out of memory.
     #[tactic(auto, using(crate::proofs::Heard::one_heard))]
     pub fn hear(&mut self, alloc: Global, face: u32, message: &Message<K>) -> Result<(), Memory>
         ensures { OnOk result (self.new ≡ rows_heard K.cmp ((face, message.now) ∷ []) self.old) }
@@ -102,8 +102,8 @@ impl<K: Key> GatewayState<K> {
         self.hear_at(alloc, face, message)
     }
 
-    /// Each face hears the messages that it is sent, in their order. The only error is want of
-    /// memory, or of ids.
+    /// Each face hears the messages that it is sent, in their order. Ids that run out count as out
+    /// of memory.
     pub fn hear_all(&mut self, alloc: Global, sends: &[(u32, Message<K>)]) -> Result<(), Memory>
         ensures { OnOk result (self.new ≡ rows_heard K.cmp sends.now self.old) }
     {

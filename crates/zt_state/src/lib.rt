@@ -16,6 +16,5 @@ mod routed;
 pub use gateway::GatewayState;
 pub use zt_face::{
     AskState, FaceState, LocalInterests, LocalTokens, PendingInterest, RemoteInterest, RowsById,
-    is_among,
 };
 pub use zt_faces::Asker;

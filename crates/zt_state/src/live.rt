@@ -82,8 +82,7 @@ fn uncount<K: Key>(live: &mut LiveCounts<K>, f: &FaceState<K>, id: TokenId)
     }
 }
 
-// A token of the id is counted in place of the one that was there, if any. The only error is want
-// of memory.
+// A token of the id is counted in place of the one that was there, if any.
 fn recount<K: Key>(
     alloc: Global,
     live: &mut LiveCounts<K>,
@@ -109,7 +108,7 @@ fn uncount_all<K: Key>(live: &mut LiveCounts<K>, f: &FaceState<K>)
     }
 }
 
-// The face of the number declares a token. The only error is want of memory.
+// The face of the number declares a token.
 fn register_in<K: Key>(
     alloc: Global,
     faces: &mut Faces<K>,
@@ -169,7 +168,7 @@ fn close_in<K: Key>(
 
 #[tactic(auto, unfolding(zt_model::specs::Parts::with_face))]
 impl<K: Key> GatewayState<K> {
-    /// The face declares a token under an id. The only error is want of memory.
+    /// The face declares a token under an id.
     pub fn register(
         &mut self,
         alloc: Global,

@@ -13,7 +13,7 @@ use zt_keys::{Key, Memory};
 use zt_lookups::Dictionary;
 use zt_protocol::QueryableInfo;
 
-// The expressions of queryables get numbers, in this order. The only error is want of memory.
+// The expressions of queryables get numbers, in this order.
 #[tactic(auto, unfolding(zt_model::specs::Entities::numbered_with))]
 fn number_queryables<K: Key>(
     alloc: Global,
@@ -29,7 +29,7 @@ fn number_queryables<K: Key>(
     Ok(())
 }
 
-// The expressions of a face's entities get numbers. The only error is want of memory.
+// The expressions of a face's entities get numbers.
 #[tactic(auto, using(crate::proofs::Numbered::numbered_with_both))]
 fn number_entities<K: Key>(
     alloc: Global,
@@ -77,16 +77,14 @@ impl<'a, K: Key> QuietAddition<K> for SetsEntities<'a, K> {
 }
 
 impl<K: Key> GatewayState<K> {
-    /// Expressions get numbers, in this order, that have none yet. The only error is want of
-    /// memory.
+    /// Expressions get numbers, in this order, that have none yet.
     pub fn give_numbers(&mut self, alloc: Global, exprs: &[K]) -> Result<(), Memory>
         ensures { OnOk result (self.new ≡ with_numbers K.cmp exprs.now self.old) }
     {
         self.dictionary.number_all(alloc, exprs)
     }
 
-    /// The face's subscribers and queryables are replaced, and their expressions get numbers. The
-    /// only error is want of memory.
+    /// The face's subscribers and queryables are replaced, and their expressions get numbers.
     #[tactic(auto, unfolding(zt_model::specs::Parts::with_face))]
     pub fn set_entities(
         &mut self,

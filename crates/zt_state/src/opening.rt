@@ -15,8 +15,7 @@ use zt_keys::{Key, Memory};
 use zt_region::{Bound, Region, WhatAmI, Zid};
 use zt_token_index::Seekers;
 
-// A face opens that holds nothing and was told nothing yet, under a number above `made`. The only
-// error is want of memory.
+// A face opens that holds nothing and was told nothing yet, under a number above `made`.
 fn open_in<K: Key>(
     alloc: Global,
     faces: &mut Faces<K>,
@@ -46,7 +45,7 @@ fn initial_of(mode: WhatAmI, region: Region, bound: Bound) -> Option<bool>
 }
 
 impl<K: Key> GatewayState<K> {
-    // A face opens that has no rows yet, under the next number. The only error is want of memory.
+    // A face opens that has no rows yet, under the next number.
     fn open_next(&mut self, alloc: Global, face: FaceState<K>) -> Result<(), Memory>
         requires room { self.old.made + 1 < 2 ^ 32 }
         requires next { face.number ≡ self.old.made + 1 }
@@ -76,7 +75,7 @@ impl<K: Key> GatewayState<K> {
         }
     }
 
-    /// A session opens, under the next number. The only error is want of memory.
+    /// A session opens, under the next number.
     pub fn open_session(&mut self, alloc: Global, first: u32) -> Result<(), Memory>
         requires { self.old.made + 1 < 2 ^ 32 }
         ensures { OnOk result (self.new ≡ opened_session first self.old) }
@@ -94,7 +93,7 @@ impl<K: Key> GatewayState<K> {
         self.open_next(alloc, session)
     }
 
-    /// The face of a transport opens, under the next number. The only error is want of memory.
+    /// The face of a transport opens, under the next number.
     pub fn open_face(
         &mut self,
         alloc: Global,

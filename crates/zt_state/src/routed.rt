@@ -20,7 +20,7 @@ use zt_keys::{Key, Memory};
 use zt_link_state::{KeptTable, Origin, RoutedTokens, is_left_out};
 use zt_region::{Region, Zid};
 
-// Counts a router's token, where it is another router's. The only error is want of memory.
+// Counts a router's token, where it is another router's.
 fn count_token<K: Key>(
     alloc: Global,
     live: &mut LiveCounts<K>,
@@ -49,7 +49,7 @@ fn uncount_token<K: Key>(live: &mut LiveCounts<K>, zid: Zid, region: Region, sou
     }
 }
 
-// Adds a router's token in its place, where it isn't there yet. The only error is want of memory.
+// Adds a router's token in its place, where it isn't there yet.
 fn add_row<K: Key>(
     alloc: Global,
     routed: &mut RoutedTokens<K>,
@@ -205,7 +205,7 @@ impl<K: Key> GatewayState<K> {
         }
     }
 
-    /// A router declares a token in a region. The only error is want of memory.
+    /// A router declares a token in a region.
     #[tactic(auto, unfolding(zt_model::specs::Trees::with_routed))]
     pub fn add_routed(
         &mut self,
@@ -239,7 +239,7 @@ impl<K: Key> GatewayState<K> {
         }
     }
 
-    /// The gateway shows the expression in these regions. The only error is want of memory.
+    /// The gateway shows the expression in these regions.
     #[tactic(auto, unfolding(zt_model::specs::Trees::with_own_rows))]
     pub fn add_own_rows(
         &mut self,
@@ -256,7 +256,7 @@ impl<K: Key> GatewayState<K> {
         Ok(())
     }
 
-    /// The table of a router region is kept as it was handed in. The only error is want of memory.
+    /// The table of a router region is kept as it was handed in.
     pub fn keep_table(&mut self, region: Region, table: KeptTable) -> Result<(), Memory>
         ensures { OnOk result (self.new ≡ with_table K.cmp region table self.old) }
     {

@@ -21,7 +21,7 @@ use std::alloc::Global;
 use zt_keys::{Key, Memory};
 use zt_protocol::{InterestId, InterestMode, InterestOptions, Message, TokenId};
 use zt_region::Region;
-use zt_state::{AskState, Asker, FaceState, GatewayState, RemoteInterest, is_among};
+use zt_state::{AskState, Asker, FaceState, GatewayState, RemoteInterest};
 use zt_token_index::id_in;
 
 // Whether the interest asks for tokens that are there now.
@@ -32,7 +32,7 @@ fn asks_now<K: Key>(interest: &RemoteInterest<K>) -> bool
 }
 
 // Of the expressions that are visible to faces of a region those that the interest is about, in key
-// order. The only error is want of memory.
+// order.
 fn asked_expressions<K: Key>(
     alloc: Global,
     g: &GatewayState<K>,
@@ -49,8 +49,7 @@ fn asked_expressions<K: Key>(
 }
 
 /// The expressions that a face is answered at once when it asks so: those that match and are
-/// visible to it, in key order, where it asks for tokens that are there now. The only error is want
-/// of memory.
+/// visible to it, in key order, where it asks for tokens that are there now.
 #[tactic(auto, unfolding(zt_model::specs::Telling::answered_expressions))]
 pub fn answered_expressions<K: Key>(
     alloc: Global,
@@ -80,7 +79,7 @@ fn answer_id(next: u32, known: Option<TokenId>, mode: InterestMode) -> TokenId
 }
 
 // The id that is drawn after the answer of an expression that the face was told under an id, or not
-// at all. Ids that run out count as want of memory.
+// at all. Ids that run out count as out of memory.
 fn id_after(next: u32, known: Option<TokenId>, mode: InterestMode) -> Result<u32, Memory>
     ensures { IfOk result (λ after. after ≡ id_after next known mode) }
 {
@@ -162,8 +161,7 @@ pub fn prepare_answers<K: Key>(alloc: Global, g: &mut GatewayState<K>, interest:
     }
 }
 
-/// What the face's own interest is answered at once. The only error is want of memory; ids that run
-/// out count as it.
+/// What the face's own interest is answered at once. Ids that run out count as out of memory.
 #[tactic(auto, unfolding(zt_model::specs::Parts::to_face))]
 pub fn answer_interest<K: Key>(
     alloc: Global,
@@ -204,9 +202,7 @@ fn is_answered_at<K: Key>(
 ) -> bool
     ensures { result ≡ is_answered_by K.cmp K.matching face id expr.now ask.now }
 {
-    was_sent_as(face, id, place, ask)
-        && ask.interest().asks_token(expr)
-        && !is_among(expr, ask.answered())
+    was_sent_as(face, id, place, ask) && ask.interest().asks_token(expr) && !ask.was_answered(expr)
 }
 
 /// Whether a token that the face declares for the interest which was sent to it as `id` answers the
@@ -313,7 +309,7 @@ fn answer_asker<K: Key>(
 }
 
 /// A token that the face declares for the interest which was sent to it as `id` answers the asks
-/// that were sent so. The only error is want of memory.
+/// that were sent so.
 pub fn answer<K: Key>(
     alloc: Global,
     g: &GatewayState<K>,

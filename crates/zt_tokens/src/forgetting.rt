@@ -205,8 +205,7 @@ impl<'a, K: Key> FaceRule<K> for Forgets<'a, K> {
 }
 
 /// The faces that can't see an expression any more hear that it is gone from a region: Zenoh's
-/// `unpropagate_token`. Those alone are asked that seek it, unless another one was told it. The
-/// only error is want of memory.
+/// `unpropagate_token`. Those alone are asked that seek it, unless another one was told it.
 pub fn forget<K: Key>(
     alloc: Global,
     g: &GatewayState<K>,

@@ -31,7 +31,7 @@ impl<K: Key> KeysInOrder<K> {
         }
     }
 
-    /// Puts a copy of a key in its place, unless it is there. The only error is want of memory.
+    /// Puts a copy of a key in its place, unless it is there.
     pub fn insert(&mut self, alloc: Global, key: &K) -> Result<(), Memory>
         ensures { OnOk result (self.new ≡ with_key K.cmp key.now self.old) }
     {
@@ -39,7 +39,7 @@ impl<K: Key> KeysInOrder<K> {
         Ok(())
     }
 
-    /// The keys as a list. The only error is want of memory.
+    /// The keys as a list.
     pub fn into_vec(self, alloc: Global) -> Result<Vec<K>, Memory>
         ensures { IfOk result (λ keys. keys.items ≡ self) }
     {

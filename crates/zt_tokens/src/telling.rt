@@ -92,8 +92,7 @@ impl<'a, K: Key> FaceRule<K> for TellsSeeker<'a, K> {
     }
 }
 
-/// The faces hear of a token that was declared in a region: Zenoh's `propagate_token`. The only
-/// error is want of memory.
+/// The faces hear of a token that was declared in a region: Zenoh's `propagate_token`.
 pub fn tell<K: Key>(
     alloc: Global,
     g: &GatewayState<K>,

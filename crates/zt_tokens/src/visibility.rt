@@ -8,8 +8,7 @@ use zt_keys::{Key, Memory};
 use zt_region::Region;
 use zt_state::GatewayState;
 
-/// The expressions that are visible to faces of a region, in key order, each once. The only error
-/// is want of memory.
+/// The expressions that are visible to faces of a region, in key order, each once.
 pub fn visible_expressions<K: Key>(
     alloc: Global,
     g: &GatewayState<K>,
@@ -22,7 +21,7 @@ pub fn visible_expressions<K: Key>(
 }
 
 /// The expressions that match the key and are visible to faces of a region, in key order, each
-/// once. The only error is want of memory.
+/// once.
 pub fn visible_matches<K: Key>(
     alloc: Global,
     g: &GatewayState<K>,

@@ -19,7 +19,7 @@ pub trait FaceRule<K: Key> {
     /// What the face is sent.
     ghost given: { Self → Rows K → Face K → List (Message K) };
 
-    /// Adds what the face is sent. The only error is want of memory.
+    /// Adds what the face is sent.
     fn say(
         &self,
         alloc: Global,
@@ -31,7 +31,7 @@ pub trait FaceRule<K: Key> {
             ++ map (λ m. (f.now.number, m)) (given self.now g.now f.now)) };
 }
 
-// Adds what the face of a number is sent, if it is open. The only error is want of memory.
+// Adds what the face of a number is sent, if it is open.
 fn say_to<K: Key, R: FaceRule<K>>(
     alloc: Global,
     g: &GatewayState<K>,
@@ -48,7 +48,7 @@ fn say_to<K: Key, R: FaceRule<K>>(
     }
 }
 
-/// What the faces of these numbers are sent. The only error is want of memory.
+/// What the faces of these numbers are sent.
 pub fn say_at<K: Key, R: FaceRule<K>>(
     alloc: Global,
     g: &GatewayState<K>,
@@ -65,7 +65,7 @@ pub fn say_at<K: Key, R: FaceRule<K>>(
     Ok(sends)
 }
 
-/// What each face is sent. The only error is want of memory.
+/// What each face is sent.
 pub fn say_each<K: Key, R: FaceRule<K>>(
     alloc: Global,
     g: &GatewayState<K>,

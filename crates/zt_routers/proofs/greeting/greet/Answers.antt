@@ -1,22 +1,26 @@
-use Rattle.std.proofs.Common.{◌≤◌, ◌<◌, ap, arith, length, sym, ◌∙◌}
-use Rattle.zt_model.specs.Parts.{to_each}
+use Rattle.std.proofs.Common.{◌≡◌, List, ap, subst, sym, ◌∙◌}
+use Rattle.std.proofs.lemmas.Result.{IfOk-weaker}
+use Rattle.zt_region.specs.declared.region.Zid.{Zid}
+use Rattle.zt_protocol.specs.Plain.{Trees}
 use Rattle.zt_model.specs.Trees.{counted_table, greet_to}
 use Rattle.zt_routers.specs.Greeting.{greeted_by}
-use Rattle.zt_state.proofs.Walks.{to_each_done, to_each_more}
+use Rattle.zt_routers.specs.Reached.{Notes, are_at_new_children}
 use Rattle.zt_routers.proofs.Greetings.{greeted_all, greets_none, to_each_alike}
+use Rattle.zt_routers.proofs.Noted.{counted_children, greets_nobody}
 use Rattle.zt_routers.proofs.greeting.greet.Goals as goal
-
-pub loop-f-preserved : goal.loop-f-preserved
-loop-f-preserved g c =
-    let rule = greeted_by g.K.Ord.cmp c.args.g.now c.args.region (counted_table c.in-Some.table.now) (counted_table c.args.before.now) in
-    let faces = c.faces-f-items.result.now in
-    let within : c.loop-f.f-index < length faces = omega arith in
-    to_each_more rule faces c.loop-f.f-index c.f-item.result c.loop-f.sends.items _ _ within c.f-item.is c.loop-f.invariant c.in_ok-greet_to.ensures
 
 pub returns-in_default : goal.returns-in_default
 returns-in_default g c =
-    c.new-sends.ensures.items
+    c.new.ensures.items
     ∙ sym (greets_none g.K.Ord.cmp c.args.g.now c.args.region (counted_table c.args.before.now) c.in_default.ensures.none c.args.g.now.faces)
+
+pub say_among-requires : goal.say_among-requires
+say_among-requires g c =
+    let before = counted_table c.args.before.now in
+    let t = counted_table c.in-Some.table.now in
+    let listed : c.deref.result.now ≡ t.children = c.deref.ensures.value ∙ ap (λ (u : Trees). u.children) c.table.ensures ∙ counted_children c.in-Some.table.now in
+    let notes = subst (λ (cs : List (Zid × Zid)). Notes (are_at_new_children c.args.g.now c.args.region before cs) c.new-numbers.result.items c.note_new_children.new.numbers.items) listed c.in_ok-note_new_children.ensures in
+    greets_nobody c.args.g.now c.args.region before g.K.Ord.cmp t c.new-numbers.result.items c.note_new_children.new.numbers.items notes
 
 pub returns : goal.returns
 returns g c =
@@ -25,8 +29,6 @@ returns g c =
     let before = counted_table c.args.before.now in
     let t = counted_table c.in-Some.table.now in
     let rule = greeted_by cmp rows c.args.region t before in
-    let faces = c.faces-f-items.result.now in
-    let past : length faces ≤ c.loop-f.f-index = omega arith in
-    to_each_done rule faces c.loop-f.f-index c.loop-f.sends.items _ past c.loop-f.invariant
-    ∙ ap (to_each rule) c.faces-f-items.ensures
-    ∙ to_each_alike rule (greet_to cmp rows c.args.region before) (greeted_all cmp rows c.args.region before t c.in-Some.ensures.some) rows.faces
+    IfOk-weaker c.say_among.result _ _
+    (λ sends given. given ∙ to_each_alike rule (greet_to cmp rows c.args.region before) (greeted_all cmp rows c.args.region before t c.in-Some.ensures.some) rows.faces)
+    c.say_among.ensures

@@ -1,44 +1,22 @@
-use Rattle.std.proofs.Common.{◌≡◌, ◌++◌, [], sym, ◌≤◌, ◌<◌, ap, length, map, arith, refl, subst, ◌∙◌}
-use Rattle.zt_model.specs.Parts.{to_each}
-use Rattle.zt_model.specs.Trees.{hide_to, is_hidden}
-use Rattle.zt_state.proofs.Walks.{to_each_done, to_each_more}
-use Rattle.zt_routers.specs.Branches.{IsOwnBranch}
-use Rattle.zt_routers.proofs.Branches.{hidden_to}
-use Rattle.zt_routers.proofs.Treeless.{empty_of, hides_none}
+use Rattle.std.proofs.Common.{◌≡◌, [], ◌∙◌}
+use Rattle.zt_protocol.specs.Plain.{Trees}
+use Rattle.zt_region.specs.declared.region.Region.{Region}
+use Rattle.zt_routers.specs.Reached.{is_hidden_by}
+use Rattle.zt_routers.proofs.Noted.{notes_all, notes_more, notes_none, hides_none}
 use Rattle.zt_routers.proofs.own.hide.Goals as goal
 
-pub returns-then-is_empty : goal.returns-then-is_empty
-returns-then-is_empty g c =
-    let none : c.args.g.now.trees ≡ [] = empty_of _ c.args.g.now.trees c.trees.ensures (c.is_empty.ensures.0 c.if-is_empty.true) in
-    c.new-sends.ensures.items ∙ sym (hides_none g.K.Ord.cmp c.args.g.now none c.args.source c.args.expr.now c.args.g.now.faces)
+pub loop-region-init : goal.loop-region-init
+loop-region-init g c =
+    let all : c.into_iter-region-iterator.result ≡ c.args.g.now.trees = c.into_iter-region-iterator.ensures.into_iter_gives.0 ∙ c.trees-region-items.ensures in
+    rw (c.new-numbers.ensures.items, all) (notes_none (is_hidden_by g.K.Ord.cmp c.args.g.now c.args.source c.args.expr.now) c.args.g.now.trees [])
 
-pub loop-f-init : goal.loop-f-init
-loop-f-init g c =
-    let branch = c.own_branch-branch.result in
-    let is : c.is_hidden.result ≡ is_hidden g.K.Ord.cmp c.args.g.now c.args.source c.args.expr.now branch.region = rw c.own_branch-branch.ensures.region c.is_hidden.ensures in
-    record {
-      sent = rw c.new-sends.ensures.items refl;
-      hides = subst (λ goes_on. IsOwnBranch c.args.g.now branch.region goes_on branch.children.now branch.node_id) is c.own_branch-branch.ensures.branch;
-    }
+pub loop-region-preserved : goal.loop-region-preserved
+loop-region-preserved g c =
+    let x : Region × Trees = (c.in-Some.region.now, c.in-Some.table.now) in
+    notes_more (is_hidden_by g.K.Ord.cmp c.args.g.now c.args.source c.args.expr.now) c.args.g.now.trees x _ _ _ _ _ c.in-Some.ensures.steps c.loop-region.invariant c.in_ok-note_hidden.ensures
 
-pub loop-f-preserved : goal.loop-f-preserved
-loop-f-preserved g c =
-    let rule = hide_to g.K.Ord.cmp c.args.g.now c.args.source c.args.expr.now in
-    let faces = c.faces-f-items.result.now in
-    let f = c.f-item.result in
-    let turned = c.turn_to_hidden in
-    let branch = turned.new.branch in
-    let within : c.loop-f.f-index < length faces = omega arith in
-    record {
-      sent =
-          to_each_more rule faces c.loop-f.f-index f c.loop-f.sends.items _ _ within c.f-item.is c.loop-f.invariant.sent
-          (c.in_ok-unpass_to.ensures ∙ ap (λ ms. c.loop-f.sends.items ++ map (λ m. (f.number, m)) ms) (hidden_to g.K.Ord.cmp c.args.g.now c.args.source c.args.expr.now branch.region branch.children.now branch.node_id turned.ensures.hides f (sym (turned.ensures.region ∙ c.region.ensures))));
-      hides = turned.ensures.hides;
-    }
-
-pub returns : goal.returns
-returns g c =
-    let rule = hide_to g.K.Ord.cmp c.args.g.now c.args.source c.args.expr.now in
-    let faces = c.faces-f-items.result.now in
-    let past : length faces ≤ c.loop-f.f-index = omega arith in
-    to_each_done rule faces c.loop-f.f-index c.loop-f.sends.items _ past c.loop-f.invariant.sent ∙ ap (to_each rule) c.faces-f-items.ensures
+pub say_among-requires : goal.say_among-requires
+say_among-requires g c =
+    let numbers = c.loop-region.numbers.items in
+    hides_none g.K.Ord.cmp c.args.g.now c.args.source c.args.expr.now [] numbers
+    (notes_all (is_hidden_by g.K.Ord.cmp c.args.g.now c.args.source c.args.expr.now) c.args.g.now.trees _ [] numbers c.in-None.ensures.steps.0 c.loop-region.invariant)

@@ -1,13 +1,8 @@
-use Rattle.std.proofs.Common.{◌≡◌, ◌++◌, drop}
-use Rattle.zt_model.specs.Parts.{to_each}
-use Rattle.zt_model.specs.Trees.{show_to}
-use Rattle.zt_routers.specs.Branches.{IsShowing}
+use Rattle.std.proofs.Common.{[]}
+use Rattle.zt_routers.specs.Reached.{is_shown_by}
+use Rattle.zt_routers.proofs.Noted.{NotesBut}
 use Rattle.zt_routers.proofs.own.show.Given as goal
 
--- what is sent so far, and to the faces left, is all
-abbrev pub invariant-loop-f : goal.invariant-loop-f
-invariant-loop-f g l = record {
-  sent : l.sends.items ++ to_each (show_to g.K.Ord.cmp l.g l.source l.expr) (drop l.f-index l.f-items)
-      ≡ to_each (show_to g.K.Ord.cmp l.g l.source l.expr) l.f-items;
-  shows : IsShowing g.K.Ord.cmp l.g l.source l.expr l.branch.region l.branch.children.now l.branch.node_id;
-}
+-- the faces that the gateway's own tokens go on to are noted, but for those by the tables left
+abbrev pub invariant-loop-region : goal.invariant-loop-region
+invariant-loop-region g l = NotesBut (is_shown_by g.K.Ord.cmp l.g l.source l.expr) l.g.trees l.region-iterator [] l.numbers.items
