@@ -1,5 +1,5 @@
 -- What a query is given, and what waits for it, is what its session was sent for it.
-use Rattle.std.proofs.Common.{◌≡◌, ℕ, ◌==◌, ◌&&◌, Bool, true, false, not, Option, Some, None, List, [], ◌∷◌, ◌++◌, refl, sym, ap, subst, ◌∙◌, eqb-true, eq-eqb, append_assoc}
+use Rattle.std.proofs.Common.{◌≡◌, ℕ, ◌+◌, ◌==◌, ◌&&◌, Bool, true, false, not, ◌||◌, Option, Some, None, List, [], ◌∷◌, ◌++◌, filter, refl, sym, ap, subst, ◌∙◌, eqb-true, eq-eqb, append_assoc}
 use Rattle.std.specs.Option.{is_some}
 use Rattle.std.specs.declared.cmp.Ordering.{Ordering}
 use Rattle.std.proofs.lemmas.Bool.{and_parts}
@@ -10,15 +10,18 @@ use Rattle.zt_protocol.specs.declared.messages.Message.TheVariants as message
 use Rattle.zt_model.specs.Hearing.{messages_for}
 use Rattle.zt_model.specs.Says.{Sends, said}
 use Rattle.zt_laws.proofs.Hearing.{messages_for-append}
-use Rattle.zt_laws.proofs.Lists.{by_test, never}
+use Rattle.std.specs.List.{list_any}
+use Rattle.zt_laws.proofs.Lists.{any-append, by_test, never}
 use Rattle.zt_gateway.specs.Running.{by_face, closed_by}
 use Rattle.zt_liveliness.specs.Books.{has_query, without_queries, without_query}
-use Rattle.zt_liveliness.specs.Lively.{Api, Close, DeclareToken, Expire, Get, Lively, OpenSession, OpenUplink, Receive, TakeReply, TakeSent, UndeclareToken, call_in, carried, done_by, error_in, is_asking, is_uplink, left_after, left_by, reply_by, reply_of, said_if, said_in, unless}
+use Rattle.zt_liveliness.specs.Lively.{Api, Close, DeclareSubscriber, DeclareToken, Expire, Get, Lively, OpenSession, OpenUplink, Receive, TakeReply, TakeSample, TakeSent, UndeclareSubscriber, UndeclareToken, call_in, carried, done_by, error_in, interests_made, is_asking, is_uplink, left_after, left_by, readied, reply_by, reply_of, said_if, said_in, unless}
+use Rattle.zt_liveliness.specs.Mail.{is_awaited}
 use Rattle.zt_liveliness.specs.Queues.{answer_for, answer_in, oldest_answer, without_answer}
 use Rattle.zt_liveliness.specs.Replies.{answered, expressions_of, given_by, given_in, left_after_all, sent_to, stands, stands_through}
 use Rattle.zt_liveliness.specs.declared.answers.Reply.{Reply}
 use Rattle.zt_liveliness.specs.declared.answers.Reply.TheVariants.{Live, Done, NotYet, NoSuchGet}
 use Rattle.zt_liveliness.specs.declared.books.Query.{Query}
+use Rattle.zt_liveliness.specs.declared.books.Session.{Session}
 use Rattle.zt_liveliness.specs.declared.errors.ApiError.{ApiError}
 use Rattle.zt_liveliness.proofs.Sent.{messages_for-by_face, messages_for-other_closed, messages_for-other_taken}
 
@@ -98,6 +101,54 @@ module _ {K : Type 0} where
   answers_one id query (message.InterestFinal i) differ some = refl
   answers_one id query (message.DeclareSubscriber i e interest) differ some = refl
   answers_one id query (message.DeclareQueryable i e info interest) differ some = refl
+
+  -- ---- what is answered, by the messages behind
+
+  answered_behind : (id : ℕ) (m : Message K) (xs ys : List (Message K)) → answered id xs ≡ answered id ys → answered id (m ∷ xs) ≡ answered id (m ∷ ys)
+  answered_behind id m xs ys same_ = by_answer (answer_in id m) refl
+    where
+      by_answer : (o : Option (Option K)) → answer_in id m ≡ o → answered id (m ∷ xs) ≡ answered id (m ∷ ys)
+      by_answer None is = skipped id m xs is ∙ same_ ∙ sym (skipped id m ys is)
+      by_answer (Some None) is = finished id m xs is ∙ sym (finished id m ys is)
+      by_answer (Some (Some e)) is = replied id m xs e is ∙ ap (λ es. e ∷ es) same_ ∙ sym (replied id m ys e is)
+
+  answered_after : (id : ℕ) (ms xs ys : List (Message K)) → answered id xs ≡ answered id ys → answered id (ms ++ xs) ≡ answered id (ms ++ ys)
+  answered_after id [] xs ys same_ = same_
+  answered_after id (m ∷ ms) xs ys same_ = answered_behind id m (ms ++ xs) (ms ++ ys) (answered_after id ms xs ys same_)
+
+  -- what answers no open query doesn't answer this one
+  no_answer_of : (session id : ℕ) (s : ℕ × Message K) (qs : List Query) → has_query session id qs ≡ true → list_any (λ q. is_some (answer_for q.session q.id s)) qs ≡ false → is_some (answer_for session id s) ≡ false
+  no_answer_of session id s [] asks none = never asks refl
+  no_answer_of session id s (q ∷ qs) asks none =
+      by_test (is_some (answer_for q.session q.id s))
+      (λ answers. never refl (rw answers at none))
+      (λ answers. by_test ((session == q.session) && (id == q.id))
+      (λ own.
+      let parts = and_parts (session == q.session) (id == q.id) own in
+      subst (λ (n : ℕ). is_some (answer_for n id s) ≡ false) (sym (eqb-true session q.session parts.0)) (subst (λ (i : ℕ). is_some (answer_for q.session i s) ≡ false) (sym (eqb-true id q.id parts.1)) answers))
+      (λ own. no_answer_of session id s qs (rw own at asks) (rw answers at none)))
+
+  is_none : (o : Option (Option K)) → is_some o ≡ false → o ≡ None
+  is_none None no_ = refl
+  is_none (Some answer) no_ = cc
+
+  -- a query that is open loses no answer
+  awaited_answers : (session id : ℕ) (sessions : List Session) (qs : List Query) (ss : Sends K) (rest : List (Message K)) → has_query session id qs ≡ true
+      → answered id (messages_for session (filter (is_awaited sessions qs) ss) ++ rest) ≡ answered id (messages_for session ss ++ rest)
+  unfolding messages_for
+  awaited_answers session id sessions qs [] rest asks = refl
+  awaited_answers session id sessions qs (s ∷ ss) rest asks =
+      by_test (is_awaited sessions qs s)
+      (λ waits. by_test (session == s.0)
+      (λ own. rw (waits, own) (answered_behind id s.1 (messages_for session (filter (is_awaited sessions qs) ss) ++ rest) (messages_for session ss ++ rest) (awaited_answers session id sessions qs ss rest asks)))
+      (λ own. rw (waits, own) (awaited_answers session id sessions qs ss rest asks)))
+      (λ waits. by_test (session == s.0)
+      (λ own. rw (waits, own) (awaited_answers session id sessions qs ss rest asks ∙ sym (skipped id s.1 (messages_for session ss ++ rest) (is_none (answer_in id s.1) (rw own at (no_answer_of session id s qs asks (neither _ _ waits)))))))
+      (λ own. rw (waits, own) (awaited_answers session id sessions qs ss rest asks)))
+    where
+      neither : (a b : Bool) → (a || b) ≡ false → b ≡ false
+      neither true b is = never refl is
+      neither false b is = is
 
   -- ---- what waits
 
@@ -213,11 +264,21 @@ module _ {K : Type 0} (cmp : K → K → Ordering) (matching : K → K → Bool)
   open_parts : (session id : ℕ) (l : Lively K) → stands session id l ≡ true → (is_asking session id l ≡ true) × (not (is_uplink session l) ≡ true)
   open_parts session id l stood = and_parts (is_asking session id l) (not (is_uplink session l)) stood
 
-  -- the messages for a face of a call that doesn't close it
-  waits_behind : (n : ℕ) (c : PlainCall K) (l : Lively K) → closed_by c ≡ None
-      → messages_for n (carried cmp matching c l).waiting ≡ messages_for n l.waiting ++ messages_for n (said cmp matching c l.rows)
-  waits_behind n c l stays =
-      rw stays (messages_for-append n l.waiting (by_face (said cmp matching c l.rows)) ∙ ap (λ ms. messages_for n l.waiting ++ ms) (messages_for-by_face n (said cmp matching c l.rows)))
+  -- what waits for a query, of messages behind others
+  waits_so : (session id : ℕ) (before ss : Sends K) (l : Lively K) → has_query session id l.queries ≡ true → (rest : List (Message K))
+      → answered id (messages_for session (before ++ filter (is_awaited l.sessions l.queries) (by_face ss)) ++ rest) ≡ answered id (messages_for session before ++ (messages_for session ss ++ rest))
+  waits_so session id before ss l asks rest =
+      let kept = filter (is_awaited l.sessions l.queries) (by_face ss) in
+      ap (λ ms. answered id (ms ++ rest)) (messages_for-append session before kept)
+      ∙ ap (answered id) (append_assoc (messages_for session before) (messages_for session kept) rest)
+      ∙ answered_after id (messages_for session before) (messages_for session kept ++ rest) (messages_for session ss ++ rest)
+      (awaited_answers session id l.sessions l.queries (by_face ss) rest asks ∙ ap (λ ms. answered id (ms ++ rest)) (messages_for-by_face session ss))
+
+  -- what waits for a query of a call that doesn't close its session
+  waits_behind : (session id : ℕ) (c : PlainCall K) (l : Lively K) → closed_by c ≡ None → has_query session id l.queries ≡ true → (rest : List (Message K))
+      → answered id (messages_for session (carried cmp matching c l).waiting ++ rest) ≡ answered id (messages_for session l.waiting ++ (messages_for session (said cmp matching c l.rows) ++ rest))
+  waits_behind session id c l stays asks rest =
+      rw stays (waits_so session id l.waiting (said cmp matching c l.rows) l asks rest)
 
   -- what a call gives and leaves of a query is what there was and what it sends
   abbrev IsStep : ℕ → ℕ → Api K → Lively K → Type 0
@@ -227,7 +288,8 @@ module _ {K : Type 0} (cmp : K → K → Ordering) (matching : K → K → Bool)
 
   -- a call that gives nothing, by what it leaves where it isn't refused
   step_by : (session id : ℕ) (a : Api K) (l : Lively K) → given_by session id a l ≡ []
-      → (stands session id (done_by cmp matching a l) ≡ true → messages_for session (done_by cmp matching a l).waiting ≡ messages_for session l.waiting ++ messages_for session (said_if cmp matching (call_in a l) l))
+      → (stands session id (done_by cmp matching a l) ≡ true → (rest : List (Message K))
+      → answered id (messages_for session (done_by cmp matching a l).waiting ++ rest) ≡ answered id (messages_for session l.waiting ++ (messages_for session (said_if cmp matching (call_in a l) l) ++ rest)))
       → stands session id (left_after cmp matching a l) ≡ true → IsStep session id a l
   unfolding messages_for
   step_by session id a l nothing waits stood = λ rest. rw nothing (cases rest (error_in cmp matching a l) stood)
@@ -235,38 +297,45 @@ module _ {K : Type 0} (cmp : K → K → Ordering) (matching : K → K → Bool)
       cases : (rest : List (Message K)) (o : Option ApiError) → stands session id (unless o (done_by cmp matching a l) l) ≡ true
           → answered id (messages_for session (unless o (done_by cmp matching a l) l).waiting ++ rest)
           ≡ answered id (messages_for session l.waiting ++ (messages_for session (unless o (said_if cmp matching (call_in a l) l) []) ++ rest))
-      cases rest None standing =
-          ap (λ ms. answered id (ms ++ rest)) (waits standing) ∙ ap (answered id) (append_assoc (messages_for session l.waiting) (messages_for session (said_if cmp matching (call_in a l) l)) rest)
+      cases rest None standing = waits standing rest
       cases rest (Some error) standing = refl
 
   step : (session id : ℕ) (a : Api K) (l : Lively K) → stands session id l ≡ true → stands session id (left_after cmp matching a l) ≡ true → IsStep session id a l
   unfolding messages_for
-  step session id OpenSession l stood standing = step_by session id OpenSession l refl (λ _. waits_behind session _ l refl) standing
-  step session id (OpenUplink zid whatami bound) l stood standing = step_by session id (OpenUplink zid whatami bound) l refl (λ _. waits_behind session _ l refl) standing
-  step session id (DeclareToken s key) l stood standing = step_by session id (DeclareToken s key) l refl (λ _. waits_behind session _ l refl) standing
-  step session id (UndeclareToken s i) l stood standing = step_by session id (UndeclareToken s i) l refl (λ _. waits_behind session _ l refl) standing
-  step session id (Get s expr) l stood standing = step_by session id (Get s expr) l refl (λ _. waits_behind session _ l refl) standing
-  step session id (Expire now) l stood standing = step_by session id (Expire now) l refl (λ _. waits_behind session _ l refl) standing
+  step session id OpenSession l stood standing = step_by session id OpenSession l refl (λ _. waits_behind session id _ l refl (open_parts session id l stood).0) standing
+  step session id (OpenUplink zid whatami bound) l stood standing = step_by session id (OpenUplink zid whatami bound) l refl (λ _. waits_behind session id _ l refl (open_parts session id l stood).0) standing
+  step session id (DeclareToken s key) l stood standing = step_by session id (DeclareToken s key) l refl (λ _. waits_behind session id _ l refl (open_parts session id l stood).0) standing
+  step session id (UndeclareToken s i) l stood standing = step_by session id (UndeclareToken s i) l refl (λ _. waits_behind session id _ l refl (open_parts session id l stood).0) standing
+  step session id (Get s expr) l stood standing = step_by session id (Get s expr) l refl (λ _. waits_behind session id _ (readied cmp matching (Get s expr) l) refl still) standing
+    where
+      still : has_query session id (readied cmp matching (Get s expr) l).queries ≡ true
+      still = any-append (λ (q : Query). (session == q.session) && (id == q.id)) l.queries (record { session = s; id = interests_made s l + 1 } ∷ []) ∙ rw (open_parts session id l stood).0 refl
+  step session id (DeclareSubscriber s expr history) l stood standing = step_by session id (DeclareSubscriber s expr history) l refl (λ _. waits_behind session id _ (readied cmp matching (DeclareSubscriber s expr history) l) refl (open_parts session id l stood).0) standing
+  step session id (UndeclareSubscriber s i) l stood standing = step_by session id (UndeclareSubscriber s i) l refl (λ _. waits_behind session id _ l refl (open_parts session id l stood).0) standing
+  step session id (TakeSample s i) l stood standing = λ rest. refl
+  step session id (Expire now) l stood standing = step_by session id (Expire now) l refl (λ _. waits_behind session id _ l refl (open_parts session id l stood).0) standing
   step session id (Receive uplink m) l stood standing = step_by session id (Receive uplink m) l refl (λ _. received m) standing
     where
-      received : (m : Message K) → messages_for session (done_by cmp matching (Receive uplink m) l).waiting ≡ messages_for session l.waiting ++ messages_for session (said_if cmp matching (call_in (Receive uplink m) l) l)
-      received (message.DeclareToken token e interest node) = waits_behind session _ l refl
-      received (message.UndeclareToken token e node) = waits_behind session _ l refl
-      received (message.DeclareFinal interest) = waits_behind session _ l refl
-      received (message.Interest i mode options e) = waits_behind session _ l refl
-      received (message.InterestFinal i) = waits_behind session _ l refl
-      received (message.DeclareSubscriber i e interest) = sym (append-nil (messages_for session l.waiting))
-      received (message.DeclareQueryable i e info interest) = sym (append-nil (messages_for session l.waiting))
+      asks : has_query session id l.queries ≡ true
+      asks = (open_parts session id l stood).0
+
+      received : (m : Message K) (rest : List (Message K)) → answered id (messages_for session (done_by cmp matching (Receive uplink m) l).waiting ++ rest) ≡ answered id (messages_for session l.waiting ++ (messages_for session (said_if cmp matching (call_in (Receive uplink m) l) l) ++ rest))
+      received (message.DeclareToken token e interest node) rest = waits_behind session id _ l refl asks rest
+      received (message.UndeclareToken token e node) rest = waits_behind session id _ l refl asks rest
+      received (message.DeclareFinal interest) rest = waits_behind session id _ l refl asks rest
+      received (message.Interest i mode options e) rest = waits_behind session id _ l refl asks rest
+      received (message.InterestFinal i) rest = waits_behind session id _ l refl asks rest
+      received (message.DeclareSubscriber i e interest) rest = refl
+      received (message.DeclareQueryable i e info interest) rest = refl
   step session id (Close face) l stood standing = step_by session id (Close face) l refl closed standing
     where
-      closed : stands session id (done_by cmp matching (Close face) l) ≡ true
-          → messages_for session (done_by cmp matching (Close face) l).waiting ≡ messages_for session l.waiting ++ messages_for session (said_if cmp matching (call_in (Close face) l) l)
-      closed open_ =
+      closed : stands session id (done_by cmp matching (Close face) l) ≡ true → (rest : List (Message K))
+          → answered id (messages_for session (done_by cmp matching (Close face) l).waiting ++ rest) ≡ answered id (messages_for session l.waiting ++ (messages_for session (said_if cmp matching (call_in (Close face) l) l) ++ rest))
+      closed open_ rest =
           let ss = said_if cmp matching (call_in (Close face) l) l in
           let other = left_open face session id l.queries (open_parts session id (done_by cmp matching (Close face) l) open_).0 in
-          messages_for-append session _ (by_face ss)
-          ∙ ap (λ ms. ms ++ messages_for session (by_face ss)) (messages_for-other_closed session face l.waiting other)
-          ∙ ap (λ ms. messages_for session l.waiting ++ ms) (messages_for-by_face session ss)
+          waits_so session id (filter (λ s. not (face == s.0)) l.waiting) ss l (open_parts session id l stood).0 rest
+          ∙ ap (λ ms. answered id (ms ++ (messages_for session ss ++ rest))) (messages_for-other_closed session face l.waiting other)
   step session id (TakeSent uplink) l stood standing = λ rest.
       by_test (is_uplink uplink l)
       (λ takes. rw takes (ap (λ ms. answered id (ms ++ rest)) (messages_for-other_taken session uplink l.waiting (apart takes))))

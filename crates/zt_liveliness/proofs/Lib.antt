@@ -1,6 +1,13 @@
+mod Alike
 mod AtOnce
+mod Counts
+mod Faces
 mod Given
 mod Gone
+mod Hears
+mod Named
 mod Opened
+mod Seeing
 mod Sent
 mod Walks
+mod Well

@@ -1,7 +1,8 @@
--- Which faces are open, and which queries: what is written down beside what the gateway keeps.
+-- Which faces are open, which queries and which subscribers: what is written down beside what the gateway keeps.
 use Rattle.std.specs.Prelude.{◌≡◌, ℕ, ◌<◌, ◌^◌, Bool, ◌==◌, ◌&&◌, ◌+◌, not, if◌then◌else◌, List, [], ◌∷◌, Option, Some, filter}
 use Rattle.std.specs.List.{list_any}
 use Rattle.zt_model.specs.Lists.{first_where}
+use Rattle.zt_samples.specs.declared.samples.Subscriber.{Subscriber}
 use Rattle.zt_liveliness.specs.declared.books.Session.{Session}
 use Rattle.zt_liveliness.specs.declared.books.Query.{Query}
 
@@ -42,3 +43,13 @@ without_query session id queries = filter (λ q. not ((session == q.session) && 
 -- the queries but those of a session
 abbrev pub without_queries : ℕ → List Query → List Query
 without_queries session queries = filter (λ q. not (session == q.session)) queries
+
+abbrev pub has_subscriber : {K : Type 0} → ℕ → ℕ → List (Subscriber K) → Bool
+has_subscriber session id subscribers = list_any (λ s. (session == s.session) && (id == s.id)) subscribers
+
+abbrev pub without_subscriber : {K : Type 0} → ℕ → ℕ → List (Subscriber K) → List (Subscriber K)
+without_subscriber session id subscribers = filter (λ s. not ((session == s.session) && (id == s.id))) subscribers
+
+-- the subscribers but those of a session
+abbrev pub without_subscribers : {K : Type 0} → ℕ → List (Subscriber K) → List (Subscriber K)
+without_subscribers session subscribers = filter (λ s. not (session == s.session)) subscribers

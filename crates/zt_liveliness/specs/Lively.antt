@@ -1,6 +1,6 @@
 -- A gateway with its sessions and uplinks as a caller sees it, and what each call is: why it is refused, the call of the
 -- gateway that it makes, and what it leaves.
-use Rattle.std.specs.Prelude.{◌≡◌, ℕ, Bool, true, false, ◌==◌, ◌&&◌, ◌||◌, ◌+◌, ◌++◌, not, is_some, if◌then◌else◌, List, [], ◌∷◌, Option, Some, None, option_map}
+use Rattle.std.specs.Prelude.{◌≡◌, ℕ, Bool, true, false, ◌==◌, ◌&&◌, ◌||◌, ◌+◌, ◌++◌, not, is_some, if◌then◌else◌, List, [], ◌∷◌, Option, Some, None, filter, option_map}
 use Rattle.std.specs.declared.cmp.Ordering.{Ordering}
 use Rattle.zt_region.specs.declared.region.Bound.{Bound}
 use Rattle.zt_region.specs.declared.region.Region.TheVariants.{North}
@@ -12,7 +12,8 @@ use Rattle.zt_protocol.specs.declared.errors.CallError.{CallError}
 use Rattle.zt_protocol.specs.declared.errors.CallError.TheVariants as call_error
 use Rattle.zt_protocol.specs.declared.errors.Refusal.{Refusal}
 use Rattle.zt_protocol.specs.declared.errors.Refusal.TheVariants.{UnknownToken}
-use Rattle.zt_protocol.specs.declared.interests.InterestMode.TheVariants.{Current}
+use Rattle.zt_protocol.specs.declared.interests.InterestMode.{InterestMode}
+use Rattle.zt_protocol.specs.declared.interests.InterestMode.TheVariants.{Current, CurrentFuture, Future}
 use Rattle.zt_protocol.specs.declared.messages.Message.{Message}
 use Rattle.zt_model.specs.Journal.{cause_of, rows_after}
 use Rattle.zt_model.specs.Linking.{call_of_message}
@@ -22,27 +23,38 @@ use Rattle.zt_model.specs.Refusals.{on_face}
 use Rattle.zt_model.specs.Rows.{Rows}
 use Rattle.zt_model.specs.Says.{Sends, said}
 use Rattle.zt_gateway.specs.Running.{by_face, closed_by, oldest_for, without_closed, without_oldest}
-use Rattle.zt_liveliness.specs.Books.{find_session, has_query, has_uplink, with_interest_made, with_session, with_token_made, without_queries, without_query, without_session, without_uplink}
+use Rattle.zt_samples.specs.Samples.{oldest_sample, started, without_news, without_news_of_session, without_sample}
+use Rattle.zt_samples.specs.Samples as samples
+use Rattle.zt_samples.specs.declared.samples.News.{News}
+use Rattle.zt_samples.specs.declared.samples.Sample.{Sample}
+use Rattle.zt_samples.specs.declared.samples.Subscriber.{Subscriber}
+use Rattle.zt_samples.specs.declared.samples.Told.{Told}
+use Rattle.zt_liveliness.specs.Books.{find_session, has_query, has_subscriber, has_uplink, with_interest_made, with_session, with_token_made, without_queries, without_query, without_session, without_subscriber, without_subscribers, without_uplink}
+use Rattle.zt_liveliness.specs.Mail.{is_awaited, news_in_all, told_after_all}
 use Rattle.zt_liveliness.specs.Queues.{oldest_answer, without_answer}
 use Rattle.zt_liveliness.specs.declared.answers.Reply.{Reply}
 use Rattle.zt_liveliness.specs.declared.answers.Reply.TheVariants.{Live, Done, NotYet, NoSuchGet}
 use Rattle.zt_liveliness.specs.declared.books.Query.{Query}
 use Rattle.zt_liveliness.specs.declared.books.Session.{Session}
 use Rattle.zt_liveliness.specs.declared.errors.ApiError.{ApiError}
-use Rattle.zt_liveliness.specs.declared.errors.ApiError.TheVariants.{NoSuchFace, NoSuchToken, Spent, Refused, Memory}
+use Rattle.zt_liveliness.specs.declared.errors.ApiError.TheVariants.{NoSuchFace, NoSuchToken, NoSuchSubscriber, Spent, Refused, Memory}
 
--- What the gateway keeps, the messages that wait, each with its face's number, the oldest first, the sessions and the
--- uplinks that are open, and the queries whose end wasn't given.
+-- What the gateway keeps; the replies and the messages for uplinks that wait, each with its face's number, the oldest
+-- first; the sessions and the uplinks that are open, the queries whose end wasn't given, and the subscribers; what
+-- sessions were told; and the samples that wait, the oldest first.
 pub record Lively (K : Type 0) : Type 0 where
   pub rows : Rows K
   pub waiting : Sends K
   pub sessions : List Session
   pub uplinks : List ℕ
   pub queries : List Query
+  pub subscribers : List (Subscriber K)
+  pub told : List (Told K)
+  pub news : List (News K)
 
 -- before all calls
 abbrev pub begun : {K : Type 0} → Rows K → Lively K
-begun rows = record { rows = rows; waiting = []; sessions = []; uplinks = []; queries = [] }
+begun rows = record { rows = rows; waiting = []; sessions = []; uplinks = []; queries = []; subscribers = []; told = []; news = [] }
 
 abbrev pub is_session : {K : Type 0} → ℕ → Lively K → Bool
 is_session n l = is_some (find_session n l.sessions)
@@ -53,6 +65,9 @@ is_uplink n l = has_uplink n l.uplinks
 -- the query was made and its end wasn't given
 abbrev pub is_asking : {K : Type 0} → ℕ → ℕ → Lively K → Bool
 is_asking session id l = has_query session id l.queries
+
+abbrev pub is_subscribed : {K : Type 0} → ℕ → ℕ → Lively K → Bool
+is_subscribed session id l = has_subscriber session id l.subscribers
 
 -- the session's face is open, outside router regions, and keeps a token of this id
 abbrev pub has_token : {K : Type 0} → ℕ → ℕ → Lively K → Bool
@@ -67,6 +82,9 @@ pub data Api (K : Type 0) : Type 0 where
   UndeclareToken : (session id : ℕ) → Api K
   Get : (session : ℕ) (expr : K) → Api K
   TakeReply : (session id : ℕ) → Api K
+  DeclareSubscriber : (session : ℕ) (expr : K) (history : Bool) → Api K
+  TakeSample : (session id : ℕ) → Api K
+  UndeclareSubscriber : (session id : ℕ) → Api K
   Receive : (uplink : ℕ) (message : Message K) → Api K
   TakeSent : (uplink : ℕ) → Api K
   Close : (face : ℕ) → Api K
@@ -85,11 +103,17 @@ abbrev pub cause_if_not : Bool → ApiError → Option ApiError
 cause_if_not true error = None
 cause_if_not false error = Some error
 
+-- why an undeclaration of a subscriber is refused
+abbrev pub not_subscribed : {K : Type 0} → ℕ → ℕ → Lively K → Option ApiError
+not_subscribed session id l = if is_session session l then cause_if_not (is_subscribed session id l) NoSuchSubscriber else Some NoSuchFace
+
 -- the causes that come before the gateway's own
 abbrev pub first_error : {K : Type 0} → Api K → Lively K → Option ApiError
 first_error (DeclareToken session key) l = spent_on (find_session session l.sessions) (λ s. s.tokens)
 first_error (UndeclareToken session id) l = cause_if_not (is_session session l) NoSuchToken
 first_error (Get session expr) l = spent_on (find_session session l.sessions) (λ s. s.interests)
+first_error (DeclareSubscriber session expr history) l = spent_on (find_session session l.sessions) (λ s. s.interests)
+first_error (UndeclareSubscriber session id) l = not_subscribed session id l
 first_error (Receive uplink message) l = cause_if_not (is_uplink uplink l) NoSuchFace
 first_error (Close face) l = cause_if_not (is_session face l || is_uplink face l) NoSuchFace
 first_error _ l = None
@@ -101,6 +125,11 @@ tokens_made session l = elim (find_session session l.sessions) [ None ↦ 0 | So
 abbrev pub interests_made : {K : Type 0} → ℕ → Lively K → ℕ
 interests_made session l = elim (find_session session l.sessions) [ None ↦ 0 | Some s ↦ s.interests ]
 
+-- with history an interest asks for what is there now too
+abbrev pub mode_of : Bool → InterestMode
+mode_of true = CurrentFuture
+mode_of false = Future
+
 -- the call of the gateway, where it makes one; the ids of a session count from 1
 abbrev pub call_in : {K : Type 0} → Api K → Lively K → Option (PlainCall K)
 call_in OpenSession l = Some (plain.NewSession 1)
@@ -108,6 +137,8 @@ call_in (OpenUplink zid whatami bound) l = Some (plain.NewTransport zid whatami 
 call_in (DeclareToken session key) l = Some (plain.DeclareToken session (tokens_made session l + 1) key 0 None)
 call_in (UndeclareToken session id) l = Some (plain.UndeclareToken session id None 0)
 call_in (Get session expr) l = Some (plain.Interest session (interests_made session l + 1) Current (record { 0 = 8 }) (Some expr))
+call_in (DeclareSubscriber session expr history) l = Some (plain.Interest session (interests_made session l + 1) (mode_of history) (record { 0 = 8 }) (Some expr))
+call_in (UndeclareSubscriber session id) l = Some (plain.InterestFinal session id)
 call_in (Receive uplink message) l = call_of_message uplink message
 call_in (Close face) l = Some (plain.CloseFace face)
 call_in (Expire now) l = Some (plain.Expire now)
@@ -148,15 +179,29 @@ left_by session id _ l = l
 abbrev pub sent_of : {K : Type 0} → ℕ → Lively K → Option (Message K)
 sent_of uplink l = if is_uplink uplink l then oldest_for uplink l.waiting else None
 
--- what is written down of a call beside what the gateway keeps, and what is taken
+-- the oldest sample for a subscriber
+abbrev pub sample_of : {K : Type 0} → ℕ → ℕ → Lively K → Option (Sample K)
+sample_of session id l = oldest_sample session id l.news
+
+-- what is written down of a call once the gateway has carried it out, and what is taken
 abbrev pub booked : {K : Type 0} → Api K → Lively K → Lively K → Lively K
 booked OpenSession before l = record l { sessions = l.sessions ++ record { number = before.rows.made + 1; tokens = 0; interests = 0 } ∷ [] }
 booked (OpenUplink zid whatami bound) before l = record l { uplinks = l.uplinks ++ (before.rows.made + 1) ∷ [] }
 booked (DeclareToken session key) before l = record l { sessions = with_session session with_token_made l.sessions }
-booked (Get session expr) before l = record l { sessions = with_session session with_interest_made l.sessions; queries = l.queries ++ record { session = session; id = interests_made session before + 1 } ∷ [] }
+booked (Get session expr) before l = record l { sessions = with_session session with_interest_made l.sessions }
+booked (DeclareSubscriber session expr history) before l = record l { sessions = with_session session with_interest_made l.sessions }
+booked (TakeSample session id) before l = record l { news = without_sample session id l.news }
+booked (UndeclareSubscriber session id) before l = record l { subscribers = without_subscriber session id l.subscribers; news = without_news session id l.news }
 booked (TakeReply session id) before l = left_by session id (reply_of session id l) l
 booked (TakeSent uplink) before l = if is_uplink uplink l then record l { waiting = without_oldest uplink l.waiting } else l
-booked (Close face) before l = record l { sessions = without_session face l.sessions; uplinks = without_uplink face l.uplinks; queries = without_queries face l.queries }
+booked (Close face) before l = record l {
+  sessions = without_session face l.sessions;
+  uplinks = without_uplink face l.uplinks;
+  queries = without_queries face l.queries;
+  subscribers = without_subscribers face l.subscribers;
+  told = samples.without_session face l.told;
+  news = without_news_of_session face l.news;
+}
 booked _ before l = l
 
 -- what there is where there is no error, and where there is one
@@ -165,10 +210,27 @@ unless None x y = x
 unless (Some error) x y = y
 
 module _ {K : Type 0} (cmp : K → K → Ordering) (matching : K → K → Bool) where
-  -- A call of the gateway is carried out: it leaves the rows that it leaves, and its messages wait behind those that
-  -- wait. With a face go the messages that wait for it.
+  -- A new query or subscriber is written down before its call: it is given what that sends. A subscriber with history
+  -- begins with what its session was told.
+  abbrev pub readied : Api K → Lively K → Lively K
+  readied (Get session expr) l = record l { queries = l.queries ++ record { session = session; id = interests_made session l + 1 } ∷ [] }
+  readied (DeclareSubscriber session expr history) l = record l {
+    subscribers = l.subscribers ++ record { session = session; id = interests_made session l + 1; expr = expr; history = history } ∷ [];
+    news = l.news ++ started matching session (interests_made session l + 1) expr history l.told;
+  }
+  readied _ l = l
+
+  -- A call of the gateway is carried out. Replies and messages for uplinks wait behind those that wait, and what sessions
+  -- are told gives their subscribers samples. With a face go the messages that wait for it.
   abbrev pub carried : PlainCall K → Lively K → Lively K
-  carried c l = record l { rows = rows_after cmp matching c l.rows; waiting = without_closed (closed_by c) l.waiting ++ by_face (said cmp matching c l.rows) }
+  carried c l =
+      let sent : Sends K = by_face (said cmp matching c l.rows) in
+      record l {
+        rows = rows_after cmp matching c l.rows;
+        waiting = without_closed (closed_by c) l.waiting ++ filter (is_awaited l.sessions l.queries) sent;
+        told = told_after_all cmp l.sessions sent l.told;
+        news = l.news ++ news_in_all cmp matching l.sessions l.subscribers sent l.told;
+      }
 
   abbrev pub gateway_error : Api K → Option (PlainCall K) → Lively K → Option ApiError
   gateway_error a None l = None
@@ -184,7 +246,7 @@ module _ {K : Type 0} (cmp : K → K → Ordering) (matching : K → K → Bool)
 
   -- what a call leaves that isn't refused
   abbrev pub done_by : Api K → Lively K → Lively K
-  done_by a l = booked a l (carried_if (call_in a l) l)
+  done_by a l = booked a l (carried_if (call_in a l) (readied a l))
 
   -- a refused call leaves all as it was
   abbrev pub left_after : Api K → Lively K → Lively K
@@ -198,7 +260,7 @@ module _ {K : Type 0} (cmp : K → K → Ordering) (matching : K → K → Bool)
   abbrev pub said_in : Api K → Lively K → Sends K
   said_in a l = unless (error_in a l) (said_if (call_in a l) l) []
 
--- an error of a call: memory ran out, or it is the call's cause
-abbrev pub IsErrorOf : Option ApiError → ApiError → Type 0
-IsErrorOf cause Memory = Unit {0}
-IsErrorOf cause error = cause ≡ Some error
+  -- An error of a call: its cause, or memory ran out, where no cause holds that comes before the gateway's own.
+  abbrev pub IsErrorOf : Api K → Lively K → ApiError → Type 0
+  IsErrorOf a l Memory = first_error a l ≡ None
+  IsErrorOf a l error = error_in a l ≡ Some error

@@ -1,10 +1,13 @@
-// Which sessions, uplinks and queries there are.
+// Which sessions, uplinks, queries and subscribers there are.
 ghost use Rattle.std.specs.Prelude.{◌≡◌, ◌+◌, ◌<◌, ◌≤◌, ◌^◌, ◌++◌, ◌∷◌, [], ℕ, Some, None, length, set};
 ghost use Rattle.std.specs.Prelude.{slice_index_or, vec_len, vec_capacity, IfNone, IfSome};
-ghost use Rattle.zt_liveliness.specs.Books.{HasIdLeft, find_session, has_query, has_uplink};
-ghost use Rattle.zt_liveliness.specs.Books.{with_interest_made, with_session, with_token_made};
-ghost use Rattle.zt_liveliness.specs.Books.{without_queries, without_query, without_session};
-ghost use Rattle.zt_liveliness.specs.Books.{without_uplink};
+ghost use Rattle.zt_liveliness.specs.Books.{HasIdLeft, find_session, has_query, has_subscriber};
+ghost use Rattle.zt_liveliness.specs.Books.{has_uplink, with_interest_made, with_session};
+ghost use Rattle.zt_liveliness.specs.Books.{with_token_made, without_queries, without_query};
+ghost use Rattle.zt_liveliness.specs.Books.{without_session, without_subscriber};
+ghost use Rattle.zt_liveliness.specs.Books.{without_subscribers, without_uplink};
+
+use zt_samples::Subscriber;
 
 // An open session, with the number of tokens and of interests that were made on it.
 #[derive(Clone, Copy)]
@@ -19,6 +22,15 @@ pub(crate) struct Session {
 pub(crate) struct Query {
     pub session: u32,
     pub id: u32,
+}
+
+// What is written down of sessions and uplinks, the oldest first.
+#[derive(Drop)]
+pub(crate) struct Books<K> {
+    pub sessions: Vec<Session>,
+    pub uplinks: Vec<u32>,
+    pub queries: Vec<Query>,
+    pub subscribers: Vec<Subscriber<K>>,
 }
 
 // The session of a number.
@@ -115,6 +127,27 @@ pub(crate) fn drop_queries(queries: &mut Vec<Query>, session: u32)
     ensures { queries.new.items ≡ without_queries session queries.old.items }
 {
     queries.retain(|query| session != query.session);
+}
+
+// Whether the session has a subscriber of this id.
+pub(crate) fn has_subscriber<K>(subscribers: &[Subscriber<K>], session: u32, id: u32) -> bool
+    ensures { result ≡ has_subscriber session id subscribers.now }
+{
+    subscribers.iter().any(|subscriber| session == subscriber.session && id == subscriber.id)
+}
+
+// A subscriber was undeclared.
+pub(crate) fn drop_subscriber<K: Drop>(subscribers: &mut Vec<Subscriber<K>>, session: u32, id: u32)
+    ensures { subscribers.new.items ≡ without_subscriber session id subscribers.old.items }
+{
+    subscribers.retain(|subscriber| !(session == subscriber.session && id == subscriber.id));
+}
+
+// The session of these subscribers closed.
+pub(crate) fn drop_subscribers<K: Drop>(subscribers: &mut Vec<Subscriber<K>>, session: u32)
+    ensures { subscribers.new.items ≡ without_subscribers session subscribers.old.items }
+{
+    subscribers.retain(|subscriber| session != subscriber.session);
 }
 
 // Adds an item for which there is room.

@@ -1,19 +1,22 @@
-// Calls of the gateway, whose messages go into a queue.
-ghost use Rattle.std.specs.Prelude.{◌≡◌, ◌++◌, None, IfErr, IfOk, IfSome, OnErr, OnOk, option_map};
+// Calls of the gateway, whose messages are delivered.
+ghost use Rattle.std.specs.Prelude.{◌≡◌, ◌++◌, None, IfErr, IfOk, IfSome, OnErr, OnOk, filter};
+ghost use Rattle.std.specs.Prelude.{option_map};
 ghost use Rattle.zt_gateway.specs.Running.{IsRefusedBy, by_face, closed_by, without_closed};
 ghost use Rattle.zt_laws.specs.Sound.{CallHasFirstIds};
+ghost use Rattle.zt_liveliness.specs.Mail.{is_awaited, news_in_all, told_after_all};
 ghost use Rattle.zt_model.specs.Journal.{cause_of, made_by, rows_after};
 ghost use Rattle.zt_model.specs.Linking.{call_of_message};
 ghost use Rattle.zt_model.specs.Says.{said};
 ghost use Rattle.zt_protocol.specs.Plain.{plain_call};
 
-use crate::queues::append;
+use crate::books::Books;
+use crate::mail::{Mail, deliver, delivery_of, reserve};
 use std::alloc::Global;
 use zt_gateway::{Gateway, Prepared};
 use zt_keys::{Key, Memory};
 use zt_protocol::{Call, CallError, Message, copy_expression};
 
-// Copies of the messages of a prepared call, in order of face. The only error is want of memory.
+// Copies of the messages of a prepared call, in order of face.
 fn copies_of<K: Key>(
     alloc: Global,
     prepared: &Prepared<K>,
@@ -40,12 +43,14 @@ fn closed_by<K>(call: &Call<K>) -> Option<u32>
     }
 }
 
-// Carries out a call. Its messages are put behind those that wait; with a face that it closes go
-// those that wait for it. An error changes nothing.
+// Carries out a call. What is to wait of its messages is put behind what waits, and what sessions
+// are told gives their subscribers samples; with a face that it closes go the messages that wait
+// for it. An error changes nothing.
 pub(crate) fn carry<K: Key>(
     alloc: Global,
     gateway: &mut Gateway<K>,
-    queue: &mut Vec<(u32, Message<K>)>,
+    books: &Books<K>,
+    mail: &mut Mail<K>,
     call: &Call<K>,
 ) -> Result<Option<u32>, CallError>
     requires { CallHasFirstIds (plain_call call.now) }
@@ -55,32 +60,45 @@ pub(crate) fn carry<K: Key>(
         (cause_of K.cmp K.matching (plain_call call.now) gateway.old.rows ≡ None) }
     ensures rows { OnOk result (gateway.new.rows
         ≡ rows_after K.cmp K.matching (plain_call call.now) gateway.old.rows) }
-    ensures queued { OnOk result (queue.new.items
-        ≡ without_closed (closed_by (plain_call call.now)) queue.old.items
-        ++ by_face (said K.cmp K.matching (plain_call call.now) gateway.old.rows)) }
+    ensures waiting { OnOk result (mail.new.waiting.items
+        ≡ without_closed (closed_by (plain_call call.now)) mail.old.waiting.items
+        ++ filter (is_awaited books.now.sessions.items books.now.queries.items)
+        (by_face (said K.cmp K.matching (plain_call call.now) gateway.old.rows))) }
+    ensures told { OnOk result (mail.new.told.items
+        ≡ told_after_all K.cmp books.now.sessions.items
+        (by_face (said K.cmp K.matching (plain_call call.now) gateway.old.rows))
+        mail.old.told.items) }
+    ensures news { OnOk result (mail.new.news.items ≡ mail.old.news.items
+        ++ news_in_all K.cmp K.matching books.now.sessions.items books.now.subscribers.items
+        (by_face (said K.cmp K.matching (plain_call call.now) gateway.old.rows))
+        mail.old.told.items) }
     ensures made { IfOk result
         (λ made. made ≡ made_by K.cmp K.matching (plain_call call.now) gateway.old.rows) }
     ensures err { OnErr result (gateway.new ≡ gateway.old) }
-    ensures err_queue { OnErr result (queue.new.items ≡ queue.old.items) }
+    ensures err_waiting { OnErr result (mail.new.waiting.items ≡ mail.old.waiting.items) }
+    ensures err_told { OnErr result (mail.new.told.items ≡ mail.old.told.items) }
+    ensures err_news { OnErr result (mail.new.news.items ≡ mail.old.news.items) }
 {
     let prepared = match gateway.prepare(call) {
         Ok(prepared) => prepared,
         Err(error) => return Err(error),
     };
-    let Ok(copies) = copies_of(alloc, &prepared) else {
+    let Ok(sent) = copies_of(alloc, &prepared) else {
         return Err(CallError::Memory);
     };
-    let Ok(()) = queue.reserve(copies.len()) else {
+    let Ok(delivery) = delivery_of(alloc, books, mail.told.as_slice(), sent) else {
+        return Err(CallError::Memory);
+    };
+    let Ok(()) = reserve(mail, &delivery) else {
         return Err(CallError::Memory);
     };
     let made = gateway.commit_call(prepared, call);
     gateway.clear_outbox();
-    append(queue, copies, closed_by(call));
+    deliver(mail, delivery, closed_by(call));
     Ok(made)
 }
 
-// The call that a message names, where it names one, spoken by an uplink. The only error is want of
-// memory.
+// The call that a message names, where it names one, spoken by an uplink.
 pub(crate) fn call_named<K: Key>(
     alloc: Global,
     uplink: u32,

@@ -6,14 +6,16 @@ use crate::answers::Token;
 use zt_protocol::{CallError, Refusal};
 
 /// Why a call on sessions and uplinks failed, and changed nothing. The first that applies is the
-/// answer; want of memory can come in place of any of them.
+/// answer, but `Memory` can come in place of a refusal of the gateway.
 #[derive(Clone, Copy, PartialEq, Eq, Debug)]
 pub enum ApiError {
     /// The number isn't that of an open face of the kind that the call takes.
     NoSuchFace,
     /// The token's session is closed, or its id isn't live there.
     NoSuchToken,
-    /// So many tokens or queries were made on the session that there is no id left.
+    /// The session has no such subscriber.
+    NoSuchSubscriber,
+    /// 4294967295 tokens, or queries and subscribers, were made on the session: there is no id left.
     Spent,
     /// The gateway refuses the call.
     Refused(Refusal),

@@ -1,16 +1,20 @@
 //! What holds over every list of calls.
-ghost use Rattle.std.specs.Prelude.{◌≡◌, ◌+◌, ◌++◌, ℕ, List, None, Some, filter, true};
-ghost use Rattle.zt_liveliness.specs.Lively.{Api, Get, Lively, error_in, interests_made};
-ghost use Rattle.zt_liveliness.specs.Lively.{reply_of, said_in};
+ghost use Rattle.std.specs.Prelude.{◌≡◌, ◌+◌, ◌&&◌, ◌++◌, ℕ, List, None, Some, false, filter, true};
+ghost use Rattle.zt_liveliness.specs.Lively.{Api, DeclareSubscriber, Get, Lively, error_in};
+ghost use Rattle.zt_liveliness.specs.Lively.{interests_made, left_after, reply_of, said_in};
 ghost use Rattle.zt_liveliness.specs.Replies.{answered, given_in, left_after_all, sent_to};
 ghost use Rattle.zt_liveliness.specs.Replies.{stands_through};
+ghost use Rattle.zt_liveliness.specs.Subscribed.{IsReached, samples_sent, samples_so_far};
+ghost use Rattle.zt_liveliness.specs.Subscribed.{subscribed_through};
 ghost use Rattle.zt_liveliness.specs.declared.answers.Reply.TheVariants.{Done};
 ghost use Rattle.zt_model.specs.Hearing.{messages_for};
 ghost use Rattle.zt_model.specs.Parts.{find_face};
 ghost use Rattle.zt_model.specs.Promises.{answers_in};
 ghost use Rattle.zt_model.specs.Rows.{Face};
-ghost use Rattle.zt_model.specs.Visible.{visible_expressions};
+ghost use Rattle.zt_model.specs.Visible.{keeps, visible_expressions};
 ghost use Rattle.zt_model.specs.Wants.{is_about};
+ghost use Rattle.zt_samples.specs.Samples.{samples_for};
+ghost use Rattle.zt_theorem_samples.specs.Replayed.{replayed};
 
 use zt_keys::Key;
 
@@ -40,4 +44,30 @@ pub fn queries_are_answered_at_once<K: Key>()
         → answers_in (interests_made session l + 1)
         (messages_for session (said_in K.cmp K.matching (Get session expr) l))
         ≡ filter (is_about K.matching (Some expr)) (visible_expressions K.cmp l.rows f.region) }
+{}
+
+/// While a subscriber is there, its samples, those given and those that wait, are exactly what its
+/// session was sent, as samples, in the order sent: what waited at first and what the calls since
+/// sent.
+pub fn samples_are_what_is_sent<K: Key>()
+    ensures { (session id : ℕ) (calls : List (Api K)) (l : Lively K)
+        → IsReached K.cmp K.matching l
+        → subscribed_through K.cmp K.matching session id calls l ≡ true
+        → samples_so_far K.cmp K.matching session id calls l
+        ≡ samples_for session id l.news ++ samples_sent K.cmp K.matching session id calls l }
+{}
+
+/// A subscriber with history sees, by all its samples since it was declared, exactly the matching
+/// expressions that its session's face keeps: a Put shows an expression that isn't seen, and a
+/// Delete hides one that is.
+pub fn subscribers_see_what_is_kept<K: Key>()
+    ensures { (session : ℕ) (expr e : K) (calls : List (Api K)) (f : Face K) (l : Lively K)
+        → IsReached K.cmp K.matching l
+        → error_in K.cmp K.matching (DeclareSubscriber session expr true) l ≡ None
+        → (let id = interests_made session l + 1 in
+        let after = left_after K.cmp K.matching (DeclareSubscriber session expr true) l in
+        subscribed_through K.cmp K.matching session id calls after ≡ true
+        → find_face session (left_after_all K.cmp K.matching calls after).rows ≡ Some f
+        → replayed K.cmp e (samples_so_far K.cmp K.matching session id calls after) false
+        ≡ Some (K.matching expr e && keeps K.cmp f e)) }
 {}

@@ -1,6 +1,6 @@
 //! Liveliness after Zenoh's session interface, over a gateway: sessions declare tokens, ask which
-//! tokens are there and read the replies; uplinks are read and written by whoever carries their
-//! messages to the gateways above.
+//! tokens are there and read the replies, and subscribe to those that come and go; uplinks are read
+//! and written by whoever carries their messages to the gateways above.
 //!
 //! A call that fails changes nothing: it takes all memory that it needs before the gateway carries
 //! anything out. `specs/Lively.antt` says of each call why it is refused, which call of the gateway
@@ -8,9 +8,12 @@
 //! is given what its session was sent for it, and `queries_are_answered_at_once` what that is in the
 //! query's own call.
 //!
-//! Subscribers aren't there yet: `declare_subscriber`, `sample` and `undeclare_subscriber` of
-//! Zenoh's interface have no counterpart here. Uplinks serve gateways of the modes client and peer:
-//! among routers tokens go along trees, and no call here hands in their tables.
+//! A subscriber with history begins with the tokens that are there; one without is given what its
+//! session is told from then on. `samples_are_what_is_sent` says what each is given, and
+//! `subscribers_see_what_is_kept` what one with history makes of it.
+//!
+//! Uplinks serve gateways of the modes client and peer: among routers tokens go along trees, and no
+//! call here passes their tables.
 #![tactic(auto)]
 
 mod answers;
@@ -19,9 +22,16 @@ mod carrying;
 mod errors;
 mod laws;
 mod liveliness;
+mod mail;
 mod queues;
+mod steps;
+mod subscribing;
 
 pub use answers::{Reply, Token};
 pub use errors::{ApiError, UndeclareError};
-pub use laws::{queries_are_answered_at_once, replies_are_what_is_sent};
+pub use laws::{
+    queries_are_answered_at_once, replies_are_what_is_sent, samples_are_what_is_sent,
+    subscribers_see_what_is_kept,
+};
 pub use liveliness::Liveliness;
+pub use zt_samples::Sample;

@@ -1,4 +1,4 @@
-// Messages that wait for sessions and uplinks.
+// Replies, and messages for uplinks, that wait.
 ghost use Rattle.std.specs.Prelude.{◌≡◌, ◌+◌, ◌<◌, ◌≤◌, ◌++◌, ℕ, [], Some, None, IfNone, IfSome};
 ghost use Rattle.std.specs.Prelude.{filter, is_some, length, not, slice_index_or, vec_capacity};
 ghost use Rattle.std.specs.Prelude.{true, vec_len};
@@ -68,7 +68,7 @@ pub(crate) fn take_oldest<K>(waiting: &mut Vec<(u32, Message<K>)>, face: u32) ->
 }
 
 // Whether a message to a face is a reply or the end of the query of a session.
-fn is_answer<K>(message: &(u32, Message<K>), session: u32, id: u32) -> bool
+pub(crate) fn is_answer<K>(message: &(u32, Message<K>), session: u32, id: u32) -> bool
     ensures { result ≡ is_some (answer_for session id message.now) }
 {
     if session != message.0 {
