@@ -23,8 +23,7 @@ fn is_aggregate<K: Key>(interest: &RemoteInterest<K>) -> bool
     interest.options().contains(InterestOptions::AGGREGATE)
 }
 
-// The expression of an interest that asks for an aggregate gets a number. The only error is want of
-// memory.
+// The expression of an interest that asks for an aggregate gets a number.
 #[tactic(auto, unfolding(zt_model::specs::Entities::numbered_with))]
 fn number_interest<K: Key>(
     alloc: Global,
@@ -47,7 +46,6 @@ fn number_interest<K: Key>(
 }
 
 // The face asks, is answered at once what is visible, and has its final where nobody else is asked.
-// The only error is want of memory.
 fn ask_at_face<K: Key>(
     alloc: Global,
     g: &mut GatewayState<K>,
@@ -69,8 +67,7 @@ fn ask_at_face<K: Key>(
     say(alloc, g, speech, finals)
 }
 
-/// An interest of a face of the region `asker` is sent on to the north, and then answered. The only
-/// error is want of memory.
+/// An interest of a face of the region `asker` is sent on to the north, and then answered.
 pub(crate) fn ask<K: Key>(
     alloc: Global,
     g: &mut GatewayState<K>,

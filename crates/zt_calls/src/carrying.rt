@@ -53,7 +53,7 @@ fn kept_options(mode: WhatAmI, options: InterestOptions) -> InterestOptions
     }
 }
 
-// An interest of a face, with the options that the gateway keeps. The only error is want of memory.
+// An interest of a face, with the options that the gateway keeps.
 fn interest_of<K: Key>(
     alloc: Global,
     f: &FaceState<K>,
@@ -68,7 +68,7 @@ fn interest_of<K: Key>(
     Ok(RemoteInterest::new(mode, kept_options(f.mode(), options), expr))
 }
 
-// A face asks. The only error is want of memory.
+// A face asks.
 fn interest<K: Key>(
     alloc: Global,
     g: &mut GatewayState<K>,
@@ -91,7 +91,7 @@ fn interest<K: Key>(
     ask(alloc, g, speech, face, asker, id, &interest)
 }
 
-// A face ends an interest. The only error is want of memory.
+// A face ends an interest.
 fn interest_final<K: Key>(
     alloc: Global,
     g: &mut GatewayState<K>,
@@ -113,7 +113,7 @@ fn interest_final<K: Key>(
     finalise(alloc, g, speech, face, id, &interest)
 }
 
-// A face has answered what is there now. The only error is want of memory.
+// A face has answered what is there now.
 fn final_from_north<K: Key>(
     alloc: Global,
     g: &mut GatewayState<K>,
@@ -132,7 +132,7 @@ fn final_from_north<K: Key>(
     declare_final(alloc, g, speech, face, id, waits)
 }
 
-// A face outside router regions leaves; nothing is said to it. The only error is want of memory.
+// A face outside router regions leaves; nothing is said to it.
 fn leave_silently<K: Key>(
     alloc: Global,
     g: &mut GatewayState<K>,
@@ -150,7 +150,7 @@ fn leave_silently<K: Key>(
     Ok(())
 }
 
-// A face leaves, without a word where its region is of routers. The only error is want of memory.
+// A face leaves, without a word where its region is of routers.
 fn leave_unless<K: Key>(
     alloc: Global,
     g: &mut GatewayState<K>,
@@ -170,7 +170,7 @@ fn leave_unless<K: Key>(
     }
 }
 
-// A face that is open closes. The only error is want of memory.
+// A face that is open closes.
 fn close_open<K: Key>(
     alloc: Global,
     g: &mut GatewayState<K>,
@@ -188,7 +188,7 @@ fn close_open<K: Key>(
     Ok(())
 }
 
-// A face closes. The only error is want of memory.
+// A face closes.
 fn close_face<K: Key>(
     alloc: Global,
     g: &mut GatewayState<K>,
@@ -209,7 +209,6 @@ fn close_face<K: Key>(
 }
 
 // Carries out a call that no face speaks: openings, what time ends, and what a gateway is handed.
-// The only error is want of memory.
 fn carry_out_handed<K: Key>(
     alloc: Global,
     g: &mut GatewayState<K>,
@@ -251,7 +250,7 @@ fn carry_out_handed<K: Key>(
     }
 }
 
-// Carries out a call that a face speaks. The only error is want of memory.
+// Carries out a call that a face speaks.
 fn carry_out_spoken<K: Key>(
     alloc: Global,
     g: &mut GatewayState<K>,
@@ -309,7 +308,7 @@ fn is_spoken<K>(call: &Call<K>) -> bool
     }
 }
 
-// Carries out a call. The only error is want of memory.
+// Carries out a call.
 fn do_parts<K: Key>(
     alloc: Global,
     g: &mut GatewayState<K>,
@@ -330,9 +329,9 @@ fn do_parts<K: Key>(
 }
 
 /// Carries out a call that nothing refuses, and answers its messages in the order sent, each with
-/// the number of its face. The only error is want of memory, and then the gateway may be left in
-/// between: the caller drops it, and has another that is as before. Ids that run out count as want
-/// of memory; a call that would need so many is refused.
+/// the number of its face. After an error the gateway may be left in between: the caller drops it,
+/// and has another that is as before. Ids that run out count as out of memory; a call that would
+/// need so many is refused.
 pub fn carry_out<K: Key>(
     alloc: Global,
     g: &mut GatewayState<K>,

@@ -14,7 +14,7 @@ use zt_keys::{Key, Memory};
 use zt_protocol::TokenId;
 use zt_state::{FaceState, GatewayState, PendingInterest, RemoteInterest, RowsById};
 
-// One of the tokens of a face that closes goes. The only error is want of memory.
+// One of the tokens of a face that closes goes.
 fn leave_token<K: Key>(
     alloc: Global,
     g: &mut GatewayState<K>,
@@ -31,7 +31,7 @@ fn leave_token<K: Key>(
     hide_token(alloc, g, speech, f.region(), expr)
 }
 
-// The tokens of a face that closes go. The only error is want of memory.
+// The tokens of a face that closes go.
 fn leave_tokens<K: Key>(
     alloc: Global,
     g: &mut GatewayState<K>,
@@ -48,7 +48,7 @@ fn leave_tokens<K: Key>(
     Ok(())
 }
 
-// What a face that closes holds is finalised. The only error is want of memory.
+// What a face that closes holds is finalised.
 fn leave_interests<K: Key>(
     alloc: Global,
     g: &mut GatewayState<K>,
@@ -66,7 +66,7 @@ fn leave_interests<K: Key>(
     Ok(())
 }
 
-// The pendings of a face that closes end. The only error is want of memory.
+// The pendings of a face that closes end.
 fn leave_pendings<K: Key>(
     alloc: Global,
     g: &mut GatewayState<K>,
@@ -84,8 +84,7 @@ fn leave_pendings<K: Key>(
     Ok(())
 }
 
-/// A face outside router regions leaves, as it was when it began to. The only error is want of
-/// memory.
+/// A face outside router regions leaves, as it was when it began to.
 pub(crate) fn leave<K: Key>(
     alloc: Global,
     g: &mut GatewayState<K>,

@@ -22,7 +22,7 @@ fn is_spared<K>(speech: &Speech<K>, face: u32) -> bool
 }
 
 // A face is told that what it doesn't want any more is gone. It isn't looked for where the face is
-// spared. The only error is want of memory.
+// spared.
 fn say_untold<K: Key>(
     alloc: Global,
     g: &mut GatewayState<K>,
@@ -40,7 +40,7 @@ fn say_untold<K: Key>(
     say(alloc, g, speech, gone)
 }
 
-/// A held interest is finalised. The only error is want of memory.
+/// A held interest is finalised.
 pub(crate) fn finalise<K: Key>(
     alloc: Global,
     g: &mut GatewayState<K>,
@@ -60,8 +60,7 @@ pub(crate) fn finalise<K: Key>(
     say(alloc, g, speech, ends)
 }
 
-/// A pending of a face ends, and with the last one the ask that it serves. The only error is want
-/// of memory.
+/// A pending of a face ends, and with the last one the ask that it serves.
 pub(crate) fn end_pending<K: Key>(
     alloc: Global,
     g: &mut GatewayState<K>,
@@ -77,7 +76,7 @@ pub(crate) fn end_pending<K: Key>(
     say(alloc, g, speech, finals)
 }
 
-/// A final from the north, for an interest that waits or not. The only error is want of memory.
+/// A final from the north, for an interest that waits or not.
 pub(crate) fn declare_final<K: Key>(
     alloc: Global,
     g: &mut GatewayState<K>,

@@ -18,7 +18,7 @@ fn is_expired(now: u64, timeout: u64, pending: &PendingInterest) -> bool
     timeout <= now.saturating_sub(pending.since())
 }
 
-// Adds the pendings of a face that have waited for the timeout. The only error is want of memory.
+// Adds the pendings of a face that have waited for the timeout.
 fn expire_face<K: Key>(
     now: u64,
     timeout: u64,
@@ -35,7 +35,7 @@ fn expire_face<K: Key>(
     Ok(())
 }
 
-// The pendings that have waited for the timeout, by face and id. The only error is want of memory.
+// The pendings that have waited for the timeout, by face and id.
 fn expired<K: Key>(alloc: Global, g: &GatewayState<K>, now: u64) -> Result<Vec<(u32, u32)>, Memory>
     ensures { IfOk result (λ ended. ended.items ≡ expired_in now g.now) }
 {
@@ -46,7 +46,7 @@ fn expired<K: Key>(alloc: Global, g: &GatewayState<K>, now: u64) -> Result<Vec<(
     Ok(ended)
 }
 
-// One of these pendings ends. The only error is want of memory.
+// One of these pendings ends.
 fn end_each<K: Key>(
     alloc: Global,
     g: &mut GatewayState<K>,
@@ -59,7 +59,7 @@ fn end_each<K: Key>(
     end_pending(alloc, g, speech, row.0, row.1)
 }
 
-// These pendings end. The only error is want of memory.
+// These pendings end.
 fn end_pendings<K: Key>(
     alloc: Global,
     g: &mut GatewayState<K>,
@@ -75,8 +75,7 @@ fn end_pendings<K: Key>(
     Ok(())
 }
 
-/// The gateway's moment becomes `now`, and what has waited for the timeout ends. The only error is
-/// want of memory.
+/// The gateway's moment becomes `now`, and what has waited for the timeout ends.
 pub(crate) fn expire<K: Key>(
     alloc: Global,
     g: &mut GatewayState<K>,

@@ -23,7 +23,7 @@ pub(crate) fn undeclared<'a, K: Key>(
     }
 }
 
-/// A copy of that expression, if there is one. The only error is want of memory.
+/// A copy of that expression, if there is one.
 pub(crate) fn copy_undeclared<K: Key>(
     alloc: Global,
     f: &FaceState<K>,

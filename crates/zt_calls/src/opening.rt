@@ -10,7 +10,7 @@ use zt_keys::{Key, Memory};
 use zt_region::{Bound, Region, WhatAmI, Zid};
 use zt_state::GatewayState;
 
-/// A face opens, and is sent what is there. The only error is want of memory.
+/// A face opens, and is sent what is there.
 pub(crate) fn open<K: Key>(
     alloc: Global,
     g: &mut GatewayState<K>,

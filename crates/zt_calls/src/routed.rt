@@ -18,7 +18,7 @@ use zt_region::{Region, Zid};
 use zt_routers::{greet, left_out, pass_on, table_of, unpass};
 use zt_state::GatewayState;
 
-/// A face of a router region declares a token of a router. The only error is want of memory.
+/// A face of a router region declares a token of a router.
 pub(crate) fn declare_routed<K: Key>(
     alloc: Global,
     g: &mut GatewayState<K>,
@@ -42,7 +42,7 @@ pub(crate) fn declare_routed<K: Key>(
     tell_all(alloc, g, speech, region, expr)
 }
 
-/// A face of a router region undeclares a token of a router. The only error is want of memory.
+/// A face of a router region undeclares a token of a router.
 pub(crate) fn undeclare_routed<K: Key>(
     alloc: Global,
     g: &mut GatewayState<K>,
@@ -66,7 +66,7 @@ pub(crate) fn undeclare_routed<K: Key>(
     forget_all(alloc, g, speech, region, expr)
 }
 
-// These expressions are gone from a region. The only error is want of memory.
+// These expressions are gone from a region.
 fn forget_each<K: Key>(
     alloc: Global,
     g: &mut GatewayState<K>,
@@ -84,7 +84,7 @@ fn forget_each<K: Key>(
 }
 
 // The table is kept, and faces that are new among a source's children are told its tokens; `before`
-// is the table that counted until now. The only error is want of memory.
+// is the table that counted until now.
 fn keep_and_greet<K: Key>(
     alloc: Global,
     g: &mut GatewayState<K>,
@@ -103,7 +103,7 @@ fn keep_and_greet<K: Key>(
     say(alloc, g, speech, greetings)
 }
 
-/// A router region is handed a new table. The only error is want of memory.
+/// A router region is handed a new table.
 pub(crate) fn change_table<K: Key>(
     alloc: Global,
     g: &mut GatewayState<K>,

@@ -44,8 +44,7 @@ fn registers<K: Key>(f: &FaceState<K>, interest: Option<InterestId>) -> bool
     }
 }
 
-// The token answers the asks that sent the interest which waits, if one does. The only error is
-// want of memory.
+// The token answers the asks that sent the interest which waits, if one does.
 fn answer_asked<K: Key>(
     alloc: Global,
     g: &mut GatewayState<K>,
@@ -65,7 +64,7 @@ fn answer_asked<K: Key>(
     say(alloc, g, speech, answers)
 }
 
-// The token is declared, if it registers. The only error is want of memory.
+// The token is declared, if it registers.
 fn declare_if<K: Key>(
     alloc: Global,
     g: &mut GatewayState<K>,
@@ -87,7 +86,7 @@ fn declare_if<K: Key>(
     }
 }
 
-// A face outside router regions declares a token. The only error is want of memory.
+// A face outside router regions declares a token.
 fn declare_plain<K: Key>(
     alloc: Global,
     g: &mut GatewayState<K>,
@@ -108,7 +107,7 @@ fn declare_plain<K: Key>(
     declare_if(alloc, g, speech, registers, face, region, id, expr)
 }
 
-// A token of a router comes, where the face means one. The only error is want of memory.
+// A token of a router comes, where the face means one.
 fn declare_from<K: Key>(
     alloc: Global,
     g: &mut GatewayState<K>,
@@ -129,7 +128,7 @@ fn declare_from<K: Key>(
 }
 
 /// A face declares a token: one that stands in for a router's where its region is of routers, else
-/// one of its own, which may answer an interest. The only error is want of memory.
+/// one of its own, which may answer an interest.
 pub(crate) fn declare_token<K: Key>(
     alloc: Global,
     g: &mut GatewayState<K>,
@@ -158,7 +157,7 @@ pub(crate) fn declare_token<K: Key>(
 }
 
 // An undeclaration by a face outside router regions, which is about this expression, if about any:
-// the faces and the router regions hear that it is gone. The only error is want of memory.
+// the faces and the router regions hear that it is gone.
 fn undeclare_plain<K: Key>(
     alloc: Global,
     g: &mut GatewayState<K>,
@@ -179,8 +178,7 @@ fn undeclare_plain<K: Key>(
     hide_token(alloc, g, speech, region, expr)
 }
 
-// A token of a router goes, where the face means one and names the expression. The only error is
-// want of memory.
+// A token of a router goes, where the face means one and names the expression.
 fn undeclare_from<K: Key>(
     alloc: Global,
     g: &mut GatewayState<K>,
@@ -203,7 +201,7 @@ fn undeclare_from<K: Key>(
     }
 }
 
-/// A face undeclares a token. The only error is want of memory.
+/// A face undeclares a token.
 pub(crate) fn undeclare_token<K: Key>(
     alloc: Global,
     g: &mut GatewayState<K>,

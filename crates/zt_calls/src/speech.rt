@@ -25,8 +25,7 @@ pub(crate) fn spare<K: Key>(sends: &mut Vec<(u32, Message<K>)>, face: u32)
     sends.retain(|send| face != send.0);
 }
 
-// Messages more behind those said so far. Where none were said yet, they are taken as they are. The
-// only error is want of memory.
+// Messages more behind those said so far. Where none were said yet, they are taken as they are.
 fn add<K: Key>(
     said: &mut Vec<(u32, Message<K>)>,
     mut sends: Vec<(u32, Message<K>)>,
@@ -41,8 +40,7 @@ fn add<K: Key>(
     Ok(())
 }
 
-/// Faces are sent these messages and hear them at once, but for a face that is spared. The only
-/// error is want of memory.
+/// Faces are sent these messages and hear them at once, but for a face that is spared.
 pub(crate) fn say<K: Key>(
     alloc: Global,
     g: &mut GatewayState<K>,

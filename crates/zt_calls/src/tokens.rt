@@ -15,7 +15,7 @@ use zt_routers::{hidden_regions, hide, newly_shown, show};
 use zt_state::{FaceState, GatewayState};
 use zt_tokens::{forget, tell};
 
-/// The gateway shows a token of a region in its router regions. The only error is want of memory.
+/// The gateway shows a token of a region in its router regions.
 pub(crate) fn show_token<K: Key>(
     alloc: Global,
     g: &mut GatewayState<K>,
@@ -32,8 +32,7 @@ pub(crate) fn show_token<K: Key>(
     g.add_own_rows(alloc, &regions, expr)
 }
 
-/// The faces hear of a token that was declared in a region, and then the router regions. The only
-/// error is want of memory.
+/// The faces hear of a token that was declared in a region, and then the router regions.
 pub(crate) fn tell_all<K: Key>(
     alloc: Global,
     g: &mut GatewayState<K>,
@@ -50,8 +49,7 @@ pub(crate) fn tell_all<K: Key>(
     show_token(alloc, g, speech, source, expr)
 }
 
-/// The gateway hides an expression that is gone from a region in its router regions. The only error
-/// is want of memory.
+/// The gateway hides an expression that is gone from a region in its router regions.
 pub(crate) fn hide_token<K: Key>(
     alloc: Global,
     g: &mut GatewayState<K>,
@@ -69,8 +67,7 @@ pub(crate) fn hide_token<K: Key>(
     Ok(())
 }
 
-/// The faces hear that an expression is gone from a region, and then the router regions. The only
-/// error is want of memory.
+/// The faces hear that an expression is gone from a region, and then the router regions.
 pub(crate) fn forget_all<K: Key>(
     alloc: Global,
     g: &mut GatewayState<K>,
@@ -87,7 +84,7 @@ pub(crate) fn forget_all<K: Key>(
     hide_token(alloc, g, speech, source, expr)
 }
 
-/// A face declares a token, which is kept and told. The only error is want of memory.
+/// A face declares a token, which is kept and told.
 pub(crate) fn declare<K: Key>(
     alloc: Global,
     g: &mut GatewayState<K>,
@@ -106,7 +103,7 @@ pub(crate) fn declare<K: Key>(
     tell_all(alloc, g, speech, region, expr)
 }
 
-/// The token of an id is undeclared, whose expression this is. The only error is want of memory.
+/// The token of an id is undeclared, whose expression this is.
 pub(crate) fn undeclare<K: Key>(
     alloc: Global,
     g: &mut GatewayState<K>,
@@ -127,7 +124,7 @@ pub(crate) fn undeclare<K: Key>(
 }
 
 /// An undeclaration of an id is about the token that the face declares under it, or else the given
-/// expression: the faces hear that it is gone. The only error is want of memory.
+/// expression: the faces hear that it is gone.
 pub(crate) fn undeclare_found<K: Key>(
     alloc: Global,
     g: &mut GatewayState<K>,

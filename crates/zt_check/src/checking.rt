@@ -16,8 +16,8 @@ use zt_streams::{Sink, Source, write_all};
 ///
 /// After `Ok` the sink has received exactly that line, after `WriteFault` a part of it, and after
 /// every other error nothing. `ReadFault` and `WriteFault` come exactly where that stream's count
-/// of faults changes, which then rises. `TooLong`, `NoTrace` and `BadScript` come exactly where they
-/// say, unless a fault or want of memory comes first.
+/// of faults changes, which then rises. `TooLong`, `NoTrace` and `BadScript` come exactly where
+/// they say, unless a fault or an error comes first.
 pub fn check<K: Key, S: Source, T: Sink>(
     alloc: Global,
     source: &mut S,

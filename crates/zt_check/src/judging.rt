@@ -45,8 +45,7 @@ fn judge_totals(alloc: Global, report: Report, rest: &[u8]) -> Result<Verdict, M
     })
 }
 
-// Judges the transcript that is claimed for the lines of a script. The only error is want of
-// memory.
+// Judges the transcript that is claimed for the lines of a script.
 fn judge_claim<K: Key>(alloc: Global, lines: &[Line<K>], claimed: &[u8]) -> Result<Verdict, Memory>
     requires spelling { OneSpelling K.reading K.printed }
     requires room { length lines.now < 18446744073709551615 }

@@ -17,8 +17,8 @@ const UNKNOWN_WORDS: u8 = 64;
 /// All that the program does: with no word it checks the input that the source gives, with key
 /// expressions for keys. The result is its status: 0 and 1 for the verdicts `Holds` and `Breaks`,
 /// and 2 to 7 for a malformed script, an input that is too long or has no line `---`, a fault of
-/// the source, a fault of the sink and want of memory. With any word the status is 64, and nothing
-/// is read or written.
+/// the source, a fault of the sink and running out of memory. With any word the status is 64, and
+/// nothing is read or written.
 pub fn check_tool<S: Source, T: Sink>(
     alloc: Global,
     words: &[String],

@@ -29,8 +29,7 @@ fn first_failed(more: bool, less: bool, answers: bool, finals: bool) -> Option<C
     None
 }
 
-// Carries out an accepted line, and answers which clause fails, if any. The only error is want of
-// memory.
+// Carries out an accepted line, and answers which clause fails, if any.
 fn judge_accepted<'a, K: Key>(
     alloc: Global,
     fabric: &mut ShownFabric<'a, K>,
@@ -54,7 +53,7 @@ fn judge_accepted<'a, K: Key>(
 }
 
 /// Judges a line with its entry, after those before, and answers the first clause that it fails, if
-/// any. The only error is want of memory.
+/// any.
 pub(crate) fn judge_turn<'a, K: Key>(
     alloc: Global,
     fabric: &mut ShownFabric<'a, K>,

@@ -92,8 +92,7 @@ fn put_number(out: &mut String, number: u128) -> Result<(), Memory>
     put_field(out, buffer.format(number))
 }
 
-/// The line that says a verdict: `holds LINES MESSAGES REFUSALS` or `breaks LINE CLAUSE`. The only
-/// error is want of memory.
+/// The line that says a verdict: `holds LINES MESSAGES REFUSALS` or `breaks LINE CLAUSE`.
 pub fn print_verdict(alloc: Global, verdict: &Verdict) -> Result<String, Memory>
     ensures { IfOk result (λ text. string_bytes text ≡ verdict_text verdict.now) }
 {

@@ -315,7 +315,7 @@ fn told_of<'b, K: Key>(
 
 /// Asks are answered what they ask for. The fabric is that with what the line itself changes, and
 /// doesn't hear its messages yet; `found` is the line's call, `pending` the pending that stood
-/// before it and that its token answers. The only error is want of memory.
+/// before it and that its token answers.
 pub fn answers_asks<'a, 'b, K: Key>(
     alloc: Global,
     fabric: &ShownFabric<'a, K>,

@@ -107,8 +107,7 @@ pub(crate) fn stands_after<'a, K: Key>(
     false
 }
 
-/// The expressions that an ask of an id is answered by what is printed for a face, in order. The
-/// only error is want of memory.
+/// The expressions that an ask of an id is answered by what is printed for a face, in order.
 pub(crate) fn answers_in<K: Key>(
     alloc: Global,
     sents: &[Sent<K>],

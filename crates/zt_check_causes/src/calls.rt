@@ -14,8 +14,7 @@ use zt_check_rows::ShownRows;
 use zt_keys::{Key, Memory};
 use zt_protocol::{Call, Refusal};
 
-/// Why a call is refused that is made on the gateway of these rows, if enough ids are left. The only
-/// error is want of memory.
+/// Why a call is refused that is made on the gateway of these rows, if enough ids are left.
 pub fn call_cause<K: Key>(
     alloc: Global,
     rows: &ShownRows<K>,

@@ -77,8 +77,7 @@ pub(crate) fn is_filled_by_interest<K: Key>(
     is_given_too_many(rows.dictionary(), expr)
 }
 
-// Adds an expression to those that are new, unless it is known or among them. The only error is
-// want of memory.
+// Adds an expression to those that are new, unless it is known or among them.
 fn add_new<K: Key>(alloc: Global, known: &[K], added: &mut Vec<K>, expr: &K) -> Result<(), Memory>
     ensures { OnOk result (known.now ++ added.new.items
         ≡ numbered_with K.cmp (expr.now ∷ []) (known.now ++ added.old.items)) }
@@ -93,7 +92,7 @@ fn add_new<K: Key>(alloc: Global, known: &[K], added: &mut Vec<K>, expr: &K) -> 
     Ok(())
 }
 
-// Adds the expressions of subscribers. The only error is want of memory.
+// Adds the expressions of subscribers.
 fn add_subscribers<K: Key>(
     alloc: Global,
     known: &[K],
@@ -109,7 +108,7 @@ fn add_subscribers<K: Key>(
     Ok(())
 }
 
-// Adds the expressions of queryables. The only error is want of memory.
+// Adds the expressions of queryables.
 fn add_queryables<K: Key>(
     alloc: Global,
     known: &[K],
@@ -132,8 +131,7 @@ fn are_too_many(known: usize, added: usize) -> bool
     GREATEST_DICTIONARY < known || GREATEST_DICTIONARY - known < added
 }
 
-/// Whether the dictionary would hold too many expressions with those of a face's entities. The only
-/// error is want of memory.
+/// Whether the dictionary would hold too many expressions with those of a face's entities.
 #[tactic(auto, using(crate::proofs::Numbered::both_counted))]
 pub(crate) fn is_filled_by_entities<K: Key>(
     alloc: Global,

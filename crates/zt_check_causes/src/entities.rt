@@ -9,7 +9,7 @@ use zt_check_rows::ShownRows;
 use zt_keys::{Key, Memory};
 use zt_protocol::{QueryableInfo, Refusal};
 
-/// Why a face's entities aren't replaced. The only error is want of memory.
+/// Why a face's entities aren't replaced.
 #[tactic(auto, unfolding(crate::specs::Causes::call_cause, zt_model::specs::Refusals::call_causes, zt_model::specs::Refusals::first_cause))]
 pub(crate) fn entities_cause<K: Key>(
     alloc: Global,

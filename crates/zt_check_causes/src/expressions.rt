@@ -36,7 +36,7 @@ fn place_of<K: Key>(exprs: &[K], expr: &K) -> Result<usize, usize>
     Err(exprs.len())
 }
 
-// An expression is put in its place, unless it is there. The only error is want of memory.
+// An expression is put in its place, unless it is there.
 fn add_key<K: Key>(alloc: Global, exprs: &mut Vec<K>, expr: &K) -> Result<(), Memory>
     ensures { OnOk result (exprs.new.items ≡ with_key K.cmp expr.now exprs.old.items) }
 {
@@ -48,8 +48,7 @@ fn add_key<K: Key>(alloc: Global, exprs: &mut Vec<K>, expr: &K) -> Result<(), Me
     Ok(())
 }
 
-// The expressions of tokens are put in their places, the last first. The only error is want of
-// memory.
+// The expressions of tokens are put in their places, the last first.
 fn add_live<K: Key>(alloc: Global, exprs: &mut Vec<K>, live: &[(u32, K)]) -> Result<(), Memory>
     ensures { OnOk result (exprs.new.items
         ≡ with_keys K.cmp (map (λ row. row.1) live.now) exprs.old.items) }
@@ -61,7 +60,7 @@ fn add_live<K: Key>(alloc: Global, exprs: &mut Vec<K>, live: &[(u32, K)]) -> Res
     Ok(())
 }
 
-// And those of a face that a region sees. The only error is want of memory.
+// And those of a face that a region sees.
 fn add_face<K: Key>(
     alloc: Global,
     exprs: &mut Vec<K>,
@@ -79,7 +78,7 @@ fn add_face<K: Key>(
     Ok(())
 }
 
-// And those of all faces, the last first. The only error is want of memory.
+// And those of all faces, the last first.
 fn add_faces<K: Key>(
     alloc: Global,
     exprs: &mut Vec<K>,
@@ -99,7 +98,7 @@ fn add_faces<K: Key>(
     Ok(())
 }
 
-// And that of another router, where the region sees it. The only error is want of memory.
+// And that of another router, where the region sees it.
 fn add_routed<K: Key>(
     alloc: Global,
     exprs: &mut Vec<K>,
@@ -118,7 +117,7 @@ fn add_routed<K: Key>(
     Ok(())
 }
 
-// And those of all other routers, the last first. The only error is want of memory.
+// And those of all other routers, the last first.
 fn add_all_routed<K: Key>(
     alloc: Global,
     exprs: &mut Vec<K>,
@@ -137,8 +136,7 @@ fn add_all_routed<K: Key>(
     Ok(())
 }
 
-/// The expressions that faces of the region see, in key order, each once. The only error is want of
-/// memory.
+/// The expressions that faces of the region see, in key order, each once.
 pub(crate) fn visible_expressions<K: Key>(
     alloc: Global,
     rows: &ShownRows<K>,

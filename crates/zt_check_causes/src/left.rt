@@ -63,7 +63,7 @@ fn are_above(bound: u64, one: usize, two: u128, three: u128) -> bool
     bound < one || bound - one < two || bound - one - two < three
 }
 
-// Whether the face may have too few ids left. The only error is want of memory.
+// Whether the face may have too few ids left.
 fn may_face_lack<K: Key>(
     alloc: Global,
     rows: &ShownRows<K>,
@@ -80,7 +80,7 @@ fn may_face_lack<K: Key>(
     Ok(are_above(left_ids(face), count_untold(face, &exprs), held, asks))
 }
 
-/// Whether some face of the gateway may have too few ids left. The only error is want of memory.
+/// Whether some face of the gateway may have too few ids left.
 pub fn may_lack_ids<K: Key>(alloc: Global, rows: &ShownRows<K>) -> Result<bool, Memory>
     ensures { IfOk result (λ lack. lack
         ≡ list_any (λ f. nat_lt (left_ids f) (most_ids K.cmp K.matching rows.now f))

@@ -71,7 +71,7 @@ fn names_unlisted<K: Key>(rows: &ShownRows<K>, table: &ShownTable) -> bool
     children_unlisted(table, table.children())
 }
 
-/// Why the trees of a router region aren't set. The only error is want of memory.
+/// Why the trees of a router region aren't set.
 #[tactic(auto, unfolding(crate::specs::Causes::call_cause, zt_model::specs::Refusals::call_causes, zt_model::specs::Refusals::first_cause))]
 pub(crate) fn trees_cause<K: Key>(
     alloc: Global,

@@ -8,7 +8,7 @@ use zt_keys::{Key, Memory};
 use zt_protocol::{Call, Line, Message, TreeTable, copy_expression};
 use zt_region::{NodeId, Zid};
 
-// The call that a message is, where it is one, with the face 0. The only error is want of memory.
+// The call that a message is, where it is one, with the face 0.
 fn call_of_message<K: Key>(alloc: Global, message: &Message<K>) -> Result<Option<Call<K>>, Memory> {
     Ok(match message {
         Message::DeclareToken {
@@ -59,8 +59,7 @@ impl<'a, K: Key> ShownFabric<'a, K> {
         Some((gateway, call))
     }
 
-    // A call of the face of a number in scripts, where its gateway exists. The only error is want
-    // of memory.
+    // A call of the face of a number in scripts, where its gateway exists.
     fn call_at_place(
         &self,
         alloc: Global,
@@ -74,12 +73,12 @@ impl<'a, K: Key> ShownFabric<'a, K> {
         Ok(self.call_at(place.gateway(), call))
     }
 
-    /// The call that closes the face of a number in scripts. The only error is want of memory.
+    /// The call that closes the face of a number in scripts.
     pub fn closing_call(&self, alloc: Global, face: u32) -> Result<Option<(u32, Call<K>)>, Memory> {
         self.call_at_place(alloc, &Call::CloseFace { face: 0 }, face)
     }
 
-    // The call of a face that speaks. The only error is want of memory.
+    // The call of a face that speaks.
     fn call_of_face(
         &self,
         alloc: Global,
@@ -91,8 +90,7 @@ impl<'a, K: Key> ShownFabric<'a, K> {
         }
     }
 
-    // The call of the oldest message of a direction, spoken by the face at the other end. The only
-    // error is want of memory.
+    // The call of the oldest message of a direction, spoken by the face at the other end.
     fn call_stepped(
         &self,
         alloc: Global,
@@ -120,7 +118,7 @@ impl<'a, K: Key> ShownFabric<'a, K> {
         }
     }
 
-    // Links with the numbers that faces have at the gateway. The only error is want of memory.
+    // Links with the numbers that faces have at the gateway.
     fn links_at(
         &self,
         alloc: Global,
@@ -134,7 +132,7 @@ impl<'a, K: Key> ShownFabric<'a, K> {
         Ok(found)
     }
 
-    // A table with the numbers that faces have at the gateway. The only error is want of memory.
+    // A table with the numbers that faces have at the gateway.
     fn table_at(
         &self,
         alloc: Global,
@@ -148,8 +146,7 @@ impl<'a, K: Key> ShownFabric<'a, K> {
         })
     }
 
-    /// The one call of a line, with its gateway's number, where its gateway and face exist. The
-    /// only error is want of memory.
+    /// The one call of a line, with its gateway's number, where its gateway and face exist.
     pub fn call_of(&self, alloc: Global, line: &Line<K>) -> Result<Option<(u32, Call<K>)>, Memory> {
         match line {
             Line::Session { gateway, first } => {

@@ -20,7 +20,7 @@ fn next_number(length: usize) -> Result<u32, Memory> {
 }
 
 impl<'a, K: Key> ShownFabric<'a, K> {
-    // A gateway is made. The only error is want of memory.
+    // A gateway is made.
     fn add_gateway(
         &mut self,
         alloc: Global,
@@ -39,7 +39,7 @@ impl<'a, K: Key> ShownFabric<'a, K> {
         Ok(())
     }
 
-    // A call changes the rows of its gateway. The only error is want of memory.
+    // A call changes the rows of its gateway.
     fn apply(
         &mut self,
         alloc: Global,
@@ -54,7 +54,7 @@ impl<'a, K: Key> ShownFabric<'a, K> {
         node.rows.apply(alloc, pendings, call)
     }
 
-    // A face that a call opens has its place behind the others. The only error is want of memory.
+    // A face that a call opens has its place behind the others.
     fn open(&mut self, alloc: Global, gateway: u32, call: &Call<K>) -> Result<(), Memory> {
         let Some(node) = self.node(gateway) else {
             return Ok(());
@@ -66,7 +66,7 @@ impl<'a, K: Key> ShownFabric<'a, K> {
         self.apply(alloc, gateway, &[], call)
     }
 
-    // A line's call opens a face. The only error is want of memory.
+    // A line's call opens a face.
     fn open_by_line(&mut self, alloc: Global, line: &Line<K>) -> Result<(), Memory> {
         match self.call_of(alloc, line)? {
             None => Ok(()),
@@ -74,7 +74,7 @@ impl<'a, K: Key> ShownFabric<'a, K> {
         }
     }
 
-    // A line's call changes rows. The only error is want of memory.
+    // A line's call changes rows.
     fn call_by_line(
         &mut self,
         alloc: Global,
@@ -90,7 +90,7 @@ impl<'a, K: Key> ShownFabric<'a, K> {
         }
     }
 
-    // A link between the two faces that are made next. The only error is want of memory.
+    // A link between the two faces that are made next.
     fn add_link(&mut self, alloc: Global) -> Result<(), Memory> {
         let one = next_number(self.faces.len())?;
         let two = next_number(self.faces.len() + 1)?;
@@ -100,7 +100,7 @@ impl<'a, K: Key> ShownFabric<'a, K> {
         Ok(())
     }
 
-    // The calls that open the ends of a link. The only error is want of memory.
+    // The calls that open the ends of a link.
     fn end_calls(
         &self,
         alloc: Global,
@@ -117,7 +117,7 @@ impl<'a, K: Key> ShownFabric<'a, K> {
         Ok((forth, back))
     }
 
-    // A face at an end of a link opens. The only error is want of memory.
+    // A face at an end of a link opens.
     fn open_end(
         &mut self,
         alloc: Global,
@@ -130,7 +130,7 @@ impl<'a, K: Key> ShownFabric<'a, K> {
         }
     }
 
-    // Two gateways are joined. The only error is want of memory.
+    // Two gateways are joined.
     fn open_link(
         &mut self,
         alloc: Global,
@@ -145,7 +145,7 @@ impl<'a, K: Key> ShownFabric<'a, K> {
         self.open_end(alloc, two, &back)
     }
 
-    // A face of a number in scripts is closed. The only error is want of memory.
+    // A face of a number in scripts is closed.
     fn close_face(&mut self, alloc: Global, face: u32) -> Result<(), Memory> {
         match self.closing_call(alloc, face)? {
             None => Ok(()),
@@ -153,7 +153,7 @@ impl<'a, K: Key> ShownFabric<'a, K> {
         }
     }
 
-    // A link and the faces at its ends are closed. The only error is want of memory.
+    // A link and the faces at its ends are closed.
     fn close_link(&mut self, alloc: Global, number: u32) -> Result<(), Memory> {
         let Some(link) = self.link(number) else {
             return Ok(());
@@ -169,8 +169,7 @@ impl<'a, K: Key> ShownFabric<'a, K> {
         Ok(())
     }
 
-    // The oldest message of a direction of a link is taken, and what it says is done. The only
-    // error is want of memory.
+    // The oldest message of a direction of a link is taken, and what it says is done.
     fn step(
         &mut self,
         alloc: Global,
@@ -185,7 +184,7 @@ impl<'a, K: Key> ShownFabric<'a, K> {
     }
 
     /// What an accepted line itself changes; `sents` is what is printed for it, which is heard
-    /// afterwards. The only error is want of memory, as which counts that numbers are given out.
+    /// afterwards. That numbers are given out counts as out of memory.
     pub fn carry_out(
         &mut self,
         alloc: Global,

@@ -22,7 +22,7 @@ fn has_few_subregions(south: &SouthConf) -> bool
     }
 }
 
-// An equal name. The only error is want of memory.
+// An equal name.
 fn copy_name(alloc: Global, name: &Option<String>) -> Result<Option<String>, Memory> {
     match name {
         None => Ok(None),
@@ -34,7 +34,7 @@ fn copy_name(alloc: Global, name: &Option<String>) -> Result<Option<String>, Mem
     }
 }
 
-// A gateway as the other end of a link sees it. The only error is want of memory.
+// A gateway as the other end of a link sees it.
 fn peer_of<'a, K: Key>(alloc: Global, node: &ShownNode<'a, K>) -> Result<TransportPeer, Memory> {
     Ok(TransportPeer {
         zid: node.rows.zid(),
@@ -44,8 +44,8 @@ fn peer_of<'a, K: Key>(alloc: Global, node: &ShownNode<'a, K>) -> Result<Transpo
     })
 }
 
-/// The region of a gateway's face to another, and that one's bound. The only error beside those of
-/// regions is want of memory, as which counts that there are too many subregions.
+/// The region of a gateway's face to another, and that one's bound. The errors are those of regions,
+/// and `Memory`, as which too many subregions count.
 pub fn end_region<'a, K: Key>(
     alloc: Global,
     own: &ShownNode<'a, K>,
@@ -62,7 +62,7 @@ pub fn end_region<'a, K: Key>(
     }
 }
 
-/// The call that opens the face at an end, where the ends agree. The only error is want of memory.
+/// The call that opens the face at an end, where the ends agree.
 pub fn end_call<'a, K: Key>(
     alloc: Global,
     own: &ShownNode<'a, K>,

@@ -42,7 +42,7 @@ impl<'a, K: Key> ShownNode<'a, K> {
         &self.rows
     }
 
-    /// An equal one. The only error is want of memory.
+    /// An equal one.
     pub fn copy(&self, alloc: Global) -> Result<Self, Memory> {
         Ok(ShownNode {
             rows: self.rows.copy(alloc)?,
@@ -95,7 +95,7 @@ fn waiting_at<K: Key>(waiting: &[(u32, ShownQueue<K>)], face: u32) -> Option<&Sh
     None
 }
 
-// Equal gateways. The only error is want of memory.
+// Equal gateways.
 fn copy_nodes<'a, K: Key>(
     alloc: Global,
     nodes: &[ShownNode<'a, K>],
@@ -170,7 +170,7 @@ impl<'a, K: Key> ShownFabric<'a, K> {
         number_among(&self.faces, gateway, face)
     }
 
-    /// A fabric equal to this one. The only error is want of memory.
+    /// A fabric equal to this one.
     pub fn copy(&self, alloc: Global) -> Result<Self, Memory> {
         Ok(ShownFabric {
             gateways: copy_nodes(alloc, &self.gateways)?,

@@ -7,7 +7,7 @@ use zt_keys::{Key, Memory};
 use zt_protocol::{Line, Refusal, Sent};
 
 impl<'a, K: Key> ShownFabric<'a, K> {
-    // The face that a message is printed for hears it. The only error is want of memory.
+    // The face that a message is printed for hears it.
     fn hear_one(&mut self, alloc: Global, sent: &Sent<K>) -> Result<(), Memory> {
         let Some(place) = self.place(sent.face) else {
             return Ok(());
@@ -20,7 +20,7 @@ impl<'a, K: Key> ShownFabric<'a, K> {
         node.rows.hear(alloc, face, &sent.message)
     }
 
-    /// Faces hear what is printed for them. The only error is want of memory.
+    /// Faces hear what is printed for them.
     pub fn hear(&mut self, alloc: Global, sents: &[Sent<K>]) -> Result<(), Memory> {
         for sent in sents {
             self.hear_one(alloc, sent)?;

@@ -6,8 +6,7 @@ use zt_keys::{Key, Memory};
 use zt_protocol::{Call, Message, Sent};
 use zt_region::Region;
 
-// Adds the ids of the interests in what is there now that are printed for a face. The only error is
-// want of memory.
+// Adds the ids of the interests in what is there now that are printed for a face.
 fn add_pendings<K: Key>(
     pendings: &mut Vec<(u32, u32)>,
     face: u32,
@@ -28,7 +27,7 @@ fn add_pendings<K: Key>(
 
 impl<'a, K: Key> ShownFabric<'a, K> {
     // The interests in what is there now that are printed for north-bound faces of a gateway, each
-    // by face and id. The only error is want of memory.
+    // by face and id.
     fn pendings_at(
         &self,
         alloc: Global,
@@ -46,8 +45,7 @@ impl<'a, K: Key> ShownFabric<'a, K> {
         Ok(pendings)
     }
 
-    /// The pendings of a call's ask, which are none where the call asks nothing. The only error is
-    /// want of memory.
+    /// The pendings of a call's ask, which are none where the call asks nothing.
     pub fn pendings_printed(
         &self,
         alloc: Global,

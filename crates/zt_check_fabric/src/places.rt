@@ -133,7 +133,7 @@ impl ShownLink {
     }
 }
 
-/// Equal places. The only error is want of memory.
+/// Equal places.
 pub(crate) fn copy_places(alloc: Global, places: &[ShownPlace]) -> Result<Vec<ShownPlace>, Memory> {
     let mut copies = Vec::new(alloc);
     for place in places {
@@ -142,7 +142,7 @@ pub(crate) fn copy_places(alloc: Global, places: &[ShownPlace]) -> Result<Vec<Sh
     Ok(copies)
 }
 
-/// Equal links. The only error is want of memory.
+/// Equal links.
 pub(crate) fn copy_links(alloc: Global, links: &[ShownLink]) -> Result<Vec<ShownLink>, Memory> {
     let mut copies = Vec::new(alloc);
     for link in links {

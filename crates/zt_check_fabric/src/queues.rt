@@ -21,7 +21,7 @@ impl<K: Key> Model for ShownQueue<K> {
     ghost view = { λ q. q.messages.items };
 }
 
-// Equal messages. The only error is want of memory.
+// Equal messages.
 fn copy_messages<K: Key>(
     alloc: Global,
     messages: &[Message<K>],
@@ -56,7 +56,7 @@ impl<K: Key> ShownQueue<K> {
         }
     }
 
-    /// What is printed for a face waits behind the others. The only error is want of memory.
+    /// What is printed for a face waits behind the others.
     pub fn add_printed(
         &mut self,
         alloc: Global,
@@ -73,7 +73,7 @@ impl<K: Key> ShownQueue<K> {
     }
 }
 
-// An equal row. The only error is want of memory.
+// An equal row.
 fn copy_row<K: Key>(
     alloc: Global,
     row: &(u32, ShownQueue<K>),
@@ -86,7 +86,7 @@ fn copy_row<K: Key>(
     ))
 }
 
-/// Equal rows. The only error is want of memory.
+/// Equal rows.
 pub(crate) fn copy_queues<K: Key>(
     alloc: Global,
     rows: &[(u32, ShownQueue<K>)],

@@ -22,7 +22,7 @@ pub(crate) fn call_face<K: Key>(call: &Call<K>) -> Option<u32> {
     }
 }
 
-/// A call with another face. The only error is want of memory.
+/// A call with another face.
 pub(crate) fn with_call_face<K: Key>(
     alloc: Global,
     face: u32,

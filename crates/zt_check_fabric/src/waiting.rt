@@ -25,7 +25,7 @@ impl<'a, K: Key> ShownFabric<'a, K> {
         }
     }
 
-    /// What is printed for the faces of open links waits there. The only error is want of memory.
+    /// What is printed for the faces of open links waits there.
     pub fn wait(&mut self, alloc: Global, sents: &[Sent<K>]) -> Result<(), Memory> {
         if sents.is_empty() {
             return Ok(());

@@ -43,8 +43,7 @@ impl<T> Ranked<u32> for (u32, T) {
     }
 }
 
-/// Puts a row under its id, in place of the one that stands there, if any. The only error is want of
-/// memory.
+/// Puts a row under its id, in place of the one that stands there, if any.
 pub fn put<T: Drop>(rows: &mut Vec<(u32, T)>, id: u32, row: T) -> Result<(), Memory>
     ensures { OnOk result (rows.new.items ≡ put nat_cmp id row rows.old.items) }
 {

@@ -11,12 +11,12 @@ pub trait Change<T> {
     // A member after the change.
     ghost changed: { Self → T → T };
 
-    // Changes a member. The only error is want of memory.
+    // Changes a member.
     fn change(&self, alloc: Global, member: &mut T) -> Result<(), Memory>
         ensures { OnOk result (member.new ≡ changed self.now member.old) };
 }
 
-/// Changes each member. The only error is want of memory.
+/// Changes each member.
 pub fn change_each<T: Drop, C: Change<T>>(
     alloc: Global,
     members: &mut Vec<T>,

@@ -10,12 +10,12 @@ use zt_protocol::QueryableInfo;
 pub trait Copied: Drop + Sized {
     ghost use Rattle.std.specs.Prelude.{◌≡◌, IfOk};
 
-    /// An equal one. The only error is want of memory.
+    /// An equal one.
     fn copied(&self, alloc: Global) -> Result<Self, Memory>
         ensures { IfOk result (λ copy. copy ≡ self.now) };
 }
 
-/// A list of equal members. The only error is want of memory.
+/// A list of equal members.
 pub fn copy_each<T: Copied>(alloc: Global, members: &[T]) -> Result<Vec<T>, Memory>
     ensures { IfOk result (λ copies. copies.items ≡ members.now) }
 {
@@ -51,7 +51,7 @@ impl<K: Key> Copied for (u32, ShownAsk<K>) {
     }
 }
 
-/// A list of equal keys. The only error is want of memory.
+/// A list of equal keys.
 pub fn copy_keys<K: Key>(alloc: Global, keys: &[K]) -> Result<Vec<K>, Memory>
     ensures { IfOk result (λ copies. copies.items ≡ keys.now) }
 {
@@ -63,7 +63,7 @@ pub fn copy_keys<K: Key>(alloc: Global, keys: &[K]) -> Result<Vec<K>, Memory>
     Ok(copies)
 }
 
-// An equal queryable. The only error is want of memory.
+// An equal queryable.
 fn copy_queryable<K: Key>(
     alloc: Global,
     queryable: &(K, QueryableInfo),
@@ -73,7 +73,7 @@ fn copy_queryable<K: Key>(
     Ok((queryable.0.copy(alloc)?, queryable.1))
 }
 
-/// A list of equal queryables. The only error is want of memory.
+/// A list of equal queryables.
 pub fn copy_queryables<K: Key>(
     alloc: Global,
     queryables: &[(K, QueryableInfo)],

@@ -213,8 +213,7 @@ impl<K: Key> ShownFace<K> {
         self.initial
     }
 
-    /// The face has the token under the id, and no other under that. The only error is want of
-    /// memory.
+    /// The face has the token under the id, and no other under that.
     pub(crate) fn add_token(&mut self, alloc: Global, id: u32, expr: &K) -> Result<(), Memory>
         ensures { OnOk result (self.new ≡ with_token id expr.now self.old) }
     {
@@ -228,7 +227,7 @@ impl<K: Key> ShownFace<K> {
         remove(&mut self.live, id);
     }
 
-    /// The face holds an interest that asks for what comes later. The only error is want of memory.
+    /// The face holds an interest that asks for what comes later.
     pub(crate) fn hold(
         &mut self,
         alloc: Global,
@@ -250,8 +249,7 @@ impl<K: Key> ShownFace<K> {
         remove(&mut self.held, id);
     }
 
-    /// An interest that asks for what is there now is a question of the face. The only error is
-    /// want of memory.
+    /// An interest that asks for what is there now is a question of the face.
     pub(crate) fn ask(
         &mut self,
         alloc: Global,
@@ -292,7 +290,7 @@ impl<K: Key> ShownFace<K> {
         drop_expired(&mut self.pendings, now, timeout);
     }
 
-    /// The face's subscribers and queryables are these. The only error is want of memory.
+    /// The face's subscribers and queryables are these.
     pub(crate) fn set_entities(
         &mut self,
         alloc: Global,
@@ -309,7 +307,7 @@ impl<K: Key> ShownFace<K> {
         Ok(())
     }
 
-    /// A face equal to this one. The only error is want of memory.
+    /// A face equal to this one.
     pub fn copy(&self, alloc: Global) -> Result<Self, Memory>
         ensures { IfOk result (λ copy. copy ≡ self.now) }
     {

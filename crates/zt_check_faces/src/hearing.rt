@@ -29,7 +29,7 @@ fn is_told<K: Key>(told: &[(u32, K)], id: u32, expr: &K) -> bool
     told.iter().any(|row| id == row.0 && *expr == row.1)
 }
 
-// A pair of an id and an expression is told, which is there once. The only error is want of memory.
+// A pair of an id and an expression is told, which is there once.
 fn tell<K: Key>(alloc: Global, told: &mut Vec<(u32, K)>, id: u32, expr: &K) -> Result<(), Memory>
     ensures { OnOk result (told.new.items ≡ told_pair K.cmp id expr.now told.old.items) }
 {
@@ -58,7 +58,7 @@ fn untell<K: Key>(told: &mut Vec<(u32, K)>, id: u32, expr: &Option<K>)
 }
 
 impl<K: Key> ShownAsk<K> {
-    // It is answered an expression more. The only error is want of memory.
+    // It is answered an expression more.
     fn add_answer(&mut self, alloc: Global, expr: &K) -> Result<(), Memory>
         ensures { OnOk result (self.new
             ≡ record self.old { answered = self.old.answered ++ expr.now ∷ [] }) }
@@ -88,7 +88,7 @@ impl<'a, K: Key> Change<(u32, ShownAsk<K>)> for Answer<'a, K> {
     }
 }
 
-// Asks are answered, where a message answers one. The only error is want of memory.
+// Asks are answered, where a message answers one.
 fn answer_named<K: Key>(
     alloc: Global,
     asks: &mut Vec<(u32, ShownAsk<K>)>,
@@ -103,8 +103,7 @@ fn answer_named<K: Key>(
     }
 }
 
-// Puts an interest that was sent, where it asks for what comes later. The only error is want of
-// memory.
+// Puts an interest that was sent, where it asks for what comes later.
 fn put_local<K: Key>(
     alloc: Global,
     locals: &mut Vec<(u32, ShownInterest<K>)>,
@@ -124,8 +123,7 @@ fn put_local<K: Key>(
     Ok(())
 }
 
-// Puts a pending, where the interest that was sent asks for what is there now. The only error is
-// want of memory.
+// Puts a pending, where the interest that was sent asks for what is there now.
 fn put_pending(
     pendings: &mut Vec<(u32, ShownPending)>,
     id: u32,
@@ -143,7 +141,7 @@ fn put_pending(
 }
 
 impl<K: Key> ShownFace<K> {
-    // A declaration is printed for the face. The only error is want of memory.
+    // A declaration is printed for the face.
     fn hear_token(
         &mut self,
         alloc: Global,
@@ -162,7 +160,7 @@ impl<K: Key> ShownFace<K> {
         answer_named(alloc, &mut self.asks, interest, expr)
     }
 
-    // An interest is printed for the face. The only error is want of memory.
+    // An interest is printed for the face.
     fn hear_interest(
         &mut self,
         alloc: Global,
@@ -206,7 +204,7 @@ impl<K: Key> ShownFace<K> {
         remove(&mut self.locals, id);
     }
 
-    /// A message is printed for the face, at this moment. The only error is want of memory.
+    /// A message is printed for the face, at this moment.
     pub fn hear(&mut self, alloc: Global, moment: u64, message: &Message<K>) -> Result<(), Memory>
         ensures { OnOk result (self.new ≡ heard K.cmp moment message.now self.old) }
     {

@@ -56,7 +56,7 @@ impl<K: Key> ShownInterest<K> {
         &self.expr
     }
 
-    /// An interest equal to this one. The only error is want of memory.
+    /// An interest equal to this one.
     pub fn copy(&self, alloc: Global) -> Result<Self, Memory>
         ensures { IfOk result (λ copy. copy ≡ self.now) }
     {
@@ -171,7 +171,7 @@ impl<K: Key> ShownAsk<K> {
         &self.answered
     }
 
-    /// A question equal to this one. The only error is want of memory.
+    /// A question equal to this one.
     pub fn copy(&self, alloc: Global) -> Result<Self, Memory>
         ensures { IfOk result (λ copy. copy ≡ self.now) }
     {

@@ -203,8 +203,7 @@ impl<K: Key> Changed<K> {
     }
 }
 
-/// What an accepted line changes of a fabric, whose call is `found`. The only error is want of
-/// memory.
+/// What an accepted line changes of a fabric, whose call is `found`.
 pub fn changed_by<'a, K: Key>(
     alloc: Global,
     fabric: &ShownFabric<'a, K>,

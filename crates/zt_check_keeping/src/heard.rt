@@ -65,8 +65,7 @@ fn add_message<K: Key>(
     }
 }
 
-/// What messages change of what faces keep, over the fabric that doesn't hear them yet. The only
-/// error is want of memory.
+/// What messages change of what faces keep, over the fabric that doesn't hear them yet.
 pub fn heard_by<'a, K: Key>(
     alloc: Global,
     fabric: &ShownFabric<'a, K>,

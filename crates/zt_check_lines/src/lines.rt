@@ -148,7 +148,7 @@ fn session_cause<'a, K: Key>(fabric: &ShownFabric<'a, K>, gateway: u32) -> Optio
     None
 }
 
-// Why a call is refused at a gateway. The only error is want of memory.
+// Why a call is refused at a gateway.
 fn node_cause<'a, K: Key>(
     alloc: Global,
     fabric: &ShownFabric<'a, K>,
@@ -161,7 +161,7 @@ fn node_cause<'a, K: Key>(
     }
 }
 
-// Why the one call of a line is refused at its gateway. The only error is want of memory.
+// Why the one call of a line is refused at its gateway.
 fn made_cause<'a, K: Key>(
     alloc: Global,
     fabric: &ShownFabric<'a, K>,
@@ -173,7 +173,7 @@ fn made_cause<'a, K: Key>(
     }
 }
 
-// Why a line isn't carried out that names a gateway. The only error is want of memory.
+// Why a line isn't carried out that names a gateway.
 fn cause_at_gateway<'a, K: Key>(
     alloc: Global,
     fabric: &ShownFabric<'a, K>,
@@ -186,7 +186,7 @@ fn cause_at_gateway<'a, K: Key>(
     made_cause(alloc, fabric, made)
 }
 
-// Why a transport isn't opened. The only error is want of memory.
+// Why a transport isn't opened.
 fn face_cause<'a, K: Key>(
     alloc: Global,
     fabric: &ShownFabric<'a, K>,
@@ -210,7 +210,7 @@ fn is_made<'a, K: Key>(fabric: &ShownFabric<'a, K>, made: &Option<(u32, Call<K>)
     }
 }
 
-// Why a face may not speak so. The only error is want of memory.
+// Why a face may not speak so.
 fn speaking_cause<'a, K: Key>(
     alloc: Global,
     fabric: &ShownFabric<'a, K>,
@@ -226,7 +226,7 @@ fn speaking_cause<'a, K: Key>(
     made_cause(alloc, fabric, made)
 }
 
-// Why the oldest message of a direction of a link isn't delivered. The only error is want of memory.
+// Why the oldest message of a direction of a link isn't delivered.
 fn step_cause<'a, K: Key>(
     alloc: Global,
     fabric: &ShownFabric<'a, K>,
@@ -251,7 +251,7 @@ fn unlink_cause<'a, K: Key>(fabric: &ShownFabric<'a, K>, link: u32) -> Option<Re
     Some(Refusal::UnknownLink)
 }
 
-/// Why a line is refused, if enough ids are left. The only error is want of memory.
+/// Why a line is refused, if enough ids are left.
 pub fn line_cause<'a, K: Key>(
     alloc: Global,
     fabric: &ShownFabric<'a, K>,

@@ -51,7 +51,7 @@ fn ends_cause<'a, K: Key>(
     None
 }
 
-/// Why a link isn't made. The only error is want of memory.
+/// Why a link isn't made.
 pub(crate) fn link_cause<'a, K: Key>(
     alloc: Global,
     fabric: &ShownFabric<'a, K>,

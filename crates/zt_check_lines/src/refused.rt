@@ -40,7 +40,7 @@ fn is_want_of_ids(refusal: Refusal) -> bool
     refusal.number() == 24
 }
 
-// Whether some face of these gateways may have too few ids left. The only error is want of memory.
+// Whether some face of these gateways may have too few ids left.
 fn may_any_lack<'a, K: Key>(alloc: Global, nodes: &[ShownNode<'a, K>]) -> Result<bool, Memory>
     ensures { IfOk result (λ lack. lack
         ≡ list_any (has_face_that_may_lack K.cmp K.matching) nodes.now) }
@@ -53,8 +53,7 @@ fn may_any_lack<'a, K: Key>(alloc: Global, nodes: &[ShownNode<'a, K>]) -> Result
     Ok(false)
 }
 
-// Whether some face may have too few ids left once a line is carried out. The only error is want of
-// memory.
+// Whether some face may have too few ids left once a line is carried out.
 fn may_line_lack_ids<'a, K: Key>(
     alloc: Global,
     fabric: &ShownFabric<'a, K>,
@@ -66,8 +65,7 @@ fn may_line_lack_ids<'a, K: Key>(
     may_any_lack(alloc, after.gateways())
 }
 
-// Whether a line is refused by this cause, where `cause` is its first if enough ids are left. The
-// only error is want of memory.
+// Whether a line is refused by this cause, where `cause` is its first if enough ids are left.
 fn is_refused_by<'a, K: Key>(
     alloc: Global,
     fabric: &ShownFabric<'a, K>,
@@ -87,9 +85,8 @@ fn is_refused_by<'a, K: Key>(
     may_line_lack_ids(alloc, fabric, line)
 }
 
-/// Whether a line's entry refuses it exactly where the line has a cause, and by that cause. That too
-/// few ids are left is read by what the line could draw at the most. The only error is want of
-/// memory.
+/// Whether a line's entry refuses it exactly where the line has a cause, and by that cause. That
+/// too few ids are left is read by what the line could draw at the most.
 pub fn is_refused_by_cause<'a, K: Key>(
     alloc: Global,
     fabric: &ShownFabric<'a, K>,

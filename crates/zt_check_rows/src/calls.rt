@@ -34,7 +34,7 @@ fn options_that_count(mode: WhatAmI, options: InterestOptions) -> InterestOption
     }
 }
 
-/// An interest of a face, with the options that count. The only error is want of memory.
+/// An interest of a face, with the options that count.
 pub(crate) fn interest_kept<K: Key>(
     alloc: Global,
     face: &ShownFace<K>,
@@ -74,7 +74,7 @@ fn counts_as_declared<K: Key>(face: &ShownFace<K>, interest: Option<u32>) -> boo
 }
 
 impl<K: Key> ShownRows<K> {
-    /// The pendings that have waited for the timeout go. The only error is want of memory.
+    /// The pendings that have waited for the timeout go.
     pub fn expire(&mut self, alloc: Global, now: u64) -> Result<(), Memory>
         ensures { OnOk result (self.new ≡ record self.old {
           moment = now;
@@ -87,7 +87,7 @@ impl<K: Key> ShownRows<K> {
         Ok(())
     }
 
-    /// A face declares a token under an id. The only error is want of memory.
+    /// A face declares a token under an id.
     #[tactic(auto, unfolding(zt_model::specs::Parts::with_face))]
     pub fn add_token(&mut self, alloc: Global, face: u32, id: u32, expr: &K) -> Result<(), Memory>
         ensures { OnOk result (self.new ≡ with_face face (with_token id expr.now) self.old) }
@@ -95,7 +95,7 @@ impl<K: Key> ShownRows<K> {
         self.change(alloc, &AddToken { face, id, expr })
     }
 
-    /// The token of an id goes. The only error is want of memory.
+    /// The token of an id goes.
     #[tactic(auto, unfolding(zt_model::specs::Parts::with_face))]
     pub fn drop_token(&mut self, alloc: Global, face: u32, id: u32) -> Result<(), Memory>
         ensures { OnOk result (self.new ≡ with_face face (without_token id) self.old) }
@@ -103,7 +103,7 @@ impl<K: Key> ShownRows<K> {
         self.change(alloc, &DropToken { face, id })
     }
 
-    /// A face holds the interest of an id no more. The only error is want of memory.
+    /// A face holds the interest of an id no more.
     #[tactic(auto, unfolding(zt_model::specs::Parts::with_face))]
     pub fn unhold(&mut self, alloc: Global, face: u32, id: u32) -> Result<(), Memory>
         ensures { OnOk result (self.new ≡ with_face face (without_held id) self.old) }
@@ -111,7 +111,7 @@ impl<K: Key> ShownRows<K> {
         self.change(alloc, &DropInterest { face, id })
     }
 
-    /// What was asked of a face by an id has its final. The only error is want of memory.
+    /// What was asked of a face by an id has its final.
     #[tactic(auto, unfolding(zt_model::specs::Parts::with_face))]
     pub fn finish(&mut self, alloc: Global, face: u32, id: u32) -> Result<(), Memory>
         ensures { OnOk result (self.new
@@ -121,8 +121,7 @@ impl<K: Key> ShownRows<K> {
         self.change(alloc, &EndPending { face, id })
     }
 
-    /// A face asks and holds an interest, which was sent upstream as these. The only error is want
-    /// of memory.
+    /// A face asks and holds an interest, which was sent upstream as these.
     #[tactic(auto, unfolding(zt_model::specs::Parts::with_face))]
     pub fn add_interest(
         &mut self,
@@ -147,7 +146,7 @@ impl<K: Key> ShownRows<K> {
         )
     }
 
-    /// The subscribers and queryables of a face are these. The only error is want of memory.
+    /// The subscribers and queryables of a face are these.
     #[tactic(auto, unfolding(zt_model::specs::Parts::with_face), using(crate::proofs::Counted::number_both))]
     pub fn set_entities(
         &mut self,
@@ -171,7 +170,7 @@ impl<K: Key> ShownRows<K> {
         )
     }
 
-    /// A face declares a token. The only error is want of memory.
+    /// A face declares a token.
     pub fn declare(
         &mut self,
         alloc: Global,
@@ -200,7 +199,7 @@ impl<K: Key> ShownRows<K> {
         Ok(())
     }
 
-    /// A face undeclares a token. The only error is want of memory.
+    /// A face undeclares a token.
     pub fn undeclare(
         &mut self,
         alloc: Global,
@@ -228,8 +227,7 @@ impl<K: Key> ShownRows<K> {
         }
     }
 
-    /// A face asks and holds an interest, which was sent upstream as these. The only error is want
-    /// of memory.
+    /// A face asks and holds an interest, which was sent upstream as these.
     pub fn interest(
         &mut self,
         alloc: Global,
@@ -251,8 +249,8 @@ impl<K: Key> ShownRows<K> {
         self.add_interest(alloc, face, id, pendings, &interest)
     }
 
-    /// What an accepted call changes. An ask was sent upstream as these pendings. The only error is
-    /// want of memory, as which counts that the numbers of faces are given out.
+    /// What an accepted call changes. An ask was sent upstream as these pendings. That the numbers
+    /// of faces are given out counts as out of memory.
     #[tactic(auto, unfolding(zt_model::specs::Shown::rows_shown))]
     pub fn apply(
         &mut self,

@@ -10,7 +10,7 @@ use zt_check_faces::{ShownInterest, is_among};
 use zt_keys::{Key, Memory};
 use zt_protocol::{InterestOptions, QueryableInfo};
 
-// An expression gets a number, where it has none yet. The only error is want of memory.
+// An expression gets a number, where it has none yet.
 fn add_number<K: Key>(alloc: Global, known: &mut Vec<K>, expr: &K) -> Result<(), Memory>
     ensures { OnOk result (known.new.items
         ≡ numbered_with K.cmp (expr.now ∷ []) known.old.items) }
@@ -22,7 +22,7 @@ fn add_number<K: Key>(alloc: Global, known: &mut Vec<K>, expr: &K) -> Result<(),
     Ok(())
 }
 
-// An expression gets a number, where there is one. The only error is want of memory.
+// An expression gets a number, where there is one.
 fn add_given_number<K: Key>(
     alloc: Global,
     known: &mut Vec<K>,
@@ -44,8 +44,7 @@ fn asks_aggregate<K: Key>(interest: &ShownInterest<K>) -> bool
     interest.options().contains(InterestOptions::AGGREGATE)
 }
 
-/// The expression of an interest that asks for an aggregate gets a number. The only error is want of
-/// memory.
+/// The expression of an interest that asks for an aggregate gets a number.
 pub(crate) fn add_interest_number<K: Key>(
     alloc: Global,
     known: &mut Vec<K>,
@@ -60,7 +59,7 @@ pub(crate) fn add_interest_number<K: Key>(
     Ok(())
 }
 
-/// These expressions get numbers, where they have none yet. The only error is want of memory.
+/// These expressions get numbers, where they have none yet.
 #[tactic(auto, unfolding(zt_model::specs::Entities::numbered_with))]
 pub fn add_numbers<K: Key>(alloc: Global, known: &mut Vec<K>, exprs: &[K]) -> Result<(), Memory>
     ensures { OnOk result (known.new.items ≡ numbered_with K.cmp exprs.now known.old.items) }
@@ -71,8 +70,7 @@ pub fn add_numbers<K: Key>(alloc: Global, known: &mut Vec<K>, exprs: &[K]) -> Re
     Ok(())
 }
 
-/// The expressions of queryables get numbers, where they have none yet. The only error is want of
-/// memory.
+/// The expressions of queryables get numbers, where they have none yet.
 #[tactic(auto, unfolding(zt_model::specs::Entities::numbered_with))]
 pub(crate) fn add_queryable_numbers<K: Key>(
     alloc: Global,

@@ -29,8 +29,7 @@ fn close_in<K: Key>(faces: &mut Vec<ShownFace<K>>, number: u32)
 }
 
 impl<K: Key> ShownRows<K> {
-    /// A session opens. The only error is want of memory, as which counts that the numbers of faces
-    /// are given out.
+    /// A session opens. That the numbers of faces are given out counts as out of memory.
     pub fn open_session(&mut self, alloc: Global, first: u32) -> Result<(), Memory>
         ensures { OnOk result (self.new ≡ with_new_session first self.old) }
     {
@@ -47,8 +46,8 @@ impl<K: Key> ShownRows<K> {
         Ok(())
     }
 
-    /// The face of a transport opens. The only error is want of memory, as which counts that the
-    /// numbers of faces are given out.
+    /// The face of a transport opens. That the numbers of faces are given out counts as out of
+    /// memory.
     pub fn open_transport(
         &mut self,
         alloc: Global,

@@ -94,7 +94,7 @@ impl<K: Key> Ranked<ShownRouted<K>> for ShownRouted<K> {
     }
 }
 
-// A token is added in its place, where it isn't there. The only error is want of memory.
+// A token is added in its place, where it isn't there.
 pub(crate) fn add_routed<K: Key>(
     rows: &mut Vec<ShownRouted<K>>,
     row: ShownRouted<K>,

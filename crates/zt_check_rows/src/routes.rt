@@ -70,7 +70,7 @@ impl<K: Key> ShownRows<K> {
         other_than(table.router_behind(face.number(), node), self.zid())
     }
 
-    // A router's token is added. The only error is want of memory.
+    // A router's token is added.
     #[tactic(auto, unfolding(zt_model::specs::Trees::with_routed))]
     pub(crate) fn add_source(
         &mut self,
@@ -85,7 +85,7 @@ impl<K: Key> ShownRows<K> {
         add_routed(&mut self.routed, row)
     }
 
-    // A router's token goes. The only error is want of memory.
+    // A router's token goes.
     #[tactic(auto, unfolding(zt_model::specs::Trees::without_routed))]
     pub(crate) fn drop_source(
         &mut self,
@@ -101,8 +101,7 @@ impl<K: Key> ShownRows<K> {
         Ok(())
     }
 
-    /// A region gets a table, and the tokens go whose routers it doesn't list. The only error is
-    /// want of memory.
+    /// A region gets a table, and the tokens go whose routers it doesn't list.
     pub fn set_trees(
         &mut self,
         alloc: Global,

@@ -65,7 +65,7 @@ fn find_in<K: Key>(faces: &[ShownFace<K>], number: u32) -> Option<&ShownFace<K>>
     None
 }
 
-// Equal faces. The only error is want of memory.
+// Equal faces.
 fn copy_faces<K: Key>(alloc: Global, faces: &[ShownFace<K>]) -> Result<Vec<ShownFace<K>>, Memory>
     ensures { IfOk result (λ copies. copies.items ≡ faces.now) }
 {
@@ -196,7 +196,7 @@ impl<K: Key> ShownRows<K> {
     }
 
     #[tactic(auto, unfolding(zt_model::specs::Parts::with_face))]
-    /// A face hears a message at the gateway's moment. The only error is want of memory.
+    /// A face hears a message at the gateway's moment.
     pub fn hear(&mut self, alloc: Global, face: u32, message: &Message<K>) -> Result<(), Memory>
         ensures { OnOk result (self.new
             ≡ with_face face (heard K.cmp self.old.moment message.now) self.old) }
@@ -212,7 +212,7 @@ impl<K: Key> ShownRows<K> {
         )
     }
 
-    // A change of faces. The only error is want of memory.
+    // A change of faces.
     pub(crate) fn change<C: Change<ShownFace<K>>>(
         &mut self,
         alloc: Global,
@@ -224,7 +224,7 @@ impl<K: Key> ShownRows<K> {
         change_each(alloc, &mut self.faces, change)
     }
 
-    /// Rows equal to these. The only error is want of memory.
+    /// Rows equal to these.
     pub fn copy(&self, alloc: Global) -> Result<Self, Memory>
         ensures { IfOk result (λ copy. copy ≡ self.now) }
     {

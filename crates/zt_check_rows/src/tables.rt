@@ -27,8 +27,7 @@ impl Ranked<Sought> for (Region, ShownTable) {
     }
 }
 
-// A region has this table, in place of the one that it has, if any. The only error is want of
-// memory.
+// A region has this table, in place of the one that it has, if any.
 pub(crate) fn put_table(
     trees: &mut Vec<(Region, ShownTable)>,
     region: Region,
@@ -46,14 +45,14 @@ pub(crate) fn put_table(
     Ok(())
 }
 
-// An equal table under its region. The only error is want of memory.
+// An equal table under its region.
 fn copy_table(alloc: Global, table: &(Region, ShownTable)) -> Result<(Region, ShownTable), Memory>
     ensures { IfOk result (λ copy. copy ≡ table.now) }
 {
     Ok((table.0, table.1.copy(alloc)?))
 }
 
-// Equal tables. The only error is want of memory.
+// Equal tables.
 pub(crate) fn copy_tables(
     alloc: Global,
     trees: &[(Region, ShownTable)],

@@ -45,7 +45,7 @@ fn clashes_with_any<E: Entry>(entry: &E, counted: &[E]) -> bool
     counted.iter().any(|other| entry.clashes(other))
 }
 
-// The entries that count. The only error is want of memory.
+// The entries that count.
 pub(crate) fn counted<E: Entry>(alloc: Global, entries: &[E]) -> Result<Vec<E>, Memory>
     ensures { IfOk result (λ counted. counted.items ≡ counted_beside E.clash [] entries.now) }
 {

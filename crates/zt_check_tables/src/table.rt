@@ -45,7 +45,7 @@ fn router_behind(links: &[(u32, NodeId, Zid)], face: u32, node_id: NodeId) -> Op
 }
 
 impl ShownTable {
-    /// A table with these entries. The only error is want of memory.
+    /// A table with these entries.
     pub fn new(alloc: Global, table: &TreeTable) -> Result<Self, Memory>
         ensures { IfOk result (λ shown. shown ≡ trees_of table.now) }
     {
@@ -58,7 +58,7 @@ impl ShownTable {
         })
     }
 
-    /// A table equal to this one. The only error is want of memory.
+    /// A table equal to this one.
     pub fn copy(&self, alloc: Global) -> Result<Self, Memory>
         ensures { IfOk result (λ copy. copy ≡ self.now) }
     {

@@ -69,7 +69,7 @@ fn refused<K>(refusal: Refusal, text: &[u8]) -> Option<(Entry<K>, &[u8])>
 /// what is behind it. A line that begins with `>` belongs to the entry before it.
 ///
 /// None exactly where no entry of this number stands there in the printed form, with its messages
-/// in order of face. The only error is want of memory.
+/// in order of face.
 pub fn next_entry<K: Key>(
     alloc: Global,
     text: &[u8],

@@ -25,8 +25,7 @@ fn good_sent<K: Key>(alloc: Global, line: &[u8]) -> Result<Option<Sent<K>>, Memo
 }
 
 /// The messages at the front of a text, up to the first line that doesn't begin with `>`, and what
-/// is behind them. None exactly where one of these lines is no message. The only error is want of
-/// memory.
+/// is behind them. None exactly where one of these lines is no message.
 pub(crate) fn take_messages<K: Key>(
     alloc: Global,
     text: &[u8],

@@ -9,7 +9,8 @@ use std::process::ExitCode;
 use zt_streams::{StdSink, StdSource};
 use zt_workers::drive_tool;
 
-// The status of a run that lacked memory, and of words that ask for nothing that the program does.
+// The status of a run that ran out of memory, and of words that ask for nothing that the program
+// does.
 const NO_MEMORY: u8 = 5;
 
 const UNKNOWN_WORDS: u8 = 64;

@@ -84,7 +84,7 @@ fn entities_for<K: Key>(
 }
 
 /// The face's interest in what is there now and later is answered the subscribers and queryables
-/// that it asks for. The only error is want of memory; numbers that run out count as it.
+/// that it asks for. Numbers that run out count as out of memory.
 #[tactic(auto, unfolding(zt_model::specs::Parts::to_face))]
 pub fn answer_entities<K: Key>(
     alloc: Global,

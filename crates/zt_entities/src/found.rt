@@ -78,7 +78,7 @@ fn add_subscribers_of<K: Key>(
     Ok(())
 }
 
-// The subscribers that the face's interest is about. The only error is want of memory.
+// The subscribers that the face's interest is about.
 pub(crate) fn matching_subscribers<K: Key>(
     alloc: Global,
     g: &GatewayState<K>,
@@ -146,7 +146,7 @@ fn add_queryables_of<K: Key>(
     Ok(())
 }
 
-// The queryables that the face's interest is about. The only error is want of memory.
+// The queryables that the face's interest is about.
 pub(crate) fn matching_queryables<K: Key>(
     alloc: Global,
     g: &GatewayState<K>,

@@ -88,7 +88,7 @@ fn asks_aggregate<K: Key>(interest: &RemoteInterest<K>) -> bool
     interest.options().contains(InterestOptions::AGGREGATE)
 }
 
-// Adds the queryables that the face's interest is answered. The only error is want of memory.
+// Adds the queryables that the face's interest is answered.
 pub(crate) fn add_queryables_for<K: Key>(
     alloc: Global,
     g: &GatewayState<K>,

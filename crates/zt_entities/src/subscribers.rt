@@ -83,7 +83,7 @@ fn add_aggregate<K: Key>(
     }
 }
 
-// Adds the subscribers that the face's interest is answered. The only error is want of memory.
+// Adds the subscribers that the face's interest is answered.
 #[tactic(auto, unfolding(zt_model::specs::Entities::subscribers_for))]
 pub(crate) fn add_subscribers_for<K: Key>(
     alloc: Global,

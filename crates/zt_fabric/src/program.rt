@@ -21,11 +21,11 @@ const UNKNOWN_WORDS: u8 = 64;
 
 /// All that the program does: with no word, or the one word `run`, it carries out the script that
 /// the source gives. The result is its status: 0 where the whole transcript was written, 1 to 5 for
-/// a bad line, a script that is too long, a fault of the source, a fault of the sink and want of
-/// memory. With the words `make N`, where `N` is a decimal number from 1 to 2,000, it carries out a
-/// script of its own, in which so many sessions come and go behind a router, reads nothing, and
-/// writes the last line of the transcript alone. With other words the status is 64, and nothing is
-/// read or written.
+/// a bad line, a script that is too long, a fault of the source, a fault of the sink and running
+/// out of memory. With the words `make N`, where `N` is a decimal number from 1 to 2,000, it
+/// carries out a script of its own, in which so many sessions come and go behind a router, reads
+/// nothing, and writes the last line of the transcript alone. With other words the status is 64,
+/// and nothing is read or written.
 ///
 /// What gateways keep at the end isn't given back: the program ends, and it goes with it.
 pub fn tool<S: Source, T: Sink>(alloc: Global, words: &[String], source: &mut S, sink: &mut T) -> u8

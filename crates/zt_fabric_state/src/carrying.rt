@@ -57,7 +57,7 @@ fn prepare<K: Key>(
 }
 
 /// Carries out a call at its gateway, where the oldest message of a face's link may be taken, and
-/// answers what it says, in order of face. After want of memory nothing is changed.
+/// answers what it says, in order of face. After an error nothing is changed.
 pub fn carry_at<K: Key>(
     alloc: Global,
     s: &mut FabricState<K>,
@@ -81,7 +81,7 @@ pub fn carry_at<K: Key>(
     Ok(sent)
 }
 
-/// The number of the face that a gateway makes next. That it has none counts as want of memory;
+/// The number of the face that a gateway makes next. That it has none counts as out of memory;
 /// there are fewer places than numbers, so this is never so.
 pub fn next_face<K: Key>(g: &GatewayState<K>) -> Result<u32, Memory>
     ensures { IfOk result (λ face. face ≡ g.now.made + 1) }
@@ -90,7 +90,7 @@ pub fn next_face<K: Key>(g: &GatewayState<K>) -> Result<u32, Memory>
 }
 
 /// Opens a face at its gateway, where its place stands last, and answers what the call says. After
-/// want of memory, as which it counts that the face has no number, nothing is changed.
+/// an error as which it counts that the face has no number, nothing is changed.
 pub fn open_at<K: Key>(
     alloc: Global,
     s: &mut FabricState<K>,

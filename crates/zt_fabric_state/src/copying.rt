@@ -6,14 +6,14 @@ use std::alloc::Global;
 use zt_keys::Memory;
 use zt_region::{Filter, SouthConf, Subregion};
 
-/// An equal text. The only error is want of memory.
+/// An equal text.
 fn copy_text(alloc: Global, text: &String) -> Result<String, Memory>
     ensures { IfOk result (λ copy. string_bytes copy ≡ string_bytes text.now) }
 {
     Ok(String::from_str(alloc, text.as_str())?)
 }
 
-/// An equal name, where there is one. The only error is want of memory.
+/// An equal name, where there is one.
 pub(crate) fn copy_name(alloc: Global, name: &Option<String>) -> Result<Option<String>, Memory>
     ensures { IfOk result (λ copy. option_map string_bytes copy
         ≡ option_map string_bytes name.now) }
@@ -24,7 +24,7 @@ pub(crate) fn copy_name(alloc: Global, name: &Option<String>) -> Result<Option<S
     }
 }
 
-/// Equal texts. The only error is want of memory.
+/// Equal texts.
 fn copy_texts(alloc: Global, texts: &[String]) -> Result<Vec<String>, Memory>
     ensures { IfOk result (λ copies. map string_bytes copies.items ≡ map string_bytes texts.now) }
 {
@@ -102,7 +102,7 @@ fn copy_subregions(alloc: Global, subregions: &[Subregion]) -> Result<Vec<Subreg
     Ok(copies)
 }
 
-/// An equal configuration of the south. The only error is want of memory.
+/// An equal configuration of the south.
 pub(crate) fn copy_south(alloc: Global, south: &SouthConf) -> Result<SouthConf, Memory>
     ensures { IfOk result (λ copy. plain_south copy ≡ plain_south south.now) }
 {

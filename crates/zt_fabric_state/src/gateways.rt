@@ -12,7 +12,7 @@ use zt_region::{Admission, Region, SouthConf, TransportPeer, WhatAmI, Zid};
 use zt_rollback::RestorableState;
 use zt_state::GatewayState;
 
-/// A gateway is made, behind the others. After want of memory nothing is changed.
+/// A gateway is made, behind the others. After an error nothing is changed.
 pub fn add_gateway<K: Key>(
     alloc: Global,
     s: &mut FabricState<K>,
@@ -43,7 +43,7 @@ pub fn add_gateway<K: Key>(
     })
 }
 
-/// A gateway as the other end of a link sees it. The only error is want of memory.
+/// A gateway as the other end of a link sees it.
 pub fn peer_of<K: Key>(alloc: Global, node: &NodeState<K>) -> Result<TransportPeer, Memory>
     ensures { IfOk result (λ peer. plain_peer peer ≡ peer_of node.now) }
 {

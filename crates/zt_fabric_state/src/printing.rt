@@ -7,7 +7,7 @@ use zt_keys::{Key, Memory};
 use zt_link_queues::Places;
 use zt_protocol::{Message, Sent};
 
-/// A gateway's messages as they are printed, in the order sent. The only error is want of memory.
+/// A gateway's messages as they are printed, in the order sent.
 pub(crate) fn print_all<K: Key>(
     alloc: Global,
     places: &Places,

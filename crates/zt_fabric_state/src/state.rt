@@ -50,8 +50,8 @@ impl<K: Key> Model for NodeState<K> {
 }
 
 impl<K: Key> NodeState<K> {
-    /// What the gateway keeps. The only error is want of memory: after a call that lacked it, until
-    /// `FabricState::restore` brought it back.
+    /// What the gateway keeps. After a call that lacked it, until `FabricState::restore` brought it
+    /// back.
     pub fn rows(&self) -> Result<&GatewayState<K>, Memory>
         ensures { IfOk result (λ rows. rows.now ≡ self.now.rows) }
     {
@@ -161,8 +161,8 @@ impl<K: Key> FabricState<K> {
         self.queues.first(face)
     }
 
-    /// What calls that lacked memory lost is brought back, so that `NodeState::rows` answers again.
-    /// Gateways are gone over only where a call wasn't done. The only error is want of memory.
+    /// What calls that ran out of memory lost is brought back, so that `NodeState::rows` answers
+    /// again. Gateways are gone over only where a call wasn't done.
     pub fn restore(&mut self, alloc: Global) -> Result<(), Memory>
         ensures { self.new ≡ self.old }
     {
@@ -211,7 +211,7 @@ impl<K: Key> FabricState<K> {
     }
 
     /// Carries a call out at a gateway for a line that may fail yet, and answers what the gateway
-    /// was before, and what the call says. After want of memory nothing is changed.
+    /// was before, and what the call says. After an error nothing is changed.
     pub(crate) fn turn_at(
         &mut self,
         alloc: Global,
@@ -253,7 +253,7 @@ impl<K: Key> FabricState<K> {
         self.unfinished = self.unfinished.saturating_sub(1);
     }
 
-    /// A gateway is put behind the others. After want of memory nothing is changed.
+    /// A gateway is put behind the others. After an error nothing is changed.
     pub(crate) fn push_gateway(&mut self, node: NodeState<K>) -> Result<(), Memory>
         ensures ok { OnOk result (self.new ≡ with_gateway node self.old) }
         ensures err { OnErr result (self.new ≡ self.old) }
@@ -262,7 +262,7 @@ impl<K: Key> FabricState<K> {
         Ok(())
     }
 
-    /// A place is put behind the others. After want of memory nothing is changed.
+    /// A place is put behind the others. After an error nothing is changed.
     pub(crate) fn push_place(
         &mut self,
         alloc: Global,
@@ -288,8 +288,8 @@ impl<K: Key> FabricState<K> {
         )
     }
 
-    /// A place that ends an open link is put behind the others, and nothing waits there. After want
-    /// of memory nothing is changed.
+    /// A place that ends an open link is put behind the others, and nothing waits there. After an
+    /// error nothing is changed.
     pub fn push_end(&mut self, alloc: Global, gateway: u32, face: u32) -> Result<(), Memory>
         ensures ok { OnOk result (self.new ≡ record self.old {
           faces = self.old.faces ++ record { gateway = gateway; face = face } ∷ [];
@@ -318,7 +318,7 @@ impl<K: Key> FabricState<K> {
     }
 
     /// An open link between two faces, which come behind those of all others, is put behind these.
-    /// After want of memory nothing is changed.
+    /// After an error nothing is changed.
     pub fn push_link(&mut self, one: u32, two: u32) -> Result<(), Memory>
         requires below { AreBelow one self.old.links }
         requires rising { one < two }
@@ -352,7 +352,7 @@ impl<K: Key> FabricState<K> {
     }
 
     /// The oldest message of a face's link is taken, and then messages wait, each where its face
-    /// ends an open link. After want of memory nothing is changed.
+    /// ends an open link. After an error nothing is changed.
     pub fn turn_waiting(
         &mut self,
         alloc: Global,
@@ -380,7 +380,7 @@ impl<K: Key> FabricState<K> {
     }
 }
 
-/// One more place, and what waits there: nothing yet. After want of memory nothing is changed.
+/// One more place, and what waits there: nothing yet. After an error nothing is changed.
 fn push_both<K: Key>(
     alloc: Global,
     places: &mut Places,
@@ -415,7 +415,7 @@ fn pop_both<K: Key>(places: &mut Places, queues: &mut Queues<K>)
     queues.pop();
 }
 
-/// What each gateway keeps is there. The only error is want of memory.
+/// What each gateway keeps is there.
 fn restore_all<K: Key>(alloc: Global, gateways: &mut Vec<NodeState<K>>) -> Result<(), Memory>
     ensures { gateways.new.items ≡ gateways.old.items }
 {

@@ -29,7 +29,7 @@ pub struct Turned<K: Key> {
 }
 
 /// Carries out a call at its gateway, where it exists, for a line that may fail yet: the answer has
-/// what undoes it. After want of memory nothing is changed.
+/// what undoes it. After an error nothing is changed.
 pub fn hear_call<K: Key>(
     alloc: Global,
     s: &mut FabricState<K>,

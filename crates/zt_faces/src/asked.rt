@@ -64,7 +64,7 @@ fn find_in(rows: &RowsById<Asker>, id: u32) -> Asker
     }
 }
 
-// The ask of a face under an id was sent under this id too. The only error is want of memory.
+// The ask of a face under an id was sent under this id too.
 fn note_in(
     rows: &mut RowsById<Asker>,
     sent: u32,
@@ -79,7 +79,7 @@ fn note_in(
     rows.put(sent, asker)
 }
 
-// The ask of a face under an id was sent as this too. The only error is want of memory.
+// The ask of a face under an id was sent as this too.
 fn note(
     alloc: Global,
     askers: &mut HashMap<u32, RowsById<Asker>>,
@@ -102,7 +102,7 @@ fn note(
     }
 }
 
-// The ask of a face under an id was sent as these too. The only error is want of memory.
+// The ask of a face under an id was sent as these too.
 fn note_all(
     alloc: Global,
     askers: &mut HashMap<u32, RowsById<Asker>>,
@@ -152,7 +152,7 @@ impl Askers {
         find_in(rows, id)
     }
 
-    // The ask of a face under an id was sent upstream as these. The only error is want of memory.
+    // The ask of a face under an id was sent upstream as these.
     pub(crate) fn note_ask(
         &mut self,
         alloc: Global,
@@ -167,7 +167,7 @@ impl Askers {
         note_all(alloc, &mut self.rows, face, id, pendings)
     }
 
-    // These asks of a face were sent upstream. The only error is want of memory.
+    // These asks of a face were sent upstream.
     fn note_asks<K: Key>(
         &mut self,
         alloc: Global,
@@ -183,7 +183,7 @@ impl Askers {
         Ok(())
     }
 
-    // The asks of the face were sent upstream. The only error is want of memory.
+    // The asks of the face were sent upstream.
     pub(crate) fn note_face<K: Key>(
         &mut self,
         alloc: Global,
@@ -195,7 +195,7 @@ impl Askers {
         self.note_asks(alloc, f.number(), f.asks())
     }
 
-    // The asks of these faces were sent upstream. The only error is want of memory.
+    // The asks of these faces were sent upstream.
     fn note_faces<K: Key>(&mut self, alloc: Global, faces: &[FaceState<K>]) -> Result<(), Memory>
         ensures { OnOk result (AreAsked (asked_in self.new.rows) faces.now) }
     {
@@ -205,7 +205,7 @@ impl Askers {
         Ok(())
     }
 
-    // Those of the asks of these faces, and of none that is gone. The only error is want of memory.
+    // Those of the asks of these faces, and of none that is gone.
     pub(crate) fn of_faces<K: Key>(alloc: Global, faces: &[FaceState<K>]) -> Result<Self, Memory>
         ensures { IfOk result (λ askers. AreAsked (asked_in askers.rows) faces.now) }
     {

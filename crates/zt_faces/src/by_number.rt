@@ -24,7 +24,7 @@ use zt_keys::{Key, Memory};
 use zt_protocol::InterestId;
 use zt_region::{Region, Zid};
 
-// Where the face of a number stands. A search by halves.
+// Where the face of a number stands. A binary search.
 fn search_place<K: Key>(faces: &[FaceState<K>], number: u32) -> Option<usize>
     requires { IsRising (λ f. f.number) faces.now }
     ensures found { IfSome result (λ place. IsPlace (λ f. f.number) number faces.now place) }
@@ -47,7 +47,7 @@ fn is_place<K: Key>(faces: &[FaceState<K>], number: u32, place: usize) -> bool
 }
 
 // Where the face of a number stands. Numbers count up from 1, so where none below it was closed it
-// stands at its own; otherwise it is searched for by halves.
+// stands at its own; otherwise it is found by binary search.
 fn place_of<K: Key>(faces: &[FaceState<K>], number: u32) -> Option<usize>
     requires { IsRising (λ f. f.number) faces.now }
     ensures found { IfSome result (λ place. IsPlace (λ f. f.number) number faces.now place) }
@@ -80,8 +80,7 @@ fn change_at<K: Key, C: FaceChange<K>>(faces: &mut Vec<FaceState<K>>, place: usi
     change.change(&mut faces[place]);
 }
 
-// Changes the face at a place, whose next id may be higher then. The only error is want of memory,
-// and then no face is left.
+// Changes the face at a place, whose next id may be higher then. After an error no face is left.
 fn add_at<K: Key, C: FaceAddition<K>>(
     alloc: Global,
     faces: &mut Vec<FaceState<K>>,
@@ -119,8 +118,7 @@ fn change_in<K: Key, C: FaceChange<K>>(faces: &mut Vec<FaceState<K>>, number: u3
     }
 }
 
-// Changes the face of a number, whose next id may be higher then. The only error is want of memory,
-// and then no face is left.
+// Changes the face of a number, whose next id may be higher then. After an error no face is left.
 fn add_in<K: Key, C: FaceAddition<K>>(
     alloc: Global,
     faces: &mut Vec<FaceState<K>>,
@@ -141,7 +139,7 @@ fn add_in<K: Key, C: FaceAddition<K>>(
     }
 }
 
-// The face at a place asks. The only error is want of memory.
+// The face at a place asks.
 fn ask_at<K: Key>(
     alloc: Global,
     faces: &mut Vec<FaceState<K>>,
@@ -157,7 +155,7 @@ fn ask_at<K: Key>(
     faces[place].ask(alloc, id, interest, pendings)
 }
 
-// The face of a number asks. The only error is want of memory.
+// The face of a number asks.
 fn ask_in<K: Key>(
     alloc: Global,
     faces: &mut Vec<FaceState<K>>,
@@ -176,8 +174,7 @@ fn ask_in<K: Key>(
     }
 }
 
-// What is known of asks that are gone is dropped, where that is much. The only error is want of
-// memory.
+// What is known of asks that are gone is dropped, where that is much.
 fn tidy<K: Key>(alloc: Global, faces: &[FaceState<K>], askers: &mut Askers) -> Result<(), Memory>
     requires { AreAsked (asked_in askers.old.rows) faces.now }
     ensures { OnOk result (AreAsked (asked_in askers.new.rows) faces.now) }
@@ -190,7 +187,7 @@ fn tidy<K: Key>(alloc: Global, faces: &[FaceState<K>], askers: &mut Askers) -> R
     Ok(())
 }
 
-// The ask of a face is known from here on by what it was sent as. The only error is want of memory.
+// The ask of a face is known from here on by what it was sent as.
 fn know<K: Key>(
     alloc: Global,
     faces: &[FaceState<K>],
@@ -207,8 +204,7 @@ fn know<K: Key>(
     askers.note_ask(alloc, number, id, pendings)
 }
 
-// What a face asks for now is known from here on by what it was sent as, if anything. The only
-// error is want of memory.
+// What a face asks for now is known from here on by what it was sent as, if anything.
 fn know_current<K: Key>(
     alloc: Global,
     faces: &[FaceState<K>],
@@ -230,8 +226,7 @@ fn know_current<K: Key>(
     }
 }
 
-// The face of a number asks, and its ask is known by what it was sent as. The only error is want of
-// memory.
+// The face of a number asks, and its ask is known by what it was sent as.
 fn ask_known<K: Key>(
     alloc: Global,
     faces: &mut Vec<FaceState<K>>,
@@ -272,7 +267,7 @@ fn remove_in<K: Key>(faces: &mut Vec<FaceState<K>>, routers: &mut BTreeSet<Stand
     }
 }
 
-// A face more. The only error is want of memory, and then nothing changes.
+// A face more. After an error nothing changes.
 fn push_in<K: Key>(
     faces: &mut Vec<FaceState<K>>,
     routers: &mut BTreeSet<Standing>,
@@ -397,7 +392,7 @@ impl<K: Key> Faces<K> {
         &self.faces
     }
 
-    /// The face of a number. Found at once where none below it was closed, else by halves.
+    /// The face of a number. Found at once where none below it was closed, else by binary search.
     pub fn find(&self, number: u32) -> Option<&FaceState<K>>
         ensures found { option_copied result ≡ first_where (λ f. number == f.number) self.now }
         ensures rising { IsRising (λ f. f.number) self.now }
@@ -405,8 +400,8 @@ impl<K: Key> Faces<K> {
         find_in(&self.faces, number)
     }
 
-    /// The first face of a region behind which the router stands. Found by halves in regions that may
-    /// be router regions, else by a walk.
+    /// The first face of a region behind which the router stands. Found by binary search in regions
+    /// that may be router regions, else by a walk.
     pub fn find_of_router(&self, region: Region, zid: Zid) -> Option<&FaceState<K>>
         ensures { option_copied result
             ≡ first_where (λ f. region_eq f.region region && zid_eq f.zid zid) self.now }
@@ -422,7 +417,7 @@ impl<K: Key> Faces<K> {
         change_in(&mut self.faces, number, change);
     }
 
-    /// Changes the face of a number. The only error is want of memory, and then no face is left.
+    /// Changes the face of a number. After an error no face is left.
     pub fn add<C: FaceAddition<K>>(
         &mut self,
         alloc: Global,
@@ -456,8 +451,8 @@ impl<K: Key> Faces<K> {
         self.askers.find(face, id)
     }
 
-    /// The face of a number asks by an interest that was sent upstream as these. The only error is
-    /// want of memory, and then no face is left.
+    /// The face of a number asks by an interest that was sent upstream as these. After an error no
+    /// face is left.
     pub fn ask(
         &mut self,
         alloc: Global,
@@ -488,8 +483,7 @@ impl<K: Key> Faces<K> {
         }
     }
 
-    /// A face more, whose number is the next above `made`. The only error is want of memory, and
-    /// then the faces stay.
+    /// A face more, whose number is the next above `made`. After an error the faces stay.
     pub fn push(&mut self, alloc: Global, face: FaceState<K>, made: u32) -> Result<(), Memory>
         requires up_to { AreUpTo (λ f. f.number) made self.old }
         requires above { made < face.number }
@@ -510,7 +504,7 @@ impl<K: Key> Faces<K> {
         remove_in(&mut self.faces, &mut self.routers, number);
     }
 
-    /// Equal faces. The only error is want of memory.
+    /// Equal faces.
     pub fn copy(&self, alloc: Global) -> Result<Self, Memory>
         ensures { IfOk result (λ copy. copy ≡ self.now) }
     {

@@ -43,7 +43,7 @@ pub(crate) fn standing_of<K: Key>(f: &FaceState<K>) -> Standing
     }
 }
 
-/// A face more. The only error is want of memory, and then nothing changes.
+/// A face more. After an error nothing changes.
 pub(crate) fn add_standing(
     routers: &mut BTreeSet<Standing>,
     standing: Standing,
@@ -87,7 +87,7 @@ fn number_if_of(standing: &Standing, region: Region, zid: Zid) -> Option<u32>
     }
 }
 
-/// The number of the first face of a region behind which the router stands. Found by halves.
+/// The number of the first face of a region behind which the router stands. Found by binary search.
 pub(crate) fn first_of_router(routers: &BTreeSet<Standing>, region: Region, zid: Zid) -> Option<u32>
     ensures found { IfSome result (λ number. IsFirstOf region zid number routers.now.keys) }
     ensures none { IfNone result (HasNoneOf region zid routers.now.keys) }
@@ -103,7 +103,7 @@ pub(crate) fn first_of_router(routers: &BTreeSet<Standing>, region: Region, zid:
     }
 }
 
-/// The same places. The only error is want of memory.
+/// The same places.
 pub(crate) fn copy_standings(routers: &BTreeSet<Standing>) -> Result<BTreeSet<Standing>, Memory>
     ensures { IfOk result (λ copy. copy.keys ≡ routers.now.keys) }
 {

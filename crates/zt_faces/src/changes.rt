@@ -40,7 +40,7 @@ pub trait FaceAddition<K: Key> {
     /// The face after the change.
     ghost added: { Self → Face K → Face K };
 
-    /// Changes the face. The only error is want of memory.
+    /// Changes the face.
     fn add(&self, alloc: Global, f: &mut FaceState<K>) -> Result<(), Memory>
         ensures { OnOk result (f.new ≡ added self.now f.old) };
 

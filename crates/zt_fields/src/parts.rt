@@ -74,8 +74,8 @@ pub fn first_at<'a>(
 
 /// The key that the next field spells, and what is left behind it.
 ///
-/// `NotInGrammar` where no field is left or the field spells no key. The only other error is want
-/// of memory.
+/// `NotInGrammar` where no field is left or the field spells no key. The only other error is
+/// `Memory`.
 #[tactic(auto, unfolding(crate::specs::Fields::value_at))]
 #[inline(always)]
 pub fn key_at<K: Key>(alloc: Global, rest: Option<&str>) -> Result<(K, Option<&str>), LineError>
@@ -90,8 +90,7 @@ pub fn key_at<K: Key>(alloc: Global, rest: Option<&str>) -> Result<(K, Option<&s
 /// The key behind `expr=` of the next field, where the field begins with it; else none, and no
 /// field is taken.
 ///
-/// `NotInGrammar` where what stands behind it spells no key. The only other error is want of
-/// memory.
+/// `NotInGrammar` where what stands behind it spells no key. The only other error is `Memory`.
 #[tactic(auto, unfolding(crate::specs::Fields::optional_value_at))]
 #[inline(always)]
 pub fn optional_key_at<K: Key>(

@@ -136,7 +136,7 @@ fn is_key_text(text: &[u8]) -> bool
     !text.is_empty() && !has_blank(text)
 }
 
-/// The key that a field spells. The only other error is want of memory.
+/// The key that a field spells. The only other error is `Memory`.
 pub(crate) fn key_read<K: Key>(alloc: Global, text: &str) -> Result<K, LineError>
     ensures { Finds (λ key. key) result (key_read K.reading text.now) }
 {

@@ -27,8 +27,8 @@ fn face_of<K: Key>(state: &GatewayState<K>, call: &Call<K>) -> Option<u32>
 }
 
 // What a call leaves of what a gateway keeps, what it says and the face that it makes, where
-// nothing refuses it. The gateway keeps what it did; it is got back first, where a call before
-// lacked memory or was prepared alone.
+// nothing refuses it. The gateway keeps what it did; it is rebuilt first, where a call before ran
+// out of memory or was prepared alone.
 pub(crate) fn carried<K: Key>(
     alloc: Global,
     kept: &mut RestorableState<K>,
@@ -78,7 +78,7 @@ pub(crate) fn closed_by<K: Key>(call: &Call<K>) -> Option<u32>
     }
 }
 
-// Room for so many messages. The only error is want of memory.
+// Room for so many messages.
 pub(crate) fn room_for<K>(
     alloc: Global,
     waiting: &Vec<(u32, Message<K>)>,

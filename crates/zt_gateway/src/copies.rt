@@ -1,11 +1,11 @@
-// Copies of what a caller hands in.
+// Copies of what a caller passes.
 ghost use Rattle.std.specs.Prelude.{◌≡◌, IfOk, option_copied};
 
 use std::alloc::Global;
 use zt_keys::{Key, Memory};
 use zt_protocol::Message;
 
-// Copies of messages. The only error is want of memory.
+// Copies of messages.
 pub(crate) fn copy_messages<K: Key>(
     alloc: Global,
     messages: &[(u32, Message<K>)],
@@ -19,7 +19,7 @@ pub(crate) fn copy_messages<K: Key>(
     Ok(copies)
 }
 
-// A copy of an expression, where there is one. The only error is want of memory.
+// A copy of an expression, where there is one.
 pub(crate) fn copy_option<K: Key>(alloc: Global, expr: Option<&K>) -> Result<Option<K>, Memory>
     ensures { IfOk result (λ copy. copy ≡ option_copied expr.entry) }
 {

@@ -165,9 +165,8 @@ impl<K: Key> Gateway<K> {
 
     /// Carries out a call; a first id is at least 1. The answer is the number of the face that it
     /// makes, if it makes one. It is refused by the first cause that holds of it; after a refusal
-    /// or want of memory nothing is changed. An accepted call leaves each face outside router
-    /// regions with visible tokens alone that it seeks, and with all admitted ones that it is to be
-    /// told.
+    /// or an error nothing is changed. An accepted call leaves each face outside router regions
+    /// with visible tokens alone that it seeks, and with all admitted ones that it is to be told.
     pub fn call(&mut self, call: &Call<K>) -> Result<Option<u32>, CallError>
         requires { CallHasFirstIds (plain_call call.now) }
         ensures refused { IfErr result
@@ -187,7 +186,7 @@ impl<K: Key> Gateway<K> {
         }
     }
 
-    /// An equal gateway, with the messages that wait. The only error is want of memory.
+    /// An equal gateway, with the messages that wait.
     pub fn copy(&self, alloc: Global) -> Result<Self, Memory>
         ensures { IfOk result (λ copy. copy ≡ self.now) }
     {

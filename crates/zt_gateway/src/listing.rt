@@ -56,7 +56,7 @@ impl<K: Key> SourcedToken<K> {
     }
 }
 
-// Adds the tokens of a face. The only error is want of memory.
+// Adds the tokens of a face.
 fn add_live<K: Key>(
     alloc: Global,
     kind: WhatAmI,
@@ -77,8 +77,7 @@ fn add_live<K: Key>(
     Ok(())
 }
 
-// Adds the tokens of a face, where it is of the region, which has this hat. The only error is want
-// of memory.
+// Adds the tokens of a face, where it is of the region, which has this hat.
 fn add_face<K: Key>(
     alloc: Global,
     hat: Hat,
@@ -96,7 +95,7 @@ fn add_face<K: Key>(
     Ok(())
 }
 
-// The tokens of the faces of a region that has this hat. The only error is want of memory.
+// The tokens of the faces of a region that has this hat.
 fn rows_of_faces<K: Key>(
     alloc: Global,
     g: &GatewayState<K>,
@@ -113,7 +112,7 @@ fn rows_of_faces<K: Key>(
     Ok(rows)
 }
 
-// Adds a router's tokens of these expressions. The only error is want of memory.
+// Adds a router's tokens of these expressions.
 fn add_keys<K: Key>(
     alloc: Global,
     source: Zid,
@@ -133,8 +132,7 @@ fn add_keys<K: Key>(
     Ok(())
 }
 
-// Adds a router's tokens, where they are of the region and not the gateway's own. The only error is
-// want of memory.
+// Adds a router's tokens, where they are of the region and not the gateway's own.
 fn add_origin<K: Key>(
     alloc: Global,
     own: Zid,
@@ -152,7 +150,7 @@ fn add_origin<K: Key>(
     Ok(())
 }
 
-// The tokens of a region of routers but the gateway's own. The only error is want of memory.
+// The tokens of a region of routers but the gateway's own.
 fn rows_of_routers<K: Key>(
     alloc: Global,
     g: &GatewayState<K>,
@@ -168,7 +166,7 @@ fn rows_of_routers<K: Key>(
     Ok(rows)
 }
 
-// The tokens that are declared in a region. The only error is want of memory.
+// The tokens that are declared in a region.
 pub(crate) fn sourced_rows<K: Key>(
     alloc: Global,
     g: &GatewayState<K>,

@@ -25,8 +25,7 @@ fn place_of_key<K: Key>(keys: &[K], key: &K) -> Option<usize>
     Some(keys.len())
 }
 
-// Puts a copy of a key in its place among keys in order, unless it is there. The only error is want
-// of memory.
+// Puts a copy of a key in its place among keys in order, unless it is there.
 pub(crate) fn insert_key<K: Key>(alloc: Global, keys: &mut Vec<K>, key: &K) -> Result<(), Memory>
     ensures { OnOk result (keys.new.items ≡ with_key K.cmp key.now keys.old.items) }
 {
@@ -56,8 +55,7 @@ fn place_of_zid(zids: &[Zid], zid: Zid) -> Option<usize>
     Some(zids.len())
 }
 
-// Puts a zid in its place among zids in order, unless it is there. The only error is want of
-// memory.
+// Puts a zid in its place among zids in order, unless it is there.
 pub(crate) fn insert_zid(zids: &mut Vec<Zid>, zid: Zid) -> Result<(), Memory>
     ensures { OnOk result (zids.new.items ≡ with_key (λ a b. nat_cmp a.0 b.0) zid zids.old.items) }
 {

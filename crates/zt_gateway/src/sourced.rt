@@ -24,7 +24,7 @@ pub struct Sources {
     pub clients: Vec<Zid>,
 }
 
-// The expressions of these rows in order, each once. The only error is want of memory.
+// The expressions of these rows in order, each once.
 fn expressions<K: Key>(alloc: Global, rows: &[SourcedToken<K>]) -> Result<Vec<K>, Memory>
     ensures { IfOk result (λ exprs. exprs.items
         ≡ in_key_order K.cmp (map (λ row. row.expr) rows.now)) }
@@ -38,8 +38,7 @@ fn expressions<K: Key>(alloc: Global, rows: &[SourcedToken<K>]) -> Result<Vec<K>
     Ok(exprs)
 }
 
-// Puts a declarer in its place, where it is of this kind and declares the expression. The only
-// error is want of memory.
+// Puts a declarer in its place, where it is of this kind and declares the expression.
 fn insert_declarer<K: Key>(
     kind: WhatAmI,
     expr: &K,
@@ -54,7 +53,7 @@ fn insert_declarer<K: Key>(
     Ok(())
 }
 
-// The declarers of an expression that are of this kind. The only error is want of memory.
+// The declarers of an expression that are of this kind.
 fn zids_of<K: Key>(
     alloc: Global,
     kind: WhatAmI,
@@ -72,7 +71,7 @@ fn zids_of<K: Key>(
     Ok(zids)
 }
 
-// Who declares an expression. The only error is want of memory.
+// Who declares an expression.
 fn sources_of<K: Key>(alloc: Global, expr: &K, rows: &[SourcedToken<K>]) -> Result<Sources, Memory>
     ensures { IfOk result (λ s. plain_sources s ≡ sources_of K.cmp rows.now expr.now) }
 {
@@ -83,7 +82,7 @@ fn sources_of<K: Key>(alloc: Global, expr: &K, rows: &[SourcedToken<K>]) -> Resu
     })
 }
 
-// Adds an expression and who declares it. The only error is want of memory.
+// Adds an expression and who declares it.
 fn add_sources<K: Key>(
     alloc: Global,
     expr: &K,
@@ -98,7 +97,7 @@ fn add_sources<K: Key>(
     Ok(())
 }
 
-// These expressions, each with who declares it. The only error is want of memory.
+// These expressions, each with who declares it.
 fn list_sources<K: Key>(
     alloc: Global,
     exprs: &[K],
@@ -114,7 +113,7 @@ fn list_sources<K: Key>(
     Ok(found)
 }
 
-// Who declares each expression of a region, keys in order. The only error is want of memory.
+// Who declares each expression of a region, keys in order.
 fn find_sources<K: Key>(
     alloc: Global,
     state: &GatewayState<K>,
@@ -166,7 +165,7 @@ impl<K: Key> Gateway<K> {
         if let Some(state) = self.kept.state() {
             return sources_in(alloc, state, region);
         }
-        // A call was prepared and not carried out, or lacked memory.
+        // A call was prepared and not carried out, or ran out of memory.
         match self.kept.restored(alloc) {
             Ok(restored) => sources_in(alloc, restored.state(), region),
             Err(Memory) => Err(CallError::Memory),

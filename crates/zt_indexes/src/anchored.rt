@@ -31,8 +31,7 @@ impl<K: Key> Model for AnchoredKeys<K> {
     ghost view = { λ a. (a.firsts, a.lasts) };
 }
 
-// The expression stands at its numbers. The only error is want of memory, and then it may stand at
-// one.
+// The expression stands at its numbers. After an error it may stand at one.
 fn put_at_anchors<K: Key>(
     alloc: Global,
     anchored: &mut AnchoredKeys<K>,
@@ -50,7 +49,7 @@ fn put_at_anchors<K: Key>(
     Ok(())
 }
 
-/// The expressions of these counts, by their numbers. The only error is want of memory.
+/// The expressions of these counts, by their numbers.
 pub(crate) fn anchored_keys<K: Key>(
     alloc: Global,
     keys: &HashMap<K, RegionCounts>,
@@ -68,7 +67,7 @@ pub(crate) fn anchored_keys<K: Key>(
     Ok(anchored)
 }
 
-/// An expression more, where there are groups. The only error is want of memory.
+/// An expression more, where there are groups.
 pub(crate) fn put_anchored<K: Key>(
     alloc: Global,
     anchored: &mut Option<AnchoredKeys<K>>,
@@ -106,8 +105,7 @@ pub(crate) fn is_sought_by_anchors<K: Key>(key: &K) -> bool {
 }
 
 /// The expressions that match the key, of rows in regions that pass, in key order, each once: those
-/// alone are tried that may match by their numbers, unless these are many. The only error is want
-/// of memory.
+/// alone are tried that may match by their numbers, unless these are many.
 pub(crate) fn try_anchored<K: Key, T: RegionTest>(
     alloc: Global,
     anchored: &AnchoredKeys<K>,

@@ -24,7 +24,7 @@ impl<K: Key> Model for BoxedKeys<K> {
     ghost view = { λ b. option_map_or (λ keys. keys.value.keys) b.keys [] };
 }
 
-// A key more, unless it is there. The only error is want of memory, and then the keys stay.
+// A key more, unless it is there. After an error the keys stay.
 fn insert_in<K: Key>(keys: &mut HashSet<K>, key: K) -> Result<(), Memory>
     ensures ok { OnOk result ((q : K) → is_in K.cmp q keys.new.keys
         ≡ (if is_at (K.cmp key) q then true else is_in K.cmp q keys.old.keys)) }
@@ -50,7 +50,7 @@ impl<K: Key> BoxedKeys<K> {
         BoxedKeys { keys: None }
     }
 
-    /// A key more, unless it is there. The only error is want of memory, and then the keys stay.
+    /// A key more, unless it is there. After an error the keys stay.
     pub fn insert(&mut self, alloc: Global, key: K) -> Result<(), Memory>
         ensures ok { OnOk result ((q : K) → is_in K.cmp q self.new
             ≡ (if is_at (K.cmp key) q then true else is_in K.cmp q self.old)) }

@@ -59,7 +59,7 @@ impl<K: Key> KeySet<K> {
         }
     }
 
-    /// A key more, unless it is there. The only error is want of memory, and then the keys stay.
+    /// A key more, unless it is there. After an error the keys stay.
     pub fn insert(&mut self, alloc: Global, key: K) -> Result<(), Memory>
         ensures ok { OnOk result ((q : K) → is_in K.cmp q self.new
             ≡ (if is_at (K.cmp key) q then true else is_in K.cmp q self.old)) }
@@ -106,7 +106,7 @@ impl<K: Key> KeySet<K> {
     }
 }
 
-// A key more at a number. The only error is want of memory, and then all stays.
+// A key more at a number. After an error all stays.
 fn put_in<K: Key>(
     alloc: Global,
     groups: &mut HashMap<Option<u64>, KeySet<K>>,
@@ -177,8 +177,7 @@ impl<K: Key> KeyGroups<K> {
         }
     }
 
-    /// A copy of a key stands at the number, or at none. The only error is want of memory, and then
-    /// all stays.
+    /// A copy of a key stands at the number, or at none. After an error all stays.
     pub fn put_at(&mut self, alloc: Global, number: Option<u64>, key: &K) -> Result<(), Memory>
         ensures ok { OnOk result (HasChanged K.cmp number key.now true self.old self.new) }
         ensures err { OnErr result (self.new ≡ self.old) }
@@ -196,7 +195,7 @@ impl<K: Key> KeyGroups<K> {
         }
     }
 
-    /// A copy of a key stands at its number. The only error is want of memory, and then all stays.
+    /// A copy of a key stands at its number. After an error all stays.
     pub fn put(&mut self, alloc: Global, at: Anchor, key: &K) -> Result<(), Memory>
         ensures ok { OnOk result
             (HasChanged K.cmp (K.anchored at key.now) key.now true self.old self.new) }

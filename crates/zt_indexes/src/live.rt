@@ -69,8 +69,8 @@ impl<K: Key> Model for LiveCounts<K> {
     } };
 }
 
-// One row more of an expression, where it has rows. Whether it has. The only error is want of
-// memory, or of numbers, and then the counts stay.
+// One row more of an expression, where it has rows. Whether it has. Numbers that run out count as
+// out of memory. After an error the counts stay.
 fn add_to<K: Key>(
     alloc: Global,
     keys: &mut HashMap<K, RegionCounts>,
@@ -94,7 +94,7 @@ fn add_to<K: Key>(
     }
 }
 
-// Counts stand under the expression. The only error is want of memory, and then all stays.
+// Counts stand under the expression. After an error all stays.
 fn put_counts<K: Key>(
     alloc: Global,
     keys: &mut HashMap<K, RegionCounts>,
@@ -108,7 +108,7 @@ fn put_counts<K: Key>(
     Ok(())
 }
 
-// Equal counts stand under the expression. The only error is want of memory.
+// Equal counts stand under the expression.
 fn put_copy<K: Key>(
     alloc: Global,
     keys: &mut HashMap<K, RegionCounts>,
@@ -121,7 +121,7 @@ fn put_copy<K: Key>(
     put_counts(alloc, keys, expr, copy)
 }
 
-// The first row of an expression. The only error is want of memory, and then the counts stay.
+// The first row of an expression. After an error the counts stay.
 fn put_first<K: Key>(
     alloc: Global,
     keys: &mut HashMap<K, RegionCounts>,
@@ -138,8 +138,7 @@ fn put_first<K: Key>(
     put_counts(alloc, keys, expr, counts)
 }
 
-// The expression stands among those with wildcards, if it has any. The only error is want of
-// memory, and then all stays.
+// The expression stands among those with wildcards, if it has any. After an error all stays.
 fn put_wild<K: Key>(alloc: Global, wilds: &mut KeySet<K>, expr: &K) -> Result<(), Memory>
     ensures ok { OnOk result
         (HasWildChanged K.cmp (K.anchored Whole) expr.now true wilds.old wilds.new) }
@@ -211,8 +210,8 @@ impl<K: Key> LiveCounts<K> {
         }
     }
 
-    /// One row more of the expression in the region. The only error is want of memory, or of
-    /// numbers, and then the counts stay.
+    /// One row more of the expression in the region. Numbers that run out count as out of memory.
+    /// After an error the counts stay.
     pub fn add(&mut self, alloc: Global, region: Region, expr: &K) -> Result<(), Memory>
         ensures ok { OnOk result (HasOneMore K.cmp region expr.now self.old self.new) }
         ensures err { OnErr result (self.new ≡ self.old) }
@@ -246,8 +245,7 @@ impl<K: Key> LiveCounts<K> {
         is_shown_at(&self.keys, expr, test)
     }
 
-    /// The expressions of rows in regions that pass, in key order, each once. The only error is
-    /// want of memory.
+    /// The expressions of rows in regions that pass, in key order, each once.
     pub fn shown_keys<T: RegionTest>(&self, alloc: Global, test: &T) -> Result<Vec<K>, Memory>
         ensures shown { IfOk result (λ exprs. exprs.items
             ≡ shown_keys (T.passes test.now) self.now) }
@@ -256,10 +254,10 @@ impl<K: Key> LiveCounts<K> {
         try_shown(alloc, &self.keys, test)
     }
 
-    /// The expressions that match the key, of rows in regions that pass, in key order, each once.
-    /// A key without wildcards is looked up as itself, beside the expressions with wildcards. For
+    /// The expressions that match the key, of rows in regions that pass, in key order, each once. A
+    /// key without wildcards is looked up as itself, beside the expressions with wildcards. For
     /// another, after `prepare`, those alone are tried that may match by their numbers, unless
-    /// these are many. The only error is want of memory.
+    /// these are many.
     pub fn matching_keys<T: RegionTest>(
         &self,
         alloc: Global,
@@ -279,7 +277,7 @@ impl<K: Key> LiveCounts<K> {
         }
     }
 
-    /// Equal counts, which aren't prepared for any key. The only error is want of memory.
+    /// Equal counts, which aren't prepared for any key.
     pub fn copy(&self, alloc: Global) -> Result<Self, Memory>
         ensures { IfOk result (λ copy. copy ≡ self.now) }
     {

@@ -84,7 +84,7 @@ fn place_for(rows: &[(Region, u32)], region: Region) -> Option<usize>
 }
 
 // One row more in the region. Counts are used again, so that there are never more of them than
-// regions. The only error is want of memory, or of numbers, and then the counts stay.
+// regions. Numbers that run out count as out of memory. After an error the counts stay.
 fn add_in(rows: &mut Vec<(Region, u32)>, region: Region) -> Result<(), Memory>
     ensures ok { OnOk result ((r : Region) →
         count_in r rows.new.items ≡ count_in r rows.old.items + one_in r region) }
@@ -148,7 +148,7 @@ enum Counts {
     More(Box<Vec<(Region, u32)>>),
 }
 
-// One row more beside those of one region. The only error is want of memory, or of numbers.
+// One row more beside those of one region. Numbers that run out count as out of memory.
 fn beside_one(alloc: Global, row: (Region, u32), region: Region) -> Result<Counts, Memory>
     ensures { IfOk result (λ counts. (r : Region) →
         count_in r (counts_of counts) ≡ count_in r (row ∷ []) + one_in r region) }
@@ -188,7 +188,7 @@ impl RegionCounts {
         }
     }
 
-    /// One row more in the region. The only error is want of memory, or of numbers, and then the
+    /// One row more in the region. Numbers that run out count as out of memory. After an error the
     /// counts stay.
     pub fn add(&mut self, alloc: Global, region: Region) -> Result<(), Memory>
         ensures ok { OnOk result ((r : Region) →
@@ -237,7 +237,7 @@ impl RegionCounts {
         !self.is_shown(&Anywhere)
     }
 
-    /// Equal counts. The only error is want of memory.
+    /// Equal counts.
     pub fn copy(&self, alloc: Global) -> Result<Self, Memory>
         ensures { IfOk result (λ copy. copy ≡ self.now) }
     {

@@ -56,8 +56,7 @@ fn is_sought_at<K: Key, T: RegionTest>(
     key.matches(expr) && is_shown_at(keys, expr, test)
 }
 
-// Puts a copy of the expression behind those found, where it is one of them. The only error is want
-// of memory.
+// Puts a copy of the expression behind those found, where it is one of them.
 fn add_if<K: Key>(alloc: Global, found: &mut Vec<K>, expr: &K, is_one: bool) -> Result<(), Memory>
     ensures { OnOk result (found.new.items
         ≡ (if is_one then found.old.items ++ expr.now ∷ [] else found.old.items)) }
@@ -68,8 +67,7 @@ fn add_if<K: Key>(alloc: Global, found: &mut Vec<K>, expr: &K, is_one: bool) -> 
     Ok(())
 }
 
-// Puts a copy of the expression among those found, where it is sought. The only error is want of
-// memory.
+// Puts a copy of the expression among those found, where it is sought.
 fn add_sought<K: Key, T: RegionTest>(
     alloc: Global,
     found: &mut Vec<K>,
@@ -86,7 +84,7 @@ fn add_sought<K: Key, T: RegionTest>(
     add_if(alloc, found, expr, is_sought_at(keys, expr, test, key))
 }
 
-// Puts a key among those found, if it is there and sought. The only error is want of memory.
+// Puts a key among those found, if it is there and sought.
 fn gather_one<K: Key, T: RegionTest>(
     alloc: Global,
     found: &mut Vec<K>,
@@ -105,7 +103,7 @@ fn gather_one<K: Key, T: RegionTest>(
     }
 }
 
-// Puts those keys among those found that are sought. The only error is want of memory.
+// Puts those keys among those found that are sought.
 fn gather_each<K: Key, T: RegionTest>(
     alloc: Global,
     found: &mut Vec<K>,
@@ -124,7 +122,7 @@ fn gather_each<K: Key, T: RegionTest>(
     Ok(())
 }
 
-// Puts those keys among those found that are sought. The only error is want of memory.
+// Puts those keys among those found that are sought.
 fn gather_more<K: Key, T: RegionTest>(
     alloc: Global,
     found: &mut Vec<K>,
@@ -143,7 +141,7 @@ fn gather_more<K: Key, T: RegionTest>(
     }
 }
 
-// Puts those of a group among those found that are sought. The only error is want of memory.
+// Puts those of a group among those found that are sought.
 fn gather_in<K: Key, T: RegionTest>(
     alloc: Global,
     found: &mut Vec<K>,
@@ -161,8 +159,7 @@ fn gather_in<K: Key, T: RegionTest>(
     gather_more(alloc, found, more, keys, test, key)
 }
 
-// Puts those among those found that are sought and stand at a number, or at none. The only error is
-// want of memory.
+// Puts those among those found that are sought and stand at a number, or at none.
 fn gather_at<K: Key, T: RegionTest>(
     alloc: Global,
     found: &mut Vec<K>,
@@ -182,7 +179,7 @@ fn gather_at<K: Key, T: RegionTest>(
     }
 }
 
-// Those that are sought and stand at the number, or at none. The only error is want of memory.
+// Those that are sought and stand at the number, or at none.
 fn gather_all<K: Key, T: RegionTest>(
     alloc: Global,
     groups: &KeyGroups<K>,
@@ -211,7 +208,7 @@ fn put_in_order<K: Key>(exprs: &mut Vec<K>)
 }
 
 /// The expressions that match the key, of rows in regions that pass, and stand at the number or at
-/// none, in key order. The only error is want of memory.
+/// none, in key order.
 pub fn try_at<K: Key, T: RegionTest>(
     alloc: Global,
     groups: &KeyGroups<K>,
@@ -228,7 +225,7 @@ pub fn try_at<K: Key, T: RegionTest>(
     Ok(found)
 }
 
-// The key and those with wildcards, where they are sought. The only error is want of memory.
+// The key and those with wildcards, where they are sought.
 fn gather_plain<K: Key, T: RegionTest>(
     alloc: Global,
     wilds: &KeySet<K>,
@@ -247,7 +244,7 @@ fn gather_plain<K: Key, T: RegionTest>(
 }
 
 /// The expressions that match the key, of rows in regions that pass, and are the key itself or
-/// stand among those with wildcards, in key order. The only error is want of memory.
+/// stand among those with wildcards, in key order.
 pub fn try_plain<K: Key, T: RegionTest>(
     alloc: Global,
     wilds: &KeySet<K>,
@@ -264,7 +261,6 @@ pub fn try_plain<K: Key, T: RegionTest>(
 }
 
 // The expressions of rows in regions that pass, as they stand in the table, where no two are alike.
-// The only error is want of memory.
 fn gather_shown<K: Key, T: RegionTest>(
     alloc: Global,
     keys: &HashMap<K, RegionCounts>,
@@ -282,7 +278,7 @@ fn gather_shown<K: Key, T: RegionTest>(
 }
 
 // The expressions that match the key, of rows in regions that pass, as they stand in the table,
-// where no two are alike. The only error is want of memory.
+// where no two are alike.
 fn gather_matching<K: Key, T: RegionTest>(
     alloc: Global,
     keys: &HashMap<K, RegionCounts>,
@@ -300,8 +296,7 @@ fn gather_matching<K: Key, T: RegionTest>(
     Ok(found)
 }
 
-/// The expressions of rows in regions that pass, in key order: each is tried. The only error is
-/// want of memory.
+/// The expressions of rows in regions that pass, in key order: each is tried.
 pub fn try_shown<K: Key, T: RegionTest>(
     alloc: Global,
     keys: &HashMap<K, RegionCounts>,
@@ -316,7 +311,6 @@ pub fn try_shown<K: Key, T: RegionTest>(
 }
 
 /// The expressions that match the key, of rows in regions that pass, in key order: each is tried.
-/// The only error is want of memory.
 pub fn try_all<K: Key, T: RegionTest>(
     alloc: Global,
     keys: &HashMap<K, RegionCounts>,

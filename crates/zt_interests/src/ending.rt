@@ -38,7 +38,7 @@ fn final_to<K: Key>(
     Ok(sends)
 }
 
-/// The final of an ask that was sent to nobody. The only error is want of memory.
+/// The final of an ask that was sent to nobody.
 #[tactic(auto, unfolding(zt_model::specs::Parts::to_face))]
 pub fn final_of<K: Key>(
     alloc: Global,
@@ -91,8 +91,7 @@ fn final_of_both_to<K: Key>(
     Ok(sends)
 }
 
-/// The final of an ask that ends with its interest, where that asked for both. The only error is
-/// want of memory.
+/// The final of an ask that ends with its interest, where that asked for both.
 #[tactic(auto, unfolding(zt_model::specs::Parts::to_face))]
 pub fn final_of_both<K: Key>(
     alloc: Global,

@@ -100,7 +100,7 @@ fn held_south<K: Key>(alloc: Global, g: &GatewayState<K>) -> Result<Vec<RemoteIn
 }
 
 /// The interests that a new face is sent: where it leads to a gateway above, what south-bound faces
-/// hold, each pair of expression and options once, else none. The only error is want of memory.
+/// hold, each pair of expression and options once, else none.
 pub fn opening_interests<K: Key>(
     alloc: Global,
     g: &GatewayState<K>,
@@ -117,7 +117,7 @@ pub fn opening_interests<K: Key>(
 }
 
 /// The tokens that a new face is told: where it is told unasked, and not by trees, those that are
-/// visible to it, else none. The only error is want of memory.
+/// visible to it, else none.
 pub fn opening_tokens<K: Key>(
     alloc: Global,
     g: &GatewayState<K>,
@@ -132,7 +132,7 @@ pub fn opening_tokens<K: Key>(
     }
 }
 
-// The id after this one; ids that run out count as want of memory.
+// The id after this one; ids that run out count as out of memory.
 fn next_id(id: u32) -> Result<u32, Memory>
     ensures { IfOk result (λ next. next ≡ id + 1) }
 {
@@ -194,8 +194,8 @@ fn open_interests_to<K: Key>(
     send_interests(alloc, face, f.next(), interests.as_slice())
 }
 
-/// A new face is sent its interests, under its ids from the next one on. The only error is want of
-/// memory; ids that run out count as it.
+/// A new face is sent its interests, under its ids from the next one on. Ids that run out count as
+/// out of memory.
 #[tactic(auto, unfolding(zt_model::specs::Parts::to_face))]
 pub fn open_interests<K: Key>(
     alloc: Global,
@@ -266,8 +266,8 @@ fn open_tokens_to<K: Key>(
     send_tokens(alloc, face, f.next(), exprs.as_slice())
 }
 
-/// A new face is told its tokens, under its ids from the next one on. The only error is want of
-/// memory; ids that run out count as it.
+/// A new face is told its tokens, under its ids from the next one on. Ids that run out count as out
+/// of memory.
 #[tactic(auto, unfolding(zt_model::specs::Parts::to_face))]
 pub fn open_tokens<K: Key>(
     alloc: Global,
@@ -303,7 +303,7 @@ fn open_final_to<K: Key>(
     }
 }
 
-/// A new mutual peer is sent the final of its initial interest. The only error is want of memory.
+/// A new mutual peer is sent the final of its initial interest.
 #[tactic(auto, unfolding(zt_model::specs::Parts::to_face))]
 pub fn open_final<K: Key>(
     alloc: Global,

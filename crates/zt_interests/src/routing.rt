@@ -131,7 +131,6 @@ impl<'a, K: Key> FaceRule<K> for Routes<'a, K> {
 }
 
 /// An interest of a face of the region `asker` is sent on to the north: Zenoh's `route_interest`.
-/// The only error is want of memory.
 pub fn route<K: Key>(
     alloc: Global,
     g: &GatewayState<K>,
@@ -180,8 +179,7 @@ fn add_target_at<K: Key>(
     }
 }
 
-/// The faces that an interest of such a mode goes to, with the ids that it gets there. The only
-/// error is want of memory.
+/// The faces that an interest of such a mode goes to, with the ids that it gets there.
 pub fn sent_as<K: Key>(
     alloc: Global,
     g: &GatewayState<K>,

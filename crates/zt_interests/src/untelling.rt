@@ -102,8 +102,7 @@ fn untell_to<K: Key>(
     Ok(untell_all(alloc, g, face, f, exprs.as_slice())?)
 }
 
-/// A face is told that what it doesn't want any more is gone, by id, in key order. The only error
-/// is want of memory.
+/// A face is told that what it doesn't want any more is gone, by id, in key order.
 #[tactic(auto, unfolding(zt_model::specs::Parts::to_face))]
 pub fn untell<K: Key>(
     alloc: Global,

@@ -178,7 +178,7 @@ impl<'a, K: Key> FaceRule<K> for Ends<'a, K> {
 }
 
 /// An interest ends upstream when no south-bound face holds it any more: Zenoh's
-/// `route_interest_final`. The only error is want of memory.
+/// `route_interest_final`.
 pub fn end_upstream<K: Key>(
     alloc: Global,
     g: &GatewayState<K>,
@@ -340,8 +340,7 @@ fn finish_asker<K: Key>(
     Ok(sends)
 }
 
-/// The asks whose last pending was that of the face under this id get their finals. The only error
-/// is want of memory.
+/// The asks whose last pending was that of the face under this id get their finals.
 pub fn finish<K: Key>(
     alloc: Global,
     g: &GatewayState<K>,

@@ -255,7 +255,7 @@ fn line<K: Key>(alloc: Global, text: &str) -> Result<Line<K>, LineError>
 /// The line of a script that these bytes spell.
 ///
 /// `NotUtf8` comes exactly where the bytes aren't UTF-8, `NotInGrammar` exactly where they are and
-/// the line is in no form of the grammar. The only other error is want of memory.
+/// the line is in no form of the grammar. The only other error is `Memory`.
 #[tactic(auto, unfolding(crate::specs::Reading::line_read))]
 pub fn read_line<K: Key>(alloc: Global, bytes: &[u8]) -> Result<Line<K>, LineError>
     ensures { Gives plain_line result (line_read K.reading bytes.now) }

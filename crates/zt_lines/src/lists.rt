@@ -39,7 +39,7 @@ pub(crate) fn list_of<M: Spelled>(
     Ok(members)
 }
 
-/// Adds an item. The only error is want of memory.
+/// Adds an item.
 pub(crate) fn push<T: Drop>(items: &mut Vec<T>, item: T) -> Result<(), LineError>
     ensures ok { OnOk result (items.new.items ≡ items.old.items ++ item ∷ []) }
     ensures err { IfErr result (λ e. e ≡ LineError.Memory) }

@@ -34,7 +34,7 @@ impl<'a> FaceNumbers<'a> {
     }
 
     /// The number in scripts of a face; 0 where there is none. Found at once where faces follow one
-    /// another, else by halves.
+    /// another, else by binary search.
     pub fn number(&self, face: u32) -> u32
         ensures { result ≡ number_in face self.now }
     {
@@ -81,8 +81,7 @@ impl NumberedFaces {
         self.pairs.as_slice()
     }
 
-    /// A face has a number, where it had none. The only error is want of memory, and then all
-    /// stays.
+    /// A face has a number, where it had none. After an error all stays.
     pub(crate) fn put(&mut self, face: u32, number: u32) -> Result<(), Memory>
         ensures ok { OnOk result (self.new ≡ with_number face number self.old) }
         ensures err { OnErr result (self.new ≡ self.old) }

@@ -57,8 +57,8 @@ impl LinkState {
     }
 }
 
-// How many links have no face from a number on. Found at once where all faces below end links,
-// else by halves.
+// How many links have no face from a number on. Found at once where all faces below end links, else
+// by binary search.
 fn count_before(links: &[LinkState], face: u32) -> usize
     requires { FacesRise 0 links.now }
     ensures { IsCut face links.now result }
@@ -136,7 +136,7 @@ impl Links {
         self.links.as_slice()
     }
 
-    /// The open link that a face ends. A search by halves.
+    /// The open link that a face ends. A binary search.
     pub fn find_open(&self, face: u32) -> Option<&LinkState>
         ensures { option_copied result
             ≡ first_where (λ link. link.is_open && is_end_of face link) self.now }
@@ -145,7 +145,7 @@ impl Links {
     }
 
     /// An open link between two faces, which are above those of all links before it, is put behind
-    /// these. The only error is want of memory, and then nothing is changed.
+    /// these. After an error nothing is changed.
     pub fn push(&mut self, one: u32, two: u32) -> Result<(), Memory>
         requires below { AreBelow one self.old }
         requires rising { one < two }

@@ -62,7 +62,7 @@ impl Model for Places {
     ghost invariant = { λ p. AreNumbers p.numbers.items p.places.items };
 }
 
-// The number of the place that is put next. That it has none counts as want of memory.
+// The number of the place that is put next. That it has none counts as out of memory.
 fn next_number(count: usize) -> Result<u32, Memory>
     ensures { IfOk result (λ number. number ≡ count + 1) }
 {
@@ -83,7 +83,7 @@ fn find_faces(numbers: &[NumberedFaces], gateway: u32) -> &[(u32, u32)]
     }
 }
 
-// There is room for a gateway's faces. The only error is want of memory; no face is lost by it.
+// There is room for a gateway's faces. After an error no face is lost.
 fn reach(alloc: Global, numbers: &mut Vec<NumberedFaces>, gateway: u32) -> Result<(), Memory>
     ensures there { OnOk result (gateway < length numbers.new.items) }
     ensures same { (g : ℕ) → faces_at g numbers.new.items ≡ faces_at g numbers.old.items }
@@ -94,7 +94,7 @@ fn reach(alloc: Global, numbers: &mut Vec<NumberedFaces>, gateway: u32) -> Resul
     Ok(())
 }
 
-// A face has a number, where it had none. The only error is want of memory, and then all stays.
+// A face has a number, where it had none. After an error all stays.
 fn put_number(
     alloc: Global,
     numbers: &mut Vec<NumberedFaces>,
@@ -119,7 +119,7 @@ fn drop_number(numbers: &mut Vec<NumberedFaces>, gateway: u32, face: u32, number
     }
 }
 
-// One more place. The only error is want of memory, and then all stays.
+// One more place. After an error all stays.
 fn push_in(
     places: &mut Vec<PlaceState>,
     numbers: &mut Vec<NumberedFaces>,
@@ -196,8 +196,8 @@ impl Places {
         self.faces_of(gateway).number(face)
     }
 
-    /// A place is put behind the others. The only error is want of memory, and then nothing is
-    /// changed; that the place has no number counts as such.
+    /// A place is put behind the others. After an error nothing is changed; that the place has no
+    /// number counts as out of memory.
     pub fn push(&mut self, gateway: u32, face: u32) -> Result<(), Memory>
         ensures ok { OnOk result (self.new
             ≡ self.old ++ record { gateway = gateway; face = face } ∷ []) }

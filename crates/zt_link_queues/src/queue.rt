@@ -79,8 +79,7 @@ impl<K: Key> Queue<K> {
         Queue { messages: None }
     }
 
-    // A message waits behind the others. The only error is want of memory, and then nothing is
-    // changed.
+    // A message waits behind the others. After an error nothing is changed.
     pub(crate) fn add(&mut self, alloc: Global, message: &Message<K>) -> Result<(), Memory>
         ensures ok { OnOk result (self.new ≡ option_map (λ ms. ms ++ message.now ∷ []) self.old) }
         ensures err { OnErr result (self.new ≡ self.old) }

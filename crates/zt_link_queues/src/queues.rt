@@ -42,7 +42,7 @@ fn index_of(count: usize, face: u32) -> Option<usize>
     Some(face as usize - 1)
 }
 
-// A message waits, where its face ends an open link. After want of memory nothing is changed.
+// A message waits, where its face ends an open link. After an error nothing is changed.
 fn add_one<K: Key>(alloc: Global, queues: &mut Vec<Queue<K>>, one: &Sent<K>) -> Result<(), Memory>
     ensures ok { OnOk result (queues.new.items ≡ grown_from 1 (one.now ∷ []) queues.old.items) }
     ensures err { OnErr result (queues.new.items ≡ queues.old.items) }
@@ -79,7 +79,7 @@ fn drop_all<K: Key>(queues: &mut Vec<Queue<K>>, sent: &[Sent<K>])
     }
 }
 
-// Messages wait, each where its face ends an open link. After want of memory nothing is changed.
+// Messages wait, each where its face ends an open link. After an error nothing is changed.
 fn add_all<K: Key>(
     alloc: Global,
     queues: &mut Vec<Queue<K>>,
@@ -142,8 +142,7 @@ impl<K: Key> Queues<K> {
         }
     }
 
-    /// One more place, which ends an open link or not. The only error is want of memory, and then
-    /// nothing is changed.
+    /// One more place, which ends an open link or not. After an error nothing is changed.
     pub fn push(&mut self, alloc: Global, ends_link: bool) -> Result<(), Memory>
         ensures ok { OnOk result
             (self.new ≡ self.old ++ (if ends_link then Some [] else None) ∷ []) }
@@ -172,8 +171,7 @@ impl<K: Key> Queues<K> {
         first(self.queues.as_slice(), face)
     }
 
-    /// Messages wait, each where its face ends an open link. The only error is want of memory, and
-    /// then nothing is changed.
+    /// Messages wait, each where its face ends an open link. After an error nothing is changed.
     pub fn add(&mut self, alloc: Global, sent: &[Sent<K>]) -> Result<(), Memory>
         ensures ok { OnOk result
             (waiting_from 1 self.new ≡ with_printed sent.now (waiting_from 1 self.old)) }
@@ -192,8 +190,7 @@ impl<K: Key> Queues<K> {
     }
 
     /// The oldest message that waits at a place goes, where one is named, and then messages wait,
-    /// each where its face ends an open link. The only error is want of memory, and then nothing is
-    /// changed.
+    /// each where its face ends an open link. After an error nothing is changed.
     pub fn take_and_add(
         &mut self,
         alloc: Global,

@@ -61,8 +61,7 @@ pub struct CountedRouters {
     pub nodes: HashMap<Zid, NodeId>,
 }
 
-/// The routers that count: none of those before it clashes with one. The only error is want of
-/// memory.
+/// The routers that count: none of those before it clashes with one.
 pub fn counted_routers(alloc: Global, routers: &[(NodeId, Zid)]) -> Result<CountedRouters, Memory>
     ensures routers { IfOk result (λ counted. counted.routers.items
         ≡ counted_beside is_same_router [] routers.now) }
@@ -131,8 +130,7 @@ pub struct CountedLinks {
     pub behind: HashMap<(u32, NodeId), Zid>,
 }
 
-/// The links that count: none of those before it clashes with one. The only error is want of
-/// memory.
+/// The links that count: none of those before it clashes with one.
 pub fn counted_links(alloc: Global, links: &[(u32, NodeId, Zid)]) -> Result<CountedLinks, Memory>
     ensures links { IfOk result (λ counted. counted.links.items
         ≡ counted_beside is_same_link [] links.now) }

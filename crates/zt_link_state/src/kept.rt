@@ -66,7 +66,7 @@ impl KeptTable {
         }
     }
 
-    /// A table that is kept, with its look-ups. The only error is want of memory.
+    /// A table that is kept, with its look-ups.
     #[tactic(auto, unfolding(zt_model::specs::Trees::counted_table))]
     pub fn new(alloc: Global, table: TreeTable) -> Result<Self, Memory>
         ensures { IfOk result (λ kept. kept ≡ trees_of table) }
@@ -91,7 +91,7 @@ impl KeptTable {
         &self.table
     }
 
-    /// An equal table. The only error is want of memory.
+    /// An equal table.
     pub fn copy(&self, alloc: Global) -> Result<Self, Memory>
         ensures { IfOk result (λ copy. copy ≡ self.now) }
     {
@@ -129,14 +129,15 @@ impl KeptTable {
         self.behind.get(&(face, node_id)).copied()
     }
 
-    /// The entries of a source, each with a router to which its tokens go on. Found by halves.
+    /// The entries of a source, each with a router to which its tokens go on. Found by binary
+    /// search.
     pub fn children_of(&self, source: Zid) -> &[(Zid, Zid)]
         ensures { HaveChildrenOf source result.now (counted_table self.now).children }
     {
         entries_of(&self.by_source, source)
     }
 
-    /// Whether the source's tokens go on to the router. Found by halves.
+    /// Whether the source's tokens go on to the router. Found by binary search.
     pub fn has_child(&self, source: Zid, router: Zid) -> bool
         ensures { result ≡ list_any
             (λ c. zid_eq source c.0 && zid_eq router c.1) (counted_table self.now).children }

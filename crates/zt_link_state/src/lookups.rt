@@ -44,7 +44,7 @@ fn routers_by_node(
     Ok(by_id)
 }
 
-// Routers in order of node id. The only error is want of memory.
+// Routers in order of node id.
 pub(crate) fn routers_in_order(
     alloc: Global,
     routers: &[(NodeId, Zid)],
@@ -58,8 +58,7 @@ pub(crate) fn routers_in_order(
     Ok(ordered)
 }
 
-// The entries in order of source, and for one source in order of router, each once. The only error
-// is want of memory.
+// The entries in order of source, and for one source in order of router, each once.
 pub(crate) fn by_source(alloc: Global, children: &[(Zid, Zid)]) -> Result<Vec<(Zid, Zid)>, Memory>
     ensures { IfOk result (λ pairs. AreBySource pairs.items children.now) }
 {
@@ -69,7 +68,7 @@ pub(crate) fn by_source(alloc: Global, children: &[(Zid, Zid)]) -> Result<Vec<(Z
     Ok(pairs)
 }
 
-// Whether a source with a router is among entries in order. A search by halves.
+// Whether a source with a router is among entries in order. A binary search.
 pub(crate) fn has_pair(pairs: &[(Zid, Zid)], source: Zid, router: Zid) -> bool
     requires { IsSorted child_cmp pairs.now }
     ensures { result ≡ list_any (λ c. zid_eq source c.0 && zid_eq router c.1) pairs.now }
@@ -77,7 +76,7 @@ pub(crate) fn has_pair(pairs: &[(Zid, Zid)], source: Zid, router: Zid) -> bool
     pairs.binary_search(&(source, router)).is_ok()
 }
 
-// How many entries have a source below this one. A search by halves.
+// How many entries have a source below this one. A binary search.
 fn count_below(pairs: &[(Zid, Zid)], source: Zid) -> usize
     requires { IsNonDecreasingBy number_of_source pairs.now }
     ensures parted { IsPartitionPoint (λ c. nat_lt (number_of_source c) source.0 ≡ true)
@@ -87,7 +86,7 @@ fn count_below(pairs: &[(Zid, Zid)], source: Zid) -> usize
     pairs.partition_point(|child| child.0.0 < source.0)
 }
 
-// How many entries have this source or one below it. A search by halves.
+// How many entries have this source or one below it. A binary search.
 fn count_up_to(pairs: &[(Zid, Zid)], source: Zid) -> usize
     requires { IsNonDecreasingBy number_of_source pairs.now }
     ensures parted { IsPartitionPoint (λ c. nat_le (number_of_source c) source.0 ≡ true)
@@ -97,7 +96,7 @@ fn count_up_to(pairs: &[(Zid, Zid)], source: Zid) -> usize
     pairs.partition_point(|child| child.0.0 <= source.0)
 }
 
-// The entries of a source, found by halves.
+// The entries of a source, found by binary search.
 pub(crate) fn entries_of(pairs: &[(Zid, Zid)], source: Zid) -> &[(Zid, Zid)]
     requires { IsSorted child_cmp pairs.now }
     ensures { HaveChildrenOf source result.now pairs.now }

@@ -17,7 +17,7 @@ use std::collections::{BTreeMap, BTreeSet};
 use zt_keys::{Key, Memory};
 use zt_region::Region;
 
-// Puts a token in its place: whether it is new. The only error is want of memory.
+// Puts a token in its place: whether it is new.
 pub(crate) fn insert_in<K: Key>(
     alloc: Global,
     sources: &mut BTreeMap<Origin, BTreeSet<K>>,
@@ -115,7 +115,7 @@ pub(crate) fn drop_left_out_in<K: Key>(
     sources.retain(|origin, _keys| !is_left_out(region, table, *origin));
 }
 
-// The keys as a list. The only error is want of memory.
+// The keys as a list.
 fn list_keys<K: Key>(alloc: Global, keys: &BTreeSet<K>) -> Result<Vec<K>, Memory>
     ensures { IfOk result (λ list. list.items ≡ keys.now.keys) }
 {
@@ -126,7 +126,7 @@ fn list_keys<K: Key>(alloc: Global, keys: &BTreeSet<K>) -> Result<Vec<K>, Memory
     Ok(list)
 }
 
-// The expressions of an origin's tokens, in order. The only error is want of memory.
+// The expressions of an origin's tokens, in order.
 pub(crate) fn expressions_in<K: Key>(
     alloc: Global,
     sources: &BTreeMap<Origin, BTreeSet<K>>,
@@ -143,7 +143,7 @@ pub(crate) fn expressions_in<K: Key>(
     }
 }
 
-// Adds a copy of a key, above those that are there. The only error is want of memory.
+// Adds a copy of a key, above those that are there.
 fn copy_key<K: Key>(alloc: Global, copy: &mut BTreeSet<K>, key: &K) -> Result<(), Memory>
     ensures { OnOk result (copy.new.keys ≡ insert_key K.cmp copy.old.keys key.now) }
 {
@@ -151,7 +151,7 @@ fn copy_key<K: Key>(alloc: Global, copy: &mut BTreeSet<K>, key: &K) -> Result<()
     Ok(())
 }
 
-// An equal set. The only error is want of memory.
+// An equal set.
 fn copy_set<K: Key>(alloc: Global, keys: &BTreeSet<K>) -> Result<BTreeSet<K>, Memory>
     requires { IsStrictlySortedBy K.cmp keys.now.keys }
     ensures { IfOk result (λ copy. copy ≡ keys.now) }
@@ -163,7 +163,7 @@ fn copy_set<K: Key>(alloc: Global, keys: &BTreeSet<K>) -> Result<BTreeSet<K>, Me
     Ok(copy)
 }
 
-// Adds a copy of an origin with its tokens. The only error is want of memory.
+// Adds a copy of an origin with its tokens.
 fn copy_source<K: Key>(
     alloc: Global,
     copy: &mut BTreeMap<Origin, BTreeSet<K>>,
@@ -178,7 +178,7 @@ fn copy_source<K: Key>(
     Ok(())
 }
 
-// Equal tokens. The only error is want of memory.
+// Equal tokens.
 pub(crate) fn copy_sources<K: Key>(
     alloc: Global,
     sources: &BTreeMap<Origin, BTreeSet<K>>,

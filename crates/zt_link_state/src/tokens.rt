@@ -47,8 +47,7 @@ impl<K: Key> RoutedTokens<K> {
         }
     }
 
-    /// Puts a token in its place, if it isn't there yet: whether it is new. The only error is want
-    /// of memory.
+    /// Puts a token in its place, if it isn't there yet: whether it is new.
     pub fn insert(
         &mut self,
         alloc: Global,
@@ -95,8 +94,7 @@ impl<K: Key> RoutedTokens<K> {
         drop_left_out_in(&mut self.sources, region, table);
     }
 
-    /// The expressions of a source's tokens in a region, in order. The only error is want of
-    /// memory.
+    /// The expressions of a source's tokens in a region, in order.
     pub fn expressions(&self, alloc: Global, region: Region, source: Zid) -> Result<Vec<K>, Memory>
         ensures { IfOk result (λ exprs. exprs.items
             ≡ in_key_order K.cmp
@@ -114,7 +112,7 @@ impl<K: Key> RoutedTokens<K> {
         &self.sources
     }
 
-    /// Equal tokens. The only error is want of memory.
+    /// Equal tokens.
     pub fn copy(&self, alloc: Global) -> Result<Self, Memory>
         ensures { IfOk result (λ copy. copy ≡ self.now) }
     {

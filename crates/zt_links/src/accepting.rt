@@ -27,7 +27,7 @@ pub(crate) fn taken_of<K: Key>(s: &FabricState<K>, link: u32, back: bool) -> Opt
     }
 }
 
-/// Carries out a line that no cause refuses, whose call is `made`. After want of memory nothing is
+/// Carries out a line that no cause refuses, whose call is `made`. After an error nothing is
 /// changed.
 pub(crate) fn accept<K: Key>(
     alloc: Global,

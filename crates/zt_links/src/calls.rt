@@ -48,7 +48,7 @@ pub(crate) fn face_of<K: Key>(call: &Call<K>) -> Option<u32>
     }
 }
 
-/// A copy of the call, where the face has another number. The only error is want of memory.
+/// A copy of the call, where the face has another number.
 fn call_with_face<K: Key>(alloc: Global, call: &Call<K>, face: u32) -> Result<Call<K>, Memory>
     ensures { IfOk result (λ copy. plain_call copy ≡ with_call_face face (plain_call call.now)) }
 {
@@ -109,8 +109,7 @@ fn call_with_face<K: Key>(alloc: Global, call: &Call<K>, face: u32) -> Result<Ca
     })
 }
 
-/// The call of a message that a face speaks, where the message is one. The only error is want of
-/// memory.
+/// The call of a message that a face speaks, where the message is one.
 fn call_of_message<K: Key>(
     alloc: Global,
     message: &Message<K>,
@@ -161,7 +160,7 @@ fn call_of_message<K: Key>(
     }))
 }
 
-/// The call of a face, at its place. The only error is want of memory.
+/// The call of a face, at its place.
 fn call_at_face<K: Key>(
     alloc: Global,
     s: &FabricState<K>,
@@ -193,8 +192,7 @@ fn face_at<K: Key>(s: &FabricState<K>, gateway: u32, face: u32) -> u32
     }
 }
 
-/// The table, where links name faces by their numbers at the gateway. The only error is want of
-/// memory.
+/// The table, where links name faces by their numbers at the gateway.
 fn table_at<K: Key>(
     alloc: Global,
     s: &FabricState<K>,
@@ -215,7 +213,6 @@ fn table_at<K: Key>(
 }
 
 /// The call of the oldest message in a direction of a link, spoken by the face at the other end.
-/// The only error is want of memory.
 fn call_of_step<K: Key>(
     alloc: Global,
     s: &FabricState<K>,
@@ -244,7 +241,7 @@ fn call_of_step<K: Key>(
     }))
 }
 
-/// The one call of a line, where its gateway or face exists. The only error is want of memory.
+/// The one call of a line, where its gateway or face exists.
 #[tactic(auto, unfolding(zt_model::specs::Fabric::call_of))]
 pub(crate) fn call_of_line<K: Key>(
     alloc: Global,

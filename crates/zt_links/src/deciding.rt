@@ -27,7 +27,7 @@ fn unlink_cause<K: Key>(s: &FabricState<K>, link: u32) -> Option<Refusal>
     }
 }
 
-/// Why a line is refused; `made` is its call. The only error is want of memory.
+/// Why a line is refused; `made` is its call.
 pub(crate) fn cause_of_line<K: Key>(
     alloc: Global,
     s: &FabricState<K>,

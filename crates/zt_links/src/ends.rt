@@ -14,7 +14,7 @@ use zt_refusals::{is_north_taken, is_region_of};
 use zt_region::{Bound, Region, RegionError};
 use zt_state::GatewayState;
 
-/// Whether the region of an end isn't one of its gateway. The only error is want of memory.
+/// Whether the region of an end isn't one of its gateway.
 pub(crate) fn names_no_region<K: Key>(
     node: &NodeState<K>,
     answer: &Result<(Region, Bound), RegionError>,
@@ -29,7 +29,7 @@ pub(crate) fn names_no_region<K: Key>(
     }
 }
 
-/// Whether the face of an end doesn't fit its region. The only error is want of memory.
+/// Whether the face of an end doesn't fit its region.
 pub(crate) fn misfits<K: Key>(
     node: &NodeState<K>,
     answer: &Result<(Region, Bound), RegionError>,
@@ -49,7 +49,7 @@ pub(crate) fn misfits<K: Key>(
     }
 }
 
-/// Whether the region of an end has its one face already. The only error is want of memory.
+/// Whether the region of an end has its one face already.
 pub(crate) fn takes_north<K: Key>(
     node: &NodeState<K>,
     answer: &Result<(Region, Bound), RegionError>,
@@ -71,8 +71,7 @@ fn is_climbed<K: Key>(rows: &GatewayState<K>, region: Region) -> bool
     has_one_north(rows) && region == Region::North
 }
 
-/// Whether an end would close a loop of gateways that have one face each to the north. The only
-/// error is want of memory.
+/// Whether an end would close a loop of gateways that have one face each to the north.
 pub(crate) fn closes_loop<K: Key>(
     s: &FabricState<K>,
     node: &NodeState<K>,

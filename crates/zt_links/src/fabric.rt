@@ -48,8 +48,8 @@ impl<K: Key> Fabric<K> {
 
     /// Carries out one line, and answers its entry: the messages that are sent, in order of face,
     /// or why the line is refused. A refusal changes nothing, but that a message whose call is
-    /// refused has left its link. The first id of a face is at least 1. The only error is want of
-    /// memory, after which nothing is changed.
+    /// refused has left its link. The first id of a face is at least 1. After an error
+    /// nothing is changed.
     pub fn step_line(&mut self, line: &Line<K>) -> Result<Entry<K>, Memory>
         requires { HasFirstIds (plain_line line.now) }
         ensures entry { IfOk result (λ entry. plain_entry entry
@@ -75,8 +75,8 @@ fn refuse<K: Key>(s: &mut FabricState<K>, line: &Line<K>, refusal: Refusal)
     }
 }
 
-/// Carries out a line. After want of memory nothing is changed, and what a gateway lost by it is
-/// brought back before the next line.
+/// Carries out a line. After an error nothing is changed, and what a gateway lost by it is brought
+/// back before the next line.
 fn carry_out<K: Key>(
     alloc: Global,
     s: &mut FabricState<K>,
@@ -95,7 +95,7 @@ fn carry_out<K: Key>(
     carry_made(alloc, s, line, &made)
 }
 
-/// Carries out a line whose call is `made`. After want of memory nothing is changed.
+/// Carries out a line whose call is `made`. After an error nothing is changed.
 fn carry_made<K: Key>(
     alloc: Global,
     s: &mut FabricState<K>,

@@ -33,8 +33,7 @@ fn opening_call<K: Key>(
     end_call(&answer, beyond, first)
 }
 
-/// Opens the faces of an accepted link, and makes the link. After want of memory nothing is
-/// changed.
+/// Opens the faces of an accepted link, and makes the link. After an error nothing is changed.
 pub(crate) fn link<K: Key>(
     alloc: Global,
     s: &mut FabricState<K>,

@@ -17,8 +17,7 @@ use zt_keys::{Key, Memory};
 use zt_protocol::Refusal;
 use zt_region::{Bound, Region, RegionError};
 
-/// Why the faces of a link's two ends are refused, by the regions that the ends come to. The only
-/// error is want of memory.
+/// Why the faces of a link's two ends are refused, by the regions that the ends come to.
 fn regions_cause<K: Key>(
     a: &NodeState<K>,
     near: &Result<(Region, Bound), RegionError>,
@@ -46,7 +45,7 @@ fn lacks_numbers<K: Key>(s: &FabricState<K>) -> bool
     s.places().len() >= u32::MAX as usize - 1 || is_full(s.links().len())
 }
 
-/// Whether one of the ends closes a loop of client gateways. The only error is want of memory.
+/// Whether one of the ends closes a loop of client gateways.
 fn closes_loops<K: Key>(
     s: &FabricState<K>,
     one: u32,
@@ -150,7 +149,7 @@ fn ends_cause<K: Key>(
     later_cause(alloc, s, one, a, &near, first, two, b, &far, back)
 }
 
-/// Why a link isn't made. The only error is want of memory.
+/// Why a link isn't made.
 pub(crate) fn link_cause<K: Key>(
     alloc: Global,
     s: &FabricState<K>,

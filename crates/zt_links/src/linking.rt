@@ -65,7 +65,7 @@ fn agree(
 }
 
 /// The region of a gateway's face to another, and that one's bound. That there are too many
-/// subregions counts as want of memory.
+/// subregions counts as out of memory.
 pub(crate) fn end_region<K: Key>(
     alloc: Global,
     own: &NodeState<K>,
@@ -86,7 +86,7 @@ pub(crate) fn end_region<K: Key>(
     Ok(answer)
 }
 
-/// The call that opens the face at an end. The only error is want of memory.
+/// The call that opens the face at an end.
 pub(crate) fn end_call<K: Key>(
     answer: &Result<(Region, Bound), RegionError>,
     other: &NodeState<K>,
@@ -141,8 +141,7 @@ pub(crate) fn has_one_north<K: Key>(rows: &GatewayState<K>) -> bool
     north_hat(rows.mode()).has_one_face()
 }
 
-/// The gateway above one that has one face to the north, by its link. The only error is want of
-/// memory.
+/// The gateway above one that has one face to the north, by its link.
 fn gateway_above<K: Key>(s: &FabricState<K>, gateway: u32) -> Result<Option<u32>, Memory>
     ensures { IfOk result (λ above. above ≡ gateway_above s.now gateway) }
 {
@@ -159,8 +158,7 @@ fn gateway_above<K: Key>(s: &FabricState<K>, gateway: u32) -> Result<Option<u32>
     }
 }
 
-/// Whether a gateway is another or lies above it, at most so many links away. The only error is
-/// want of memory.
+/// Whether a gateway is another or lies above it, at most so many links away.
 pub(crate) fn climbs_to<K: Key>(
     s: &FabricState<K>,
     most: usize,
@@ -184,8 +182,7 @@ pub(crate) fn climbs_to<K: Key>(
     Ok(at == to)
 }
 
-/// Opens the face at an end of a link, whose gateway exists. After want of memory nothing is
-/// changed.
+/// Opens the face at an end of a link, whose gateway exists. After an error nothing is changed.
 fn open_end<K: Key>(
     alloc: Global,
     s: &mut FabricState<K>,
@@ -222,7 +219,7 @@ fn open_end<K: Key>(
     }
 }
 
-/// The number of the face that is placed next. That it has none counts as want of memory.
+/// The number of the face that is placed next. That it has none counts as out of memory.
 fn next_number(count: usize) -> Result<u32, Memory>
     ensures { IfOk result (λ number. number ≡ count + 1) }
 {
@@ -232,7 +229,7 @@ fn next_number(count: usize) -> Result<u32, Memory>
     Ok(count as u32 + 1)
 }
 
-/// Makes a link between two faces that are open, and what is said then waits. After want of memory
+/// Makes a link between two faces that are open, and what is said then waits. After an error
 /// nothing is changed.
 fn join<K: Key>(
     alloc: Global,
@@ -261,7 +258,7 @@ fn join<K: Key>(
     }
 }
 
-/// Opens the second face of a link, and makes the link. After want of memory nothing is changed.
+/// Opens the second face of a link, and makes the link. After an error nothing is changed.
 fn open_other<K: Key>(
     alloc: Global,
     s: &mut FabricState<K>,
@@ -298,7 +295,7 @@ fn open_other<K: Key>(
 }
 
 /// Opens the faces of a link between two gateways, one after the other, and makes the link. After
-/// want of memory nothing is changed.
+/// an error nothing is changed.
 pub(crate) fn make_link<K: Key>(
     alloc: Global,
     s: &mut FabricState<K>,
@@ -358,8 +355,8 @@ fn spends_at<K: Key>(
     }
 }
 
-/// A gateway's rows after a call that opens a face, in a box. The only error is want of memory;
-/// that the face has no number counts as such.
+/// A gateway's rows after a call that opens a face, in a box. That the face has no number counts as
+/// out of memory.
 fn rows_behind<K: Key>(
     alloc: Global,
     rows: &GatewayState<K>,

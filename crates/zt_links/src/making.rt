@@ -14,7 +14,7 @@ use zt_keys::{Key, Memory};
 use zt_protocol::Sent;
 
 /// Makes the one call of a line that opens no face, where its gateway or face exists. The oldest
-/// message of a face's link may be taken. After want of memory nothing is changed.
+/// message of a face's link may be taken. After an error nothing is changed.
 pub(crate) fn make_call<K: Key>(
     alloc: Global,
     s: &mut FabricState<K>,
@@ -43,8 +43,8 @@ pub(crate) fn make_call<K: Key>(
     }
 }
 
-/// Makes the call of a line that opens a face, where its gateway exists. After want of memory
-/// nothing is changed.
+/// Makes the call of a line that opens a face, where its gateway exists. After an error nothing is
+/// changed.
 pub(crate) fn open_face<K: Key>(
     alloc: Global,
     s: &mut FabricState<K>,

@@ -18,7 +18,7 @@ use zt_keys::{Key, Memory};
 use zt_link_queues::LinkState;
 use zt_protocol::{Call, Sent};
 
-/// A face is closed. After want of memory nothing is changed.
+/// A face is closed. After an error nothing is changed.
 fn close_face<K: Key>(alloc: Global, s: &mut FabricState<K>, face: u32) -> Result<Turned<K>, Memory>
     requires { FabricIsInOrder K.cmp K.matching s.old }
     ensures says { IfOk result (λ turned. turned.printed.items
@@ -84,7 +84,7 @@ fn add_others<K: Key>(
 }
 
 /// Closes a link between two faces that are closed: what waits on it is dropped, and what their
-/// closings say to others is answered, and waits. After want of memory nothing is changed.
+/// closings say to others is answered, and waits. After an error nothing is changed.
 fn part<K: Key>(
     alloc: Global,
     s: &mut FabricState<K>,
@@ -112,7 +112,7 @@ fn part<K: Key>(
 }
 
 /// The second face of a link is closed, and then the link; answers what its closing says to others,
-/// behind what the first one's says. After want of memory the first one is as before too.
+/// behind what the first one's says. After an error the first one is as before too.
 fn close_other<K: Key>(
     alloc: Global,
     s: &mut FabricState<K>,
@@ -152,7 +152,7 @@ fn close_other<K: Key>(
 }
 
 /// Both faces of a link are closed, one after the other, and what they didn't say to each other is
-/// answered. After want of memory nothing is changed.
+/// answered. After an error nothing is changed.
 fn close_both<K: Key>(
     alloc: Global,
     s: &mut FabricState<K>,
@@ -183,7 +183,7 @@ fn ends_of(link: &LinkState) -> (u32, u32)
     (link.one(), link.two())
 }
 
-/// Closes a link, and the faces at its ends. After want of memory nothing is changed.
+/// Closes a link, and the faces at its ends. After an error nothing is changed.
 pub(crate) fn unlink<K: Key>(
     alloc: Global,
     s: &mut FabricState<K>,

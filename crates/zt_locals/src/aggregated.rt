@@ -32,7 +32,7 @@ fn id_of_simple<Id: Copy, Res: LocalResourceTrait, Info>(
     }
 }
 
-/// Gives the aggregated row at a place more interests. After want of memory it is what it was.
+/// Gives the aggregated row at a place more interests. After an error it is what it was.
 fn join_row<Id: Copy, Res: LocalResourceTrait, Info: Copy>(
     rows: &mut Vec<(Res, AggregatedRow<Id, Info>)>,
     place: usize,

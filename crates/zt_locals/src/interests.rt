@@ -45,7 +45,7 @@ impl InterestSet {
         has_id(&self.ids, id)
     }
 
-    /// Takes the ids in. After want of memory it is what it was.
+    /// Takes the ids in. After an error it is what it was.
     pub(crate) fn join(&mut self, ids: &[InterestId]) -> Result<(), Memory>
         ensures ok { OnOk result (self.new ≡ joined self.old ids.now) }
         ensures err { OnErr result (self.new ≡ self.old) }

@@ -66,7 +66,7 @@ impl<Id: Copy, Res: LocalResourceTrait, Info: LocalResourceInfoTrait<Res>> Local
         }
     }
 
-    /// Whether there is a simple resource under the key. A look-up by halves.
+    /// Whether there is a simple resource under the key. A binary search.
     pub fn contains_simple_resource(&self, key: &Res) -> bool
         ensures found { result ≡ is_some (find Res.cmp key.now self.now.simple) }
         ensures sound { IsSound Res.cmp Res.matching Info.aggregating self.now.simple
@@ -81,8 +81,8 @@ impl<Id: Copy, Res: LocalResourceTrait, Info: LocalResourceInfoTrait<Res>> Local
     /// if it answers some interest and is new or has another info.
     ///
     /// A new key takes the id of the aggregated resource of the same key, or else what `f_id`
-    /// answers, which is called only then. The only error is want of memory: then nothing is
-    /// changed, and `f_id` wasn't called.
+    /// answers, which is called only then. After an error nothing is changed, and `f_id` wasn't
+    /// called.
     pub fn insert_simple_resource<F: FnOnce() -> Id>(
         &mut self,
         key: Res,
@@ -118,7 +118,7 @@ impl<Id: Copy, Res: LocalResourceTrait, Info: LocalResourceInfoTrait<Res>> Local
     /// Removes the simple resource under the key. Answers in key order what is to be told: the
     /// aggregated resources that match it and whose infos change, with their infos, and the
     /// resource itself with none, if it answered some interest. Answers nothing where it isn't
-    /// there. The only error is want of memory, which changes nothing.
+    /// there. An error changes nothing.
     pub fn remove_simple_resource(
         &mut self,
         key: &Res,
@@ -142,8 +142,7 @@ impl<Id: Copy, Res: LocalResourceTrait, Info: LocalResourceInfoTrait<Res>> Local
     /// does.
     ///
     /// A new key takes the id of the simple resource of the same key, or else what `f_id` answers,
-    /// which is called only then. The only error is want of memory: then nothing is changed, and
-    /// `f_id` wasn't called.
+    /// which is called only then. After an error nothing is changed, and `f_id` wasn't called.
     pub fn insert_aggregated_resource<F: FnOnce() -> Id>(
         &mut self,
         key: Res,

@@ -220,8 +220,8 @@ fn told_again<Id: Copy, Res: LocalResourceTrait, Info: LocalResourceInfoTrait<Re
     Some(key)
 }
 
-/// Gives the simple row at a place another info and more interests. After want of memory it is what
-/// it was.
+/// Gives the simple row at a place another info and more interests. After an error it is what it
+/// was.
 fn update_row<Id: Copy, Res: LocalResourceTrait, Info: LocalResourceInfoTrait<Res>>(
     rows: &mut Vec<(Res, SimpleRow<Id, Info>)>,
     place: usize,

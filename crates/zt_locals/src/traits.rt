@@ -17,7 +17,7 @@ pub trait LocalResourceTrait: Ord + Eq + Hash + Drop + Sized {
     fn matches(&self, other: &Self) -> bool
         ensures { result ≡ matching self.now other.now };
 
-    /// A resource equal to this one. The only error is want of memory.
+    /// A resource equal to this one.
     fn copy(&self, alloc: Global) -> Result<Self, Memory>
         ensures { IfOk result (λ resource. resource ≡ self.now) };
 

@@ -10,8 +10,8 @@ use std::marker::Model;
 use zt_keys::Memory;
 use zt_region::{Admission, Region};
 
-/// The pairs of regions that are refused, as they are listed, with the same in order for a search
-/// by halves.
+/// The pairs of regions that are refused, as they are listed, with the same in order for a binary
+/// search.
 #[derive(Drop)]
 pub struct RefusedPairs {
     listed: Admission,
@@ -32,7 +32,7 @@ impl Model for RefusedPairs {
         (λ pairs. ArePairsOf r.listed.refused.items pairs.items) };
 }
 
-// The pairs in order, each once. The only error is want of memory.
+// The pairs in order, each once.
 fn in_order(alloc: Global, listed: &[(Region, Region)]) -> Result<Vec<(Region, Region)>, Memory>
     ensures { IfOk result (λ pairs. ArePairsOf listed.now pairs.items) }
 {
@@ -42,7 +42,7 @@ fn in_order(alloc: Global, listed: &[(Region, Region)]) -> Result<Vec<(Region, R
     Ok(pairs)
 }
 
-// Whether the pair stands among pairs in order. A search by halves.
+// Whether the pair stands among pairs in order. A binary search.
 fn has_pair(pairs: &[(Region, Region)], src: Region, dst: Region) -> bool
     requires { IsSorted pair_cmp pairs.now }
     ensures { result ≡ list_any (is_pair src dst) pairs.now }
@@ -59,7 +59,7 @@ impl RefusedPairs {
         RefusedPairs { listed, in_order }
     }
 
-    /// Whether tokens of `src` may be told to `dst`. A search by halves.
+    /// Whether tokens of `src` may be told to `dst`. A binary search.
     pub fn admits(&self, src: Region, dst: Region) -> bool
         ensures { result ≡ admits self.now src dst }
     {
@@ -69,7 +69,7 @@ impl RefusedPairs {
         }
     }
 
-    /// The same pairs. The only error is want of memory.
+    /// The same pairs.
     pub fn copy(&self, alloc: Global) -> Result<Self, Memory>
         ensures { IfOk result (λ copy. copy ≡ self.now) }
     {

@@ -24,7 +24,7 @@ impl<K: Key> Model for Dictionary<K> {
 }
 
 // The number of the expression at a place: it is counted from 1. A number that is none of a u32
-// counts as want of memory.
+// counts as out of memory.
 fn number_at(place: usize) -> Result<u32, Memory>
     ensures { IfOk result (λ number. number ≡ place + 1) }
 {
@@ -60,7 +60,7 @@ impl<K: Key> Dictionary<K> {
     }
 
     /// The number of an expression; without one 0. A look-up. The only error is a number that is
-    /// none of a u32, which counts as want of memory.
+    /// none of a u32, which counts as out of memory.
     pub fn number_of(&self, expr: &K) -> Result<u32, Memory>
         ensures { IfOk result (λ number. number ≡ number_in K.cmp 1 expr.now self.now) }
     {
@@ -70,7 +70,7 @@ impl<K: Key> Dictionary<K> {
         }
     }
 
-    /// The expression gets a number, unless it has one. The only error is want of memory.
+    /// The expression gets a number, unless it has one.
     pub fn number(&mut self, alloc: Global, expr: &K) -> Result<(), Memory>
         ensures { OnOk result (self.new ≡ numbered_with K.cmp (expr.now ∷ []) self.old) }
     {
@@ -78,7 +78,7 @@ impl<K: Key> Dictionary<K> {
         Ok(())
     }
 
-    /// Expressions get numbers, in this order, that have none yet. The only error is want of memory.
+    /// Expressions get numbers, in this order, that have none yet.
     #[tactic(auto, unfolding(zt_model::specs::Entities::numbered_with))]
     pub fn number_all(&mut self, alloc: Global, exprs: &[K]) -> Result<(), Memory>
         ensures { OnOk result (self.new ≡ numbered_with K.cmp exprs.now self.old) }
@@ -89,7 +89,7 @@ impl<K: Key> Dictionary<K> {
         Ok(())
     }
 
-    /// An equal dictionary. The only error is want of memory.
+    /// An equal dictionary.
     pub fn copy(&self, alloc: Global) -> Result<Self, Memory>
         ensures { IfOk result (λ copy. copy ≡ self.now) }
     {

@@ -53,8 +53,7 @@ impl<K: Key> Model for Monitor<K> {
     ghost invariant = { λ m. IsTable K.cmp m.table.items };
 }
 
-// The messages of the accepted entry at a place, which the pass has. The only error is want of
-// memory.
+// The messages of the accepted entry at a place, which the pass has.
 fn read_sent<R: Wait, K: Key>(
     rt: &R,
     alloc: Global,
@@ -176,8 +175,8 @@ impl<K: Key> Monitor<K> {
         shared.call(rt, pass, call)
     }
 
-    // Takes the answers of the last ask, whose entry stands at the place, for the table. The only
-    // error is want of memory, and it leaves the monitor as it was.
+    // Takes the answers of the last ask, whose entry stands at the place, for the table. After an
+    // error the monitor is as before.
     fn find<R: Wait>(
         &mut self,
         rt: &R,
@@ -206,7 +205,7 @@ impl<K: Key> Monitor<K> {
     /// before. `PollsSpent` comes exactly where 4294967295 polls were made, and makes no entry.
     /// `Refused` comes where the gateway refuses the ask, as where another caller closed the
     /// monitor's face or took the poll's number there, or where no id is left upstream. After an
-    /// error the table is as before; after want of memory the poll's number is used where its entry
+    /// error the table is as before; if memory runs out, the poll's number is used where its entry
     /// was made. It waits while others hold the gateway.
     pub fn poll<R: Wait>(
         &mut self,

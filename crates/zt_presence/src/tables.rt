@@ -49,7 +49,7 @@ fn answer_of<K: Key>(face: u32, id: InterestId, sent: Sent<K>) -> Option<K>
     }
 }
 
-// Adds what the ask of a face is answered by a message. The only error is want of memory.
+// Adds what the ask of a face is answered by a message.
 fn add_answer<K: Key>(
     keys: &mut Vec<K>,
     face: u32,
@@ -68,8 +68,7 @@ fn add_answer<K: Key>(
     }
 }
 
-/// The expressions that the ask of a face is answered among messages, in their order. The only
-/// error is want of memory.
+/// The expressions that the ask of a face is answered among messages, in their order.
 pub fn answers<K: Key>(
     alloc: Global,
     face: u32,
@@ -85,7 +84,7 @@ pub fn answers<K: Key>(
     Ok(keys)
 }
 
-// Whether the key is in the table. A search by halves.
+// Whether the key is in the table. A binary search.
 fn is_in<K: Key>(key: &K, table: &[K]) -> bool
     requires { IsTable K.cmp table.now }
     ensures { result ≡ is_among K.cmp key.now table.now }
@@ -93,7 +92,7 @@ fn is_in<K: Key>(key: &K, table: &[K]) -> bool
     table.binary_search(key).is_ok()
 }
 
-// Adds a copy of the key where the table lacks it. The only error is want of memory.
+// Adds a copy of the key where the table lacks it.
 fn add_beyond<K: Key>(alloc: Global, found: &mut Vec<K>, table: &[K], key: &K) -> Result<(), Memory>
     requires { IsTable K.cmp table.now }
     ensures { OnOk result (found.new.items
@@ -106,7 +105,7 @@ fn add_beyond<K: Key>(alloc: Global, found: &mut Vec<K>, table: &[K], key: &K) -
     Ok(())
 }
 
-/// Copies of the keys that the table lacks, in their order. The only error is want of memory.
+/// Copies of the keys that the table lacks, in their order.
 pub fn copy_beyond<K: Key>(alloc: Global, table: &[K], keys: &[K]) -> Result<Vec<K>, Memory>
     requires { IsTable K.cmp table.now }
     ensures { IfOk result (λ found. found.items ≡ beyond K.cmp table.now keys.now) }
@@ -118,8 +117,7 @@ pub fn copy_beyond<K: Key>(alloc: Global, table: &[K], keys: &[K]) -> Result<Vec
     Ok(found)
 }
 
-/// How a table that was found at a place differs from the one before. The only error is want of
-/// memory.
+/// How a table that was found at a place differs from the one before.
 pub fn change_of<K: Key>(
     alloc: Global,
     place: u64,

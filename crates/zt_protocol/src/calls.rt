@@ -18,7 +18,7 @@ pub struct TreeTable {
 }
 
 impl TreeTable {
-    /// A table with the same entries, in the same order. The only error is want of memory.
+    /// A table with the same entries, in the same order.
     pub fn copy(&self, alloc: Global) -> Result<TreeTable, Memory>
         ensures { IfOk result (λ copy. trees_of copy ≡ trees_of self.now) }
     {

@@ -69,7 +69,7 @@ pub enum Message<K> {
     },
 }
 
-/// A copy of an expression, where there is one. The only error is want of memory.
+/// A copy of an expression, where there is one.
 pub fn copy_expression<K: Key>(expr: &Option<K>, alloc: Global) -> Result<Option<K>, Memory>
     ensures { IfOk result (λ copy. copy ≡ expr.now) }
 {
@@ -80,7 +80,7 @@ pub fn copy_expression<K: Key>(expr: &Option<K>, alloc: Global) -> Result<Option
 }
 
 impl<K: Key> Message<K> {
-    /// A message equal to this one. The only error is want of memory.
+    /// A message equal to this one.
     pub fn copy(&self, alloc: Global) -> Result<Message<K>, Memory>
         ensures { IfOk result (λ copy. copy ≡ self.now) }
     {

@@ -27,8 +27,7 @@ fn kept_options(mode: WhatAmI, options: InterestOptions) -> InterestOptions
     }
 }
 
-/// An interest of the face, with the options that the gateway keeps. The only error is want of
-/// memory.
+/// An interest of the face, with the options that the gateway keeps.
 pub(crate) fn row_of<K: Key>(
     alloc: Global,
     f: &FaceState<K>,
@@ -43,7 +42,7 @@ pub(crate) fn row_of<K: Key>(
     Ok(RemoteInterest::new(mode, kept_options(f.mode(), options), expr))
 }
 
-/// Why an interest is refused. The only error is want of memory.
+/// Why an interest is refused.
 #[tactic(auto, unfolding(zt_model::specs::Journal::cause_of, zt_model::specs::Refusals::call_causes, zt_model::specs::Refusals::first_cause, zt_model::specs::Refusals::spends_ids, zt_model::specs::Refusals::need))]
 pub(crate) fn asking_cause<K: Key>(
     alloc: Global,

@@ -12,7 +12,7 @@ use zt_region::NodeId;
 use zt_state::GatewayState;
 use zt_tokens::find_face;
 
-/// Why a declaration is refused. The only error is want of memory.
+/// Why a declaration is refused.
 #[tactic(auto, unfolding(zt_model::specs::Journal::cause_of, zt_model::specs::Refusals::call_causes, zt_model::specs::Refusals::first_cause, zt_model::specs::Refusals::spends_ids, zt_model::specs::Refusals::need))]
 pub(crate) fn declaring_cause<K: Key>(
     alloc: Global,

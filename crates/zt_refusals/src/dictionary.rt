@@ -88,8 +88,7 @@ fn add_queryables<K: Key>(
     Ok(())
 }
 
-/// Whether a face's subscribers and queryables would fill the dictionary. The only error is want of
-/// memory.
+/// Whether a face's subscribers and queryables would fill the dictionary.
 #[tactic(auto, using(crate::proofs::Numbering::numbered_length))]
 pub(crate) fn is_filled_by_entities<K: Key>(
     alloc: Global,

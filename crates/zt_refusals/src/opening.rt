@@ -54,7 +54,7 @@ fn does_new_face_lack<K: Key>(
 }
 
 /// Whether a new face needs more ids than it has. The faces that stand are sent nothing, and so
-/// need none. The only error is want of memory.
+/// need none.
 #[tactic(auto, using(crate::proofs::LeftIds::opened_lack))]
 pub(crate) fn do_openings_spend<K: Key>(
     alloc: Global,
@@ -73,7 +73,7 @@ pub(crate) fn do_openings_spend<K: Key>(
     does_new_face_lack(alloc, g, number, zid, whatami, region, bound, first)
 }
 
-/// Why a new transport is refused. The only error is want of memory.
+/// Why a new transport is refused.
 #[tactic(auto, unfolding(zt_model::specs::Journal::cause_of, zt_model::specs::Refusals::call_causes, zt_model::specs::Refusals::first_cause, zt_model::specs::Refusals::spends_ids, zt_model::specs::Refusals::need))]
 pub(crate) fn transport_cause<K: Key>(
     alloc: Global,

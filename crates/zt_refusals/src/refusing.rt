@@ -15,8 +15,7 @@ use zt_keys::{Key, Memory};
 use zt_protocol::{Call, Refusal};
 use zt_state::GatewayState;
 
-/// The first cause for which the call is refused, if there is one. The only error is want of
-/// memory.
+/// The first cause for which the call is refused, if there is one.
 pub fn cause_of<K: Key>(
     alloc: Global,
     g: &GatewayState<K>,
@@ -67,8 +66,7 @@ pub fn cause_of<K: Key>(
     }
 }
 
-/// Whether for some face fewer ids are left than the call would draw. The only error is want of
-/// memory.
+/// Whether for some face fewer ids are left than the call would draw.
 #[tactic(auto, using(crate::proofs::LeftIds::cannot_spend), unfolding(zt_model::specs::Refusals::spends_ids, zt_model::specs::Refusals::need))]
 pub fn spends_ids<K: Key>(
     alloc: Global,

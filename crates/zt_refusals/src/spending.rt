@@ -186,7 +186,6 @@ fn does_any_lack<K: Key>(
 }
 
 // The same of a token that answers nobody: of the faces that seek it, where these can be looked up.
-// The only error is want of memory.
 fn do_seekers_lack<K: Key>(
     alloc: Global,
     g: &GatewayState<K>,
@@ -208,7 +207,7 @@ fn do_seekers_lack<K: Key>(
 }
 
 /// Whether a token that a face declares needs an id of some face that has none left. Nearly always
-/// each face has one, and then none is looked up. The only error is want of memory.
+/// each face has one, and then none is looked up.
 pub(crate) fn do_tokens_spend<K: Key>(
     alloc: Global,
     g: &GatewayState<K>,
@@ -304,8 +303,7 @@ fn ids_for_answers<K: Key>(
     Ok(exprs.iter().filter(|k| is_untold(g, face, k)).count())
 }
 
-// Whether a face needs more ids for the answers to an interest of its own than are left. The only
-// error is want of memory.
+// Whether a face needs more ids for the answers to an interest of its own than are left.
 fn lacks_answer_ids<K: Key>(
     alloc: Global,
     g: &GatewayState<K>,
@@ -327,7 +325,7 @@ fn lacks_answer_ids<K: Key>(
 }
 
 /// Whether an interest of a face needs more ids of some face than are left: of that face, which is
-/// answered, or of one to the north. The only error is want of memory.
+/// answered, or of one to the north.
 pub(crate) fn do_interests_spend<K: Key>(
     alloc: Global,
     g: &GatewayState<K>,

@@ -63,8 +63,7 @@ fn names_others<K: Key>(
 }
 
 // Whether a table names a router that it doesn't list, or doesn't list the gateway. Mostly not even
-// one of all its entries does, and then it needn't be known which links count. The only error is
-// want of memory.
+// one of all its entries does, and then it needn't be known which links count.
 fn names_unlisted<K: Key>(
     alloc: Global,
     g: &GatewayState<K>,
@@ -106,7 +105,7 @@ fn links_unknown_face<K: Key>(g: &GatewayState<K>, links: &[(u32, NodeId, Zid)])
     links.iter().any(|link| is_unknown_face(g, link.0))
 }
 
-/// Why the trees of a router region are refused. The only error is want of memory.
+/// Why the trees of a router region are refused.
 #[tactic(auto, unfolding(zt_model::specs::Journal::cause_of, zt_model::specs::Refusals::call_causes, zt_model::specs::Refusals::first_cause, zt_model::specs::Trees::counted_table))]
 pub(crate) fn table_cause<K: Key>(
     alloc: Global,
@@ -129,7 +128,7 @@ pub(crate) fn table_cause<K: Key>(
     Ok(None)
 }
 
-/// Why a face's entities are refused. The only error is want of memory.
+/// Why a face's entities are refused.
 #[tactic(auto, unfolding(zt_model::specs::Journal::cause_of, zt_model::specs::Refusals::call_causes, zt_model::specs::Refusals::first_cause))]
 pub(crate) fn entities_cause<K: Key>(
     alloc: Global,

@@ -7,7 +7,7 @@ use std::mem;
 use zt_keys::{Key, Memory};
 use zt_state::GatewayState;
 
-/// What a gateway keeps, in a box: it is large and handed on often, and a pointer moves then.
+/// What a gateway keeps, in a box: it is large and passed on often, and a pointer moves then.
 #[derive(Drop)]
 pub struct BoxedState<K: Key> {
     pub(crate) inner: Box<GatewayState<K>>,
@@ -30,7 +30,7 @@ impl<K: Key> BoxedState<K> {
     }
 }
 
-/// An equal state, in a box. The only error is want of memory.
+/// An equal state, in a box.
 pub(crate) fn boxed_copy<K: Key>(
     alloc: Global,
     state: &GatewayState<K>,

@@ -7,7 +7,7 @@ use zt_face::{copy_keys, copy_queryables};
 use zt_keys::{Key, Memory};
 use zt_protocol::{Call, copy_expression};
 
-/// An equal call. The only error is want of memory.
+/// An equal call.
 pub fn copy_call<K: Key>(alloc: Global, call: &Call<K>) -> Result<Call<K>, Memory>
     ensures { IfOk result (λ copy. plain_call copy ≡ plain_call call.now) }
 {

@@ -24,7 +24,7 @@ pub(crate) enum KeptCall<K> {
     Other(Box<Call<K>>),
 }
 
-/// A call as it is kept. The only error is want of memory.
+/// A call as it is kept.
 pub(crate) fn keep_call<K: Key>(alloc: Global, call: &Call<K>) -> Result<KeptCall<K>, Memory>
     ensures { IfOk result (λ kept. kept_call kept ≡ plain_call call.now) }
 {
@@ -64,7 +64,7 @@ pub(crate) fn keep_call<K: Key>(alloc: Global, call: &Call<K>) -> Result<KeptCal
     })
 }
 
-/// The call that is kept. The only error is want of memory.
+/// The call that is kept.
 pub(crate) fn call_of<K: Key>(alloc: Global, kept: &KeptCall<K>) -> Result<Call<K>, Memory>
     ensures { IfOk result (λ call. plain_call call ≡ kept_call kept.now) }
 {

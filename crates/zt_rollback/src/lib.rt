@@ -1,5 +1,5 @@
-//! What a gateway keeps, and how it is got back where a call lacks memory: so that a call is
-//! carried out in place, and nothing is changed by one that lacks memory.
+//! What a gateway keeps, and how it is rebuilt where a call runs out of memory: so that a call is
+//! carried out in place, and nothing is changed by one that runs out of memory.
 #![tactic(auto)]
 
 mod boxed;

@@ -28,7 +28,7 @@ const HELD_FOR_A_ROW: usize = 4;
 
 /// What a gateway keeps, with the way back to it: what it kept earlier, and the calls that were
 /// carried out since. A call is carried out on what the gateway keeps, in place. One that lacks
-/// memory leaves that half changed: it is dropped, and got back from what was kept earlier by the
+/// memory leaves that half changed: it is dropped, and rebuilt from what was kept earlier by the
 /// calls since, before the next call. Calls may hold four times as much as the gateway has rows,
 /// and 64 more: when they hold as much as the rows allowed that were counted last, these are
 /// counted anew, and if the calls hold more than half of what they may then, all is copied, and
@@ -43,8 +43,8 @@ pub struct RestorableState<K: Key> {
     held: usize,
     // So much they may hold before rows are counted.
     most: usize,
-    // What the gateway keeps, unless a call lacked memory or isn't committed yet. Where there is
-    // none and no call came since, it is what was kept earlier.
+    // What the gateway keeps, unless a call ran out of memory or isn't committed yet. Where there
+    // is none and no call came since, it is what was kept earlier.
     current: Option<BoxedState<K>>,
 }
 
@@ -96,8 +96,7 @@ fn carry_on<K: Key>(
     carry_out(alloc, &mut *state.inner, call)
 }
 
-// A state after calls, one behind another. The only error is want of memory, as which it counts
-// that a face has no number.
+// A state after calls, one behind another. That a face has no number counts as out of memory.
 fn after_calls<K: Key>(
     alloc: Global,
     earlier: &GatewayState<K>,
@@ -192,7 +191,7 @@ fn held_at_most<K: Key>(state: &GatewayState<K>) -> usize {
     LEAST_HELD.saturating_add(rows_in(state).saturating_mul(HELD_FOR_A_ROW))
 }
 
-// A call that is kept, behind others. The only error is want of memory, and then the others stay.
+// A call that is kept, behind others. After an error the others stay.
 fn push_kept<K: Key>(calls: &mut Vec<KeptCall<K>>, kept: KeptCall<K>) -> Result<(), Memory>
     ensures ok { OnOk result (map kept_call calls.new.items
         ≡ map kept_call calls.old.items ++ kept_call kept ∷ []) }
@@ -202,7 +201,7 @@ fn push_kept<K: Key>(calls: &mut Vec<KeptCall<K>>, kept: KeptCall<K>) -> Result<
     Ok(())
 }
 
-// A call behind others. The only error is want of memory, and then the others stay.
+// A call behind others. After an error the others stay.
 fn push_call<K: Key>(
     alloc: Global,
     calls: &mut Vec<KeptCall<K>>,
@@ -216,7 +215,7 @@ fn push_call<K: Key>(
     push_kept(calls, kept)
 }
 
-// Equal calls. The only error is want of memory.
+// Equal calls.
 fn copy_calls<K: Key>(alloc: Global, calls: &[KeptCall<K>]) -> Result<Vec<KeptCall<K>>, Memory>
     ensures { IfOk result (λ copies. map kept_call copies.items ≡ map kept_call calls.now) }
 {
@@ -273,7 +272,7 @@ impl<K: Key> RestorableState<K> {
         }
     }
 
-    /// What the gateway keeps; `None` after a call that lacked memory, or isn't committed yet,
+    /// What the gateway keeps; `None` after a call that ran out of memory, or isn't committed yet,
     /// until it is restored.
     pub fn state(&self) -> Option<&GatewayState<K>>
         ensures { IfSome result (λ state. state.now ≡ self.now) }
@@ -285,15 +284,14 @@ impl<K: Key> RestorableState<K> {
         }
     }
 
-    /// What the gateway keeps, made anew: a copy of what it kept earlier, and the calls since. The
-    /// only error is want of memory.
+    /// What the gateway keeps, made anew: a copy of what it kept earlier, and the calls since.
     pub fn restored(&self, alloc: Global) -> Result<BoxedState<K>, Memory>
         ensures { IfOk result (λ state. state ≡ self.now) }
     {
         after_calls(alloc, &self.earlier, &self.calls)
     }
 
-    /// What the gateway keeps is there again. The only error is want of memory.
+    /// What the gateway keeps is there again.
     pub fn restore(&mut self, alloc: Global) -> Result<(), Memory>
         ensures { self.new ≡ self.old }
     {
@@ -330,8 +328,8 @@ impl<K: Key> RestorableState<K> {
     }
 
     /// Carries a call out on what the gateway keeps, which isn't committed: the gateway is as
-    /// before the call. The only error is want of memory; that there is no number for a face that
-    /// the call opens counts as such.
+    /// before the call. That there is no number for a face that the call opens counts as out of
+    /// memory.
     pub fn prepare(&mut self, alloc: Global, call: &Call<K>) -> Result<Ahead<K>, Memory>
         ensures state { IfOk result (λ ahead. ahead.state
             ≡ rows_after_call K.cmp K.matching (plain_call call.now) self.old) }
@@ -375,7 +373,7 @@ impl<K: Key> RestorableState<K> {
     }
 
     /// Carries a call out for a line that may fail yet, and answers what the gateway was before: by
-    /// that the call is undone, or settled. After want of memory the gateway is as before.
+    /// that the call is undone, or settled. After an error the gateway is as before.
     pub fn turn(&mut self, alloc: Global, call: &Call<K>) -> Result<Turn<K>, Memory>
         ensures state { OnOk result (self.new
             ≡ rows_after_call K.cmp K.matching (plain_call call.now) self.old) }
@@ -400,8 +398,8 @@ impl<K: Key> RestorableState<K> {
         Ok(Turn { former, said })
     }
 
-    /// The gateway is again what it was before a call, and what it keeps is got back before the
-    /// next one.
+    /// The gateway is again what it was before a call, and what it keeps is rebuilt before the next
+    /// one.
     pub fn undo(&mut self, former: Former<K>)
         ensures { self.new ≡ former.rows }
     {
@@ -443,7 +441,7 @@ impl<K: Key> RestorableState<K> {
         }
     }
 
-    /// An equal state. The only error is want of memory.
+    /// An equal state.
     pub fn copy(&self, alloc: Global) -> Result<Self, Memory>
         ensures { IfOk result (λ copy. copy ≡ self.now) }
     {

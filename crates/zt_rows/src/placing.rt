@@ -26,7 +26,7 @@ pub(crate) fn are_below<X>(places: &[Place<X>], id: u32) -> bool
 }
 
 // The row under the id. Found at once where ids follow one another or lie evenly apart, else by
-// halves.
+// binary search.
 pub(crate) fn find_in<X>(places: &[Place<X>], id: u32) -> Option<&X>
     requires { AreRising places.now }
     ensures { option_copied result ≡ at_id id (rows_in places.now) }
@@ -38,7 +38,7 @@ pub(crate) fn find_in<X>(places: &[Place<X>], id: u32) -> Option<&X>
 }
 
 // Puts a row into the place of its id, or into one of its own among the others, and gives it back
-// where too many places would move for that. The only error is want of memory.
+// where too many places would move for that.
 pub(crate) fn put_in<X: Drop>(
     places: &mut Vec<Place<X>>,
     id: u32,

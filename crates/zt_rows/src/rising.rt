@@ -43,7 +43,7 @@ impl<X: Drop> RisingRows<X> {
     }
 
     /// The row under the id, beside that rows stand in order of id. Found at once where ids follow
-    /// one another or lie evenly apart, else by halves.
+    /// one another or lie evenly apart, else by binary search.
     pub fn find(&self, id: u32) -> Option<&X>
         ensures row { option_copied result ≡ at_id id self.now }
         ensures ordered { IsInOrder self.now }
@@ -58,9 +58,8 @@ impl<X: Drop> RisingRows<X> {
         &self.places
     }
 
-    /// Puts a row behind the others. The only error is want of memory; an id that isn't above those
-    /// of all rows, or of one that went not long ago, counts as that. It leaves the rows as they
-    /// were.
+    /// Puts a row behind the others. An id that isn't above those of all rows, or of one that went
+    /// not long ago, counts as out of memory. It leaves the rows as they were.
     pub fn push(&mut self, id: u32, row: X) -> Result<(), Memory>
         ensures ok { OnOk result (self.new ≡ self.old ++ (id, row) ∷ []) }
         ensures err { OnErr result (self.new ≡ self.old) }

@@ -16,8 +16,7 @@ use std::collections::BTreeMap;
 use std::marker::Model;
 use zt_keys::Memory;
 
-// Moves the row of a place, if any, into the map, whose rows stand behind it. The only error is
-// want of memory, and it moves none.
+// Moves the row of a place, if any, into the map, whose rows stand behind it. An error moves none.
 fn move_row<X: Drop>(place: &mut Place<X>, mapped: &mut BTreeMap<u32, X>) -> Result<(), Memory>
     requires { IsInOrder (rows_in (place.old ∷ []) ++ mapped.old.entries) }
     ensures moved { OnOk result (mapped.new.entries
@@ -36,8 +35,8 @@ fn move_row<X: Drop>(place: &mut Place<X>, mapped: &mut BTreeMap<u32, X>) -> Res
     Ok(())
 }
 
-// Moves all rows from their places into the map, the last first. The only error is want of memory;
-// some rows may stand in the map then.
+// Moves all rows from their places into the map, the last first. After an error some rows may stand
+// in the map.
 fn move_all<X: Drop>(
     places: &mut Vec<Place<X>>,
     mapped: &mut BTreeMap<u32, X>,
@@ -56,8 +55,8 @@ fn move_all<X: Drop>(
     Ok(())
 }
 
-// Puts a row into the map, where all rows are moved before. The only error is want of memory, and
-// the rows are as they were then, though some may stand in the map.
+// Puts a row into the map, where all rows are moved before. After an error the rows are as
+// before, though some may stand in the map.
 fn put_mapped<X: Drop>(
     places: &mut Vec<Place<X>>,
     mapped: &mut BTreeMap<u32, X>,
@@ -79,9 +78,9 @@ fn put_mapped<X: Drop>(
 }
 
 /// Rows by id, in order of id. Each stands in a place of a list, where it is found at once if ids
-/// follow one another or lie evenly apart, and else by halves. A row that would stand before many
-/// others goes into a map with all of them, and so do others while the map has rows: so each row
-/// moves into it once at most, whatever the order of ids.
+/// follow one another or lie evenly apart, and else by binary search. A row that would stand before
+/// many others goes into a map with all of them, and so do others while the map has rows: so each
+/// row moves into it once at most, whatever the order of ids.
 #[derive(Drop)]
 pub struct RowsById<X> {
     places: Vec<Place<X>>,
@@ -144,8 +143,8 @@ impl<X: Drop> RowsById<X> {
         Iter::new(&self.places, self.mapped.iter())
     }
 
-    /// Puts a row under its id, in place of the one that stands there, if any. The only error is
-    /// want of memory, and it leaves the rows as they were.
+    /// Puts a row under its id, in place of the one that stands there, if any. After an error the
+    /// rows are as before.
     pub fn put(&mut self, id: u32, row: X) -> Result<(), Memory>
         ensures ok { OnOk result (self.new ≡ put nat_cmp id row self.old) }
         ensures err { OnErr result (self.new ≡ self.old) }

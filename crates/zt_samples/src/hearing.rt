@@ -11,7 +11,7 @@ use std::alloc::Global;
 use zt_keys::{Key, Memory};
 use zt_protocol::Message;
 
-/// A copy of what sessions were told. The only error is want of memory.
+/// A copy of what sessions were told.
 pub fn copy_told<K: Key>(alloc: Global, told: &[Told<K>]) -> Result<Vec<Told<K>>, Memory>
     ensures { IfOk result (λ copy. copy.items ≡ told.now) }
 {
@@ -58,7 +58,7 @@ fn gives<K: Key>(subscriber: &Subscriber<K>, session: u32, expr: &K, alters: boo
         && (!subscriber.history || alters)
 }
 
-// Adds a sample for a subscriber. The only error is want of memory.
+// Adds a sample for a subscriber.
 fn add_news<K: Key>(
     alloc: Global,
     news: &mut Vec<News<K>>,
@@ -88,8 +88,7 @@ fn add_news<K: Key>(
     Ok(())
 }
 
-// Each subscriber that is given what is said of an expression is given it. The only error is want
-// of memory.
+// Each subscriber that is given what is said of an expression is given it.
 fn give<K: Key>(
     alloc: Global,
     subscribers: &[Subscriber<K>],
@@ -110,8 +109,7 @@ fn give<K: Key>(
     Ok(())
 }
 
-// What subscribers are given when the tokens that a session was told under an id are gone. The only
-// error is want of memory.
+// What subscribers are given when the tokens that a session was told under an id are gone.
 fn give_gone<K: Key>(
     alloc: Global,
     subscribers: &[Subscriber<K>],
@@ -132,7 +130,7 @@ fn give_gone<K: Key>(
     Ok(())
 }
 
-// A session is told a token. The only error is want of memory.
+// A session is told a token.
 fn tell<K: Key>(
     alloc: Global,
     told: &mut Vec<Told<K>>,
@@ -168,7 +166,7 @@ fn untell_expr<K: Key>(told: &mut Vec<Told<K>>, session: u32, expr: &K)
     told.retain(|row| !(session == row.session && *expr == row.expr));
 }
 
-// A declaration comes to a session. The only error is want of memory.
+// A declaration comes to a session.
 fn hear_token<K: Key>(
     alloc: Global,
     subscribers: &[Subscriber<K>],
@@ -189,7 +187,7 @@ fn hear_token<K: Key>(
     tell(alloc, told, session, id, expr)
 }
 
-// An undeclaration comes to a session. The only error is want of memory.
+// An undeclaration comes to a session.
 fn hear_gone<K: Key>(
     alloc: Global,
     subscribers: &[Subscriber<K>],
@@ -219,8 +217,7 @@ fn hear_gone<K: Key>(
 }
 
 /// A message comes to a session: what the session was told changes, and its subscribers are given
-/// samples, behind those that wait. The only error is want of memory, and after it both may have
-/// changed.
+/// samples, behind those that wait. After an error both may have changed.
 pub fn hear<K: Key>(
     alloc: Global,
     subscribers: &[Subscriber<K>],
@@ -246,7 +243,7 @@ pub fn hear<K: Key>(
 }
 
 /// What a new subscriber is given first: with history, each token that its session keeps and that
-/// matches. The only error is want of memory.
+/// matches.
 pub fn begin<K: Key>(
     alloc: Global,
     told: &[Told<K>],

@@ -11,7 +11,7 @@ use zt_protocol::{Refusal, Sent};
 use zt_rollback::copy_call;
 
 /// Copies of the messages of a prepared call, in order of face, as those of a gateway with the
-/// number 1. The only error is want of memory.
+/// number 1.
 pub fn sent_by<K: Key>(alloc: Global, prepared: &Prepared<K>) -> Result<Vec<Sent<K>>, Memory>
     ensures { IfOk result (λ sent. sent.items ≡ map sent_alone (by_face prepared.now.said)) }
 {
@@ -29,7 +29,7 @@ pub fn sent_by<K: Key>(alloc: Global, prepared: &Prepared<K>) -> Result<Vec<Sent
     Ok(sent)
 }
 
-// A copy of messages. The only error is want of memory.
+// A copy of messages.
 fn copy_sent<K: Key>(alloc: Global, sent: &[Sent<K>]) -> Result<Vec<Sent<K>>, Memory>
     ensures { IfOk result (λ copies. copies.items ≡ sent.now) }
 {
@@ -44,7 +44,7 @@ fn copy_sent<K: Key>(alloc: Global, sent: &[Sent<K>]) -> Result<Vec<Sent<K>>, Me
     Ok(copies)
 }
 
-// A copy of what a call came to. The only error is want of memory.
+// A copy of what a call came to.
 fn copy_outcome<K: Key>(
     alloc: Global,
     outcome: &Result<Vec<Sent<K>>, Refusal>,
@@ -57,7 +57,7 @@ fn copy_outcome<K: Key>(
     }
 }
 
-// A copy of an entry. The only error is want of memory.
+// A copy of an entry.
 pub(crate) fn copy_entry<K: Key>(
     alloc: Global,
     entry: &JournalEntry<K>,

@@ -60,7 +60,7 @@ fn push_within<K: Drop>(entries: &mut Vec<JournalEntry<K>>, entry: JournalEntry<
 
 impl<K: Key> Journaled<K> {
     /// A gateway at which no message waits, with an empty journal. It keeps a copy of the gateway
-    /// as its opening. The only error is want of memory, and it drops the gateway.
+    /// as its opening. An error drops the gateway.
     pub fn new(alloc: Global, gateway: Gateway<K>) -> Result<Journaled<K>, Memory>
         requires { gateway.waiting ≡ [] }
         ensures { IfOk result (λ made. made ≡ opened gateway) }
@@ -146,9 +146,8 @@ impl<K: Key> Journaled<K> {
     }
 
     /// Makes a call for the pass of this number; a first id is at least 1. The call, the face made
-    /// and what it came to are added to the journal, and the receipt tells of that entry. The only
-    /// error is want of memory: then the gateway and the journal are as before, and the call is
-    /// dropped.
+    /// and what it came to are added to the journal, and the receipt tells of that entry. After an
+    /// error the gateway and the journal are as before, and the call is dropped.
     pub fn enter(&mut self, pass: u32, call: Call<K>) -> Result<Receipt, Memory>
         requires { CallHasFirstIds (plain_call call) }
         ensures done { OnOk result
@@ -168,7 +167,7 @@ impl<K: Key> Journaled<K> {
     }
 
     /// An equal copy of the entry at the place. None exactly where the journal is no longer than
-    /// that. The only error is want of memory.
+    /// that.
     pub fn entry(&self, alloc: Global, place: u64) -> Result<Option<JournalEntry<K>>, Memory>
         ensures found { IfOk result
             (λ found. option_map journalled found ≡ slice_get self.now.entries place) }

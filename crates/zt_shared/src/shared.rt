@@ -55,8 +55,8 @@ pub struct CloseError<K: Key> {
 }
 
 impl<K: Key> SharedGateway<K> {
-    /// Shares a gateway at which no message waits, and gives the pass with number 0. The only error
-    /// is want of memory, and it drops the gateway.
+    /// Shares a gateway at which no message waits, and gives the pass with number 0. An error drops
+    /// the gateway.
     pub fn new(alloc: Global, gateway: Gateway<K>) -> Result<(SharedGateway<K>, Pass<K>), Memory>
         requires { gateway.waiting ≡ [] }
         ensures { IfOk result (λ made. made.1 ≡ first_pass made.0 (opened gateway)) }
@@ -83,8 +83,8 @@ impl<K: Key> SharedGateway<K> {
 
     /// Waits for the lock and makes the call; a first id is at least 1. The call and what it came
     /// to are added to the journal, and the receipt tells of that entry, whose place is at least
-    /// what the pass had seen. The only error is want of memory: then nothing was added, and the
-    /// call is dropped. Either way the pass then has the journal, which is a replay.
+    /// what the pass had seen. After an error nothing was added, and the call is dropped. Either
+    /// way the pass then has the journal, which is a replay.
     pub fn call<R: Wait>(
         &self,
         rt: &R,
@@ -115,7 +115,7 @@ impl<K: Key> SharedGateway<K> {
     }
 
     /// Waits for the lock and copies the entry at the place, or answers `None` where the journal is
-    /// no longer. The pass has then seen the journal. The only error is want of memory.
+    /// no longer. The pass has then seen the journal.
     pub fn read_entry<R: Wait>(
         &self,
         rt: &R,

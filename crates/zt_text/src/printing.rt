@@ -337,7 +337,7 @@ fn undo(out: &mut String, before: usize)
 
 /// Appends an entry, with the number of its line.
 ///
-/// The only error is want of memory, and it leaves `out` as it was.
+/// After an error `out` is as before.
 pub fn write_entry<K: Key>(out: &mut String, line: u64, entry: &Entry<K>) -> Result<(), Memory>
     ensures { string_bytes out.new
         ≡ (if is_ok result then string_bytes out.old
@@ -353,7 +353,7 @@ pub fn write_entry<K: Key>(out: &mut String, line: u64, entry: &Entry<K>) -> Res
 
 /// Appends the report, a transcript's last line.
 ///
-/// The only error is want of memory, and it leaves `out` as it was.
+/// After an error `out` is as before.
 pub fn write_report(out: &mut String, report: &Report) -> Result<(), Memory>
     ensures { string_bytes out.new
         ≡ (if is_ok result then string_bytes out.old ++ report_text report.now
@@ -367,7 +367,7 @@ pub fn write_report(out: &mut String, report: &Report) -> Result<(), Memory>
     result
 }
 
-/// The text of an entry, with the number of its line. The only error is want of memory.
+/// The text of an entry, with the number of its line.
 pub fn print_entry<K: Key>(alloc: Global, line: u64, entry: &Entry<K>) -> Result<String, Memory>
     ensures { IfOk result (λ text. string_bytes text
         ≡ entry_text K.printed line (plain_entry entry.now)) }
@@ -377,7 +377,7 @@ pub fn print_entry<K: Key>(alloc: Global, line: u64, entry: &Entry<K>) -> Result
     Ok(text)
 }
 
-/// The text of the report. The only error is want of memory.
+/// The text of the report.
 pub fn print_report(alloc: Global, report: &Report) -> Result<String, Memory>
     ensures { IfOk result (λ text. string_bytes text ≡ report_text report.now) }
 {

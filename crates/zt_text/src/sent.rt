@@ -190,9 +190,8 @@ fn sent<K: Key>(alloc: Global, text: &str) -> Result<Sent<K>, LineError>
 /// The message that a line of a transcript prints, without the line feed.
 ///
 /// `NotUtf8` comes exactly where the bytes aren't UTF-8, `NotInGrammar` exactly where they are and
-/// the line's fields spell no message. The only other error is want of memory. For keys of one
-/// spelling, as key expressions are, the answer is `Ok` exactly on message lines, unless memory
-/// runs out.
+/// the line's fields spell no message. The only other error is `Memory`. For keys of one spelling,
+/// as key expressions are, the answer is `Ok` exactly on message lines, unless memory runs out.
 #[tactic(auto, unfolding(crate::specs::Sent::sent_read))]
 pub fn read_sent<K: Key>(alloc: Global, bytes: &[u8]) -> Result<Sent<K>, LineError>
     ensures { Gives (λ s. s) result (sent_read K.reading bytes.now) }

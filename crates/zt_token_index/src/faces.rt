@@ -12,7 +12,7 @@ use zt_keys::Memory;
 use zt_ordered::place_of_number;
 
 /// The id of a face among pairs of face and id, which are in order of face. Found at once where
-/// faces follow one another or lie evenly apart, else by halves.
+/// faces follow one another or lie evenly apart, else by binary search.
 pub fn id_in(pairs: &[(u32, u32)], face: u32) -> Option<u32>
     requires { AreRising pairs.now }
     ensures { result ≡ id_of face pairs.now }
@@ -32,7 +32,7 @@ enum Faces {
     More(Box<Many>),
 }
 
-// Two pairs. The only error is want of memory.
+// Two pairs.
 fn two(alloc: Global, first: (u32, u32), second: (u32, u32)) -> Result<Faces, Memory>
     ensures { IfOk result (λ faces. pairs_of faces ≡ first ∷ second ∷ []) }
 {
@@ -40,7 +40,7 @@ fn two(alloc: Global, first: (u32, u32), second: (u32, u32)) -> Result<Faces, Me
     Ok(Faces::More(Box::new(alloc, many)?))
 }
 
-// The face with the id, beside one pair or instead of it. The only error is want of memory.
+// The face with the id, beside one pair or instead of it.
 fn beside_one(alloc: Global, pair: (u32, u32), face: u32, id: u32) -> Result<Faces, Memory>
     ensures { IfOk result (λ faces. pairs_of faces ≡ with_face face id (pair ∷ [])) }
 {
@@ -107,8 +107,8 @@ impl ToldFaces {
         self.as_slice().is_empty()
     }
 
-    /// The face was told under the id. It answers the id that the face had, if it had one. The only
-    /// error is want of memory, and then the faces stay.
+    /// The face was told under the id. It answers the id that the face had, if it had one. After an
+    /// error the faces stay.
     pub(crate) fn put(&mut self, alloc: Global, face: u32, id: u32) -> Result<Option<u32>, Memory>
         ensures ok { OnOk result (self.new ≡ with_face face id self.old) }
         ensures known { IfOk result (λ known. known ≡ id_of face self.old) }
@@ -143,7 +143,7 @@ impl ToldFaces {
         }
     }
 
-    /// Equal faces. The only error is want of memory.
+    /// Equal faces.
     pub(crate) fn copy(&self, alloc: Global) -> Result<Self, Memory>
         ensures { IfOk result (λ copy. copy ≡ self.now) }
     {

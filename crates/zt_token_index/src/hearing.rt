@@ -11,8 +11,8 @@ use zt_face::FaceState;
 use zt_keys::{Key, Memory};
 use zt_protocol::Message;
 
-// A face is told an expression under an id. The only error is want of memory; an expression that it
-// was told under another id never comes up in a gateway, and counts as that.
+// A face is told an expression under an id. An expression that it was told under another id never
+// comes up in a gateway, and counts as out of memory.
 fn tell<K: Key>(
     alloc: Global,
     told: &mut ToldIndex<K>,
@@ -57,8 +57,8 @@ fn untell_expression<K: Key>(told: &mut ToldIndex<K>, f: &FaceState<K>, expr: &K
 }
 
 /// A face hears a message. Where this says that an expression is gone, the answer is the id under
-/// which the face was told it, if it was. The only error is want of memory; an expression that is
-/// told anew under another id never comes up in a gateway, and counts as that.
+/// which the face was told it, if it was. An expression that is told anew under another id never
+/// comes up in a gateway, and counts as out of memory.
 pub(crate) fn hear_message<K: Key>(
     alloc: Global,
     told: &mut ToldIndex<K>,

@@ -74,8 +74,8 @@ fn find_at<K: Key>(faces: &IndexMap<K, ToldFaces>, expr: &K, face: u32) -> Optio
     }
 }
 
-// These faces stand under a copy of the expression, at the place that it answers. The only error is
-// want of memory, and then all stays.
+// These faces stand under a copy of the expression, at the place that it answers. After an error
+// all stays.
 fn put_faces<K: Key>(
     alloc: Global,
     faces: &mut IndexMap<K, ToldFaces>,
@@ -91,7 +91,7 @@ fn put_faces<K: Key>(
 }
 
 // The face was told the expression under the id. It answers the id that the face had, if it had
-// one. The only error is want of memory, and then all stays.
+// one. After an error all stays.
 fn put_at<K: Key>(
     alloc: Global,
     faces: &mut IndexMap<K, ToldFaces>,
@@ -161,9 +161,8 @@ impl<K: Key> ToldIndex<K> {
         find_at(&self.faces, expr, face)
     }
 
-    /// The face was told the expression under the id, which stands instead of one that it had.
-    /// It answers the id that the face had, if it had one. The only error is want of memory, and
-    /// then the index stays.
+    /// The face was told the expression under the id, which stands instead of one that it had. It
+    /// answers the id that the face had, if it had one. After an error the index stays.
     pub fn tell(
         &mut self,
         alloc: Global,
@@ -189,7 +188,7 @@ impl<K: Key> ToldIndex<K> {
         }
     }
 
-    /// An equal index. The only error is want of memory.
+    /// An equal index.
     pub fn copy(&self, alloc: Global) -> Result<Self, Memory>
         ensures { IfOk result (λ copy. copy ≡ self.now) }
     {

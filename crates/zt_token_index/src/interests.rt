@@ -35,7 +35,7 @@ fn is_in_tokens<K: Key>(interest: &RemoteInterest<K>) -> bool
     interest.options().contains(InterestOptions::TOKENS)
 }
 
-/// An interest comes, if it is one in tokens. The only error is want of memory.
+/// An interest comes, if it is one in tokens.
 pub(crate) fn put_held<K: Key>(
     alloc: Global,
     index: &mut InterestIndex<K>,

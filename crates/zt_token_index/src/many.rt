@@ -37,7 +37,7 @@ impl Model for Many {
 }
 
 impl Many {
-    /// Two pairs. The only error is want of memory.
+    /// Two pairs.
     pub(crate) fn two(alloc: Global, first: (u32, u32), second: (u32, u32)) -> Result<Self, Memory>
         ensures { IfOk result (λ many. many ≡ first ∷ second ∷ []) }
     {
@@ -55,7 +55,7 @@ impl Many {
     }
 
     /// The face with the id, in its place. It answers the id that the face had, if it had one.
-    /// The only error is want of memory, and then the pairs stay.
+    /// After an error the pairs stay.
     pub(crate) fn put(&mut self, face: u32, id: u32) -> Result<Option<u32>, Memory>
         requires { AreRising self.old }
         ensures ok { OnOk result (self.new ≡ with_face face id self.old) }
@@ -104,7 +104,7 @@ impl Many {
         }
     }
 
-    /// Equal pairs, in no more memory than they take. The only error is want of memory.
+    /// Equal pairs, in no more memory than they take.
     pub(crate) fn copy(&self, alloc: Global) -> Result<Self, Memory>
         ensures { IfOk result (λ copy. copy ≡ self.now) }
     {

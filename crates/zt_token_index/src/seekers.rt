@@ -60,7 +60,7 @@ impl<K: Key> Seekers<K> {
     }
 
     /// A face more that holds nothing and was told nothing yet, whose number is above those of the
-    /// others. The only error is want of memory, and then they stay.
+    /// others. After an error they stay.
     pub fn open(&mut self, f: &FaceState<K>) -> Result<(), Memory>
         ensures ok { OnOk result (self.new
             ≡ record self.old { north = self.old.north ++ north_numbers (f.now ∷ []) }) }
@@ -81,8 +81,7 @@ impl<K: Key> Seekers<K> {
         untell_all(&mut self.told, f);
     }
 
-    /// The face comes to hold an interest, if it asks for what comes later. The only error is want
-    /// of memory.
+    /// The face comes to hold an interest, if it asks for what comes later.
     pub fn hold(
         &mut self,
         alloc: Global,
@@ -108,9 +107,9 @@ impl<K: Key> Seekers<K> {
     }
 
     /// The face hears a message. Where this says that an expression is gone, the answer is the id
-    /// under which the face was told it, if it was. The only error is want of memory; an expression
-    /// that is told anew under another id never comes up in a gateway, and counts as that. Nothing
-    /// is said of the look-ups after it.
+    /// under which the face was told it, if it was. An expression that is told anew under another
+    /// id never comes up in a gateway, and counts as out of memory. Nothing is said of the look-ups
+    /// after an error.
     pub fn hear(
         &mut self,
         alloc: Global,
@@ -151,7 +150,7 @@ impl<K: Key> Seekers<K> {
 
     /// The faces that may be told of the expression, by number, in order: those to the north, and
     /// those that hold an interest in its tokens. `None` where the expression can't be looked up,
-    /// as a key expression with a wild end: any face may be one. The only error is want of memory.
+    /// as a key expression with a wild end: any face may be one.
     pub fn find(&self, alloc: Global, expr: &K) -> Result<Option<Vec<u32>>, Memory>
         ensures { IfOk result (λ found. IfSome found (λ numbers. (fs : List (Face K)) →
             IsStrictlySortedBy nat_cmp (map (λ f. f.number) fs) →
@@ -172,7 +171,7 @@ impl<K: Key> Seekers<K> {
         self.index.interests_in(about)
     }
 
-    /// Equal look-ups. The only error is want of memory.
+    /// Equal look-ups.
     pub fn copy(&self, alloc: Global) -> Result<Self, Memory>
         ensures { IfOk result (λ copy. copy ≡ self.now) }
     {
