@@ -1,4 +1,5 @@
 pub mod TextLemmas
+pub mod FrontLemmas
 pub mod Clean
 pub mod SentLaws
 pub mod TranscriptLaws

@@ -1,6 +1,7 @@
 //! A transcript's text: entries and the report as they are printed, and message lines read back.
 #![tactic(auto)]
 
+mod heads;
 mod laws;
 mod printing;
 mod sent;

@@ -1,294 +1,115 @@
 // The printed text. The private functions add to a text, and leave a part of what they add where
 // memory runs out.
-ghost use Rattle.std.specs.Prelude.{◌≡◌, ◌+◌, ◌<◌, ◌++◌, ◌∷◌, [], take, decimal, IsUtf8, codes};
+ghost use Rattle.std.specs.Prelude.{◌≡◌, ◌+◌, ◌<◌, ◌≤◌, ◌++◌, ◌∷◌, [], take, decimal, IsUtf8, codes};
 ghost use Rattle.std.specs.Prelude.{OnOk, OnErr, IfOk, is_ok, if◌then◌else◌, string_bytes};
 ghost use Rattle.std.specs.List.{flat_map};
-ghost use Rattle.zt_protocol.specs.Interest.{has_bits};
+ghost use Rattle.std.specs.Option.{option_copied};
+ghost use Rattle.arrayvec.specs.ArrayString.{array_string_len};
 ghost use Rattle.zt_protocol.specs.Plain.{plain_entry};
 ghost use Rattle.zt_protocol.specs.Refusal.{name_of};
-ghost use Rattle.zt_text.specs.Text.{Begins, spaced, line_of, key_fields, message_fields};
+ghost use Rattle.zt_text.specs.Text.{Begins, spaced, key_fields};
 ghost use Rattle.zt_text.specs.Text.{sent_text, entry_text, report_text};
-ghost use Rattle.zt_fields.specs.Spellings.{letter_if, letters_of, options_text};
-ghost use Rattle.zt_fields.specs.Spellings.{interest_mode_text, flag_text};
 
-use bitflags::Flags;
+use crate::heads::{ROOM, put_digits, put_front};
+use arrayvec::ArrayString;
 use itoa::Buffer;
 use std::alloc::Global;
 use zt_keys::{Key, Memory};
-use zt_protocol::{Entry, InterestMode, InterestOptions, Message, QueryableInfo, Report, Sent};
+use zt_protocol::{Entry, Refusal, Report, Sent};
 
-/// Adds a field.
-fn put_field(out: &mut String, field: &str) -> Result<(), Memory>
-    ensures ok { OnOk result (string_bytes out.new
-        ≡ string_bytes out.old ++ spaced (field.now ∷ [])) }
-    ensures err { OnErr result (Begins (string_bytes out.old) (string_bytes out.new)) }
-{
-    out.push(' ')?;
-    out.push_str(field)?;
-    Ok(())
-}
-
+// Adds what the head holds, and the key.
 #[inline(always)]
-fn put_digit(out: &mut String, digit: u64) -> Result<(), Memory>
-    requires { digit < 10 }
-    ensures ok { OnOk result (string_bytes out.new
-        ≡ string_bytes out.old ++ (48 + digit) ∷ []) }
-    ensures err { OnErr result (Begins (string_bytes out.old) (string_bytes out.new)) }
-{
-    out.push(char::from(b'0' + digit as u8))?;
-    Ok(())
-}
-
-/// Adds the digits of a short number one by one: they cost less than a text of their own.
-#[inline(always)]
-#[tactic(auto, using(crate::proofs::TextLemmas::decimal_one))]
-fn put_short(out: &mut String, number: u64) -> Result<(), Memory>
-    requires { number < 1000 }
-    ensures ok { OnOk result (string_bytes out.new ≡ string_bytes out.old ++ decimal number) }
-    ensures err { OnErr result (Begins (string_bytes out.old) (string_bytes out.new)) }
-{
-    if number < 10 {
-        return put_digit(out, number);
-    }
-    if number < 100 {
-        put_digit(out, number / 10)?;
-        return put_digit(out, number % 10);
-    }
-    put_digit(out, number / 100)?;
-    put_digit(out, number / 10 % 10)?;
-    put_digit(out, number % 10)
-}
-
-/// Adds a number as a field. Most numbers are short.
-fn put_number(out: &mut String, number: u64) -> Result<(), Memory>
-    ensures ok { OnOk result (string_bytes out.new
-        ≡ string_bytes out.old ++ spaced (decimal number ∷ [])) }
-    ensures err { OnErr result (Begins (string_bytes out.old) (string_bytes out.new)) }
-{
-    out.push(' ')?;
-    if number < 1000 {
-        return put_short(out, number);
-    }
-    let mut buffer = Buffer::new();
-    out.push_str(buffer.format(number))?;
-    Ok(())
-}
-
-/// Adds a node id as a field. Most are 0, which is added as one text.
-fn put_node_id(out: &mut String, node_id: u16) -> Result<(), Memory>
-    ensures ok { OnOk result (string_bytes out.new
-        ≡ string_bytes out.old ++ spaced (decimal node_id ∷ [])) }
-    ensures err { OnErr result (Begins (string_bytes out.old) (string_bytes out.new)) }
-{
-    if node_id == 0 {
-        out.push_str(" 0")?;
-        return Ok(());
-    }
-    put_number(out, u64::from(node_id))
-}
-
-fn put_key<K: Key>(out: &mut String, key: &K) -> Result<(), Memory>
-    ensures ok { OnOk result (string_bytes out.new
-        ≡ string_bytes out.old ++ spaced (K.printed key.now ∷ [])) }
-    ensures err { OnErr result (Begins (string_bytes out.old) (string_bytes out.new)) }
-{
-    out.push(' ')?;
-    key.print_to(out)
-}
-
-fn put_optional_key<K: Key>(out: &mut String, key: &Option<K>) -> Result<(), Memory>
-    ensures ok { OnOk result (string_bytes out.new
-        ≡ string_bytes out.old ++ spaced (key_fields K.printed key.now)) }
-    ensures err { OnErr result (Begins (string_bytes out.old) (string_bytes out.new)) }
-{
-    match key {
-        Some(key) => put_key(out, key),
-        None => Ok(()),
-    }
-}
-
-fn put_letter(
+fn put_key<K: Key>(
     out: &mut String,
-    options: InterestOptions,
-    bit: InterestOptions,
-    letter: &str,
+    head: &mut ArrayString<ROOM>,
+    key: Option<&K>,
 ) -> Result<(), Memory>
-    ensures ok { OnOk result (string_bytes out.new
-        ≡ string_bytes out.old ++ (if has_bits bit.0 options then letter.now else [])) }
-    ensures err { OnErr result (Begins (string_bytes out.old) (string_bytes out.new)) }
-{
-    if options.contains(bit) {
-        out.push_str(letter)?;
-    }
-    Ok(())
-}
-
-fn put_letters(out: &mut String, options: InterestOptions) -> Result<(), Memory>
-    ensures ok { OnOk result (string_bytes out.new ≡ string_bytes out.old ++ letters_of options) }
-    ensures err { OnErr result (Begins (string_bytes out.old) (string_bytes out.new)) }
-{
-    put_letter(out, options, InterestOptions::KEYEXPRS, "k")?;
-    put_letter(out, options, InterestOptions::SUBSCRIBERS, "s")?;
-    put_letter(out, options, InterestOptions::QUERYABLES, "q")?;
-    put_letter(out, options, InterestOptions::TOKENS, "t")?;
-    put_letter(out, options, InterestOptions::AGGREGATE, "a")?;
-    Ok(())
-}
-
-fn put_options(out: &mut String, options: InterestOptions) -> Result<(), Memory>
-    ensures ok { OnOk result (string_bytes out.new
-        ≡ string_bytes out.old ++ spaced (options_text options ∷ [])) }
-    ensures err { OnErr result (Begins (string_bytes out.old) (string_bytes out.new)) }
-{
-    out.push(' ')?;
-    if options.bits() & 31 == 0 {
-        out.push('-')?;
-        return Ok(());
-    }
-    put_letters(out, options)
-}
-
-fn interest_mode_text(mode: InterestMode) -> &'static str
-    ensures { result.now ≡ interest_mode_text mode }
-{
-    match mode {
-        InterestMode::Current => "current",
-        InterestMode::Future => "future",
-        InterestMode::CurrentFuture => "current-future",
-    }
-}
-
-fn put_interest<K: Key>(
-    out: &mut String,
-    id: u32,
-    mode: InterestMode,
-    options: InterestOptions,
-    expr: &Option<K>,
-) -> Result<(), Memory>
+    requires { array_string_len head.old < ROOM }
     ensures ok { OnOk result (string_bytes out.new
         ≡ string_bytes out.old
-        ++ spaced (codes "interest" ∷ decimal id ∷ interest_mode_text mode ∷ options_text options
-        ∷ key_fields K.printed expr.now)) }
-    ensures err { OnErr result (Begins (string_bytes out.old) (string_bytes out.new)) }
+        ++ (head.old.bytes ++ spaced (key_fields K.printed (option_copied key.entry)))) }
+    ensures begun { Begins (string_bytes out.old) (string_bytes out.new) }
 {
-    out.push_str(" interest")?;
-    put_number(out, u64::from(id))?;
-    put_field(out, interest_mode_text(mode))?;
-    put_options(out, options)?;
-    put_optional_key(out, expr)
-}
-
-fn put_interest_final(out: &mut String, id: u32) -> Result<(), Memory>
-    ensures ok { OnOk result (string_bytes out.new
-        ≡ string_bytes out.old ++ spaced (codes "interest-final" ∷ decimal id ∷ [])) }
-    ensures err { OnErr result (Begins (string_bytes out.old) (string_bytes out.new)) }
-{
-    out.push_str(" interest-final")?;
-    put_number(out, u64::from(id))
-}
-
-fn put_info(out: &mut String, info: QueryableInfo) -> Result<(), Memory>
-    ensures ok { OnOk result (string_bytes out.new
-        ≡ string_bytes out.old
-        ++ spaced (flag_text info.complete ∷ decimal info.distance ∷ [])) }
-    ensures err { OnErr result (Begins (string_bytes out.old) (string_bytes out.new)) }
-{
-    out.push_str(if info.complete { " 1" } else { " 0" })?;
-    put_number(out, u64::from(info.distance))
-}
-
-fn put_message<K: Key>(out: &mut String, message: &Message<K>) -> Result<(), Memory>
-    ensures ok { OnOk result (string_bytes out.new
-        ≡ string_bytes out.old ++ spaced (message_fields K.printed message.now)) }
-    ensures err { OnErr result (Begins (string_bytes out.old) (string_bytes out.new)) }
-{
-    match message {
-        Message::DeclareToken {
-            id,
-            expr,
-            interest_id: None,
-            node_id,
-        } => {
-            out.push_str(" token")?;
-            put_number(out, u64::from(*id))?;
-            put_node_id(out, *node_id)?;
-            put_key(out, expr)
-        }
-        Message::DeclareToken {
-            id,
-            expr,
-            interest_id: Some(interest_id),
-            node_id,
-        } => {
-            out.push_str(" answer")?;
-            put_number(out, u64::from(*interest_id))?;
-            put_number(out, u64::from(*id))?;
-            put_node_id(out, *node_id)?;
-            put_key(out, expr)
-        }
-        Message::UndeclareToken { id, expr, node_id } => {
-            out.push_str(" untoken")?;
-            put_number(out, u64::from(*id))?;
-            put_node_id(out, *node_id)?;
-            put_optional_key(out, expr)
-        }
-        Message::DeclareFinal { interest_id } => {
-            out.push_str(" final")?;
-            put_number(out, u64::from(*interest_id))
-        }
-        Message::Interest {
-            id,
-            mode,
-            options,
-            expr,
-        } => put_interest(out, *id, *mode, *options, expr),
-        Message::InterestFinal { id } => put_interest_final(out, *id),
-        Message::DeclareSubscriber {
-            id,
-            expr,
-            interest_id,
-        } => {
-            out.push_str(" subscriber")?;
-            put_number(out, u64::from(*interest_id))?;
-            put_number(out, u64::from(*id))?;
-            put_key(out, expr)
-        }
-        Message::DeclareQueryable {
-            id,
-            expr,
-            info,
-            interest_id,
-        } => {
-            out.push_str(" queryable")?;
-            put_number(out, u64::from(*interest_id))?;
-            put_number(out, u64::from(*id))?;
-            put_info(out, *info)?;
-            put_key(out, expr)
-        }
-    }
-}
-
-fn put_sent<K: Key>(out: &mut String, sent: &Sent<K>) -> Result<(), Memory>
-    ensures ok { OnOk result (string_bytes out.new
-        ≡ string_bytes out.old ++ sent_text K.printed sent.now) }
-    ensures err { OnErr result (Begins (string_bytes out.old) (string_bytes out.new)) }
-{
-    out.push('>')?;
-    put_number(out, u64::from(sent.gateway))?;
-    put_number(out, u64::from(sent.face))?;
-    put_message(out, &sent.message)?;
-    out.push('\n')?;
+    let Some(key) = key else {
+        out.push_str(head.as_str())?;
+        return Ok(());
+    };
+    head.push(' ');
+    out.push_str(head.as_str())?;
+    key.print_to(out)?;
     Ok(())
 }
 
-fn put_all<K: Key>(out: &mut String, sents: &[Sent<K>]) -> Result<(), Memory>
-    ensures ok { OnOk result (string_bytes out.new
-        ≡ string_bytes out.old ++ flat_map (sent_text K.printed) sents.now) }
-    ensures err { OnErr result (Begins (string_bytes out.old) (string_bytes out.new)) }
+// Adds a message, behind what the head holds, and leaves in the head the end of its line.
+fn put_sent<K: Key>(
+    out: &mut String,
+    head: &mut ArrayString<ROOM>,
+    sent: &Sent<K>,
+) -> Result<(), Memory>
+    requires { array_string_len head.old ≤ 40 }
+    ensures ok { OnOk result (string_bytes out.new ++ head.new.bytes
+        ≡ string_bytes out.old ++ (head.old.bytes ++ sent_text K.printed sent.now)) }
+    ensures room { OnOk result (array_string_len head.new ≤ 40) }
+    ensures begun { Begins (string_bytes out.old) (string_bytes out.new) }
+{
+    let key = put_front(head, sent);
+    put_key(out, head, key)?;
+    head.clear();
+    head.push('\n');
+    Ok(())
+}
+
+fn put_all<K: Key>(
+    out: &mut String,
+    head: &mut ArrayString<ROOM>,
+    sents: &[Sent<K>],
+) -> Result<(), Memory>
+    requires { array_string_len head.old ≤ 40 }
+    ensures ok { OnOk result (string_bytes out.new ++ head.new.bytes
+        ≡ string_bytes out.old
+        ++ (head.old.bytes ++ flat_map (sent_text K.printed) sents.now)) }
+    ensures begun { Begins (string_bytes out.old) (string_bytes out.new) }
 {
     for sent in sents {
-        put_sent(out, sent)?;
+        put_sent(out, head, sent)?;
     }
+    Ok(())
+}
+
+// The head holds the number of the line.
+fn put_sents<K: Key>(
+    out: &mut String,
+    head: &mut ArrayString<ROOM>,
+    sents: &[Sent<K>],
+) -> Result<(), Memory>
+    requires { array_string_len head.old ≤ 20 }
+    ensures ok { OnOk result (string_bytes out.new
+        ≡ string_bytes out.old ++ (head.old.bytes ++ (codes " ok\n"
+        ++ flat_map (sent_text K.printed) sents.now))) }
+    ensures err { OnErr result (Begins (string_bytes out.old) (string_bytes out.new)) }
+{
+    head.push_str(" ok\n");
+    put_all(out, head, sents)?;
+    out.push_str(head.as_str())?;
+    Ok(())
+}
+
+// The head holds the number of the line.
+fn put_refusal(
+    out: &mut String,
+    head: &mut ArrayString<ROOM>,
+    refusal: Refusal,
+) -> Result<(), Memory>
+    requires { array_string_len head.old ≤ 20 }
+    ensures ok { OnOk result (string_bytes out.new
+        ≡ string_bytes out.old ++ (head.old.bytes
+        ++ (spaced (codes "refused" ∷ name_of refusal ∷ []) ++ 10 ∷ []))) }
+    ensures err { OnErr result (Begins (string_bytes out.old) (string_bytes out.new)) }
+{
+    head.push_str(" refused ");
+    out.push_str(head.as_str())?;
+    out.push_str(refusal.name())?;
+    out.push('\n')?;
     Ok(())
 }
 
@@ -297,19 +118,11 @@ fn put_entry<K: Key>(out: &mut String, line: u64, entry: &Entry<K>) -> Result<()
         ≡ string_bytes out.old ++ entry_text K.printed line (plain_entry entry.now)) }
     ensures err { OnErr result (Begins (string_bytes out.old) (string_bytes out.new)) }
 {
-    let mut buffer = Buffer::new();
-    out.push_str(buffer.format(line))?;
+    let mut head = ArrayString::<ROOM>::new();
+    put_digits(&mut head, line);
     match &entry.outcome {
-        Ok(sents) => {
-            out.push_str(" ok\n")?;
-            put_all(out, sents)
-        }
-        Err(refusal) => {
-            out.push_str(" refused ")?;
-            out.push_str(refusal.name())?;
-            out.push('\n')?;
-            Ok(())
-        }
+        Ok(sents) => put_sents(out, &mut head, sents),
+        Err(refusal) => put_refusal(out, &mut head, *refusal),
     }
 }
 
@@ -319,10 +132,12 @@ fn put_report(out: &mut String, report: &Report) -> Result<(), Memory>
     ensures err { OnErr result (Begins (string_bytes out.old) (string_bytes out.new)) }
 {
     let mut buffer = Buffer::new();
-    out.push_str("total")?;
-    put_number(out, report.lines)?;
-    put_field(out, buffer.format(report.messages))?;
-    put_number(out, report.refusals)?;
+    out.push_str("total ")?;
+    out.push_str(buffer.format(report.lines))?;
+    out.push(' ')?;
+    out.push_str(buffer.format(report.messages))?;
+    out.push(' ')?;
+    out.push_str(buffer.format(report.refusals))?;
     out.push('\n')?;
     Ok(())
 }
