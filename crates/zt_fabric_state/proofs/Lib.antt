@@ -4,4 +4,5 @@ pub mod Joints
 pub mod Members
 pub mod Placed
 pub mod PutBack
+pub mod Restored
 pub mod Sorts

@@ -100,3 +100,7 @@ module _ {K : Type 0} where
       cases : (o : Option ℕ) → record (fabric_of gs xs ls qs) { waiting = with_printed ms (without_taken o (waiting_from 1 qs)) } ≡ with_waiting ms (taken_by o (fabric_of gs xs ls qs))
       cases None = refl
       cases (Some face) = refl
+
+  -- places and what waits there are as they were
+  pub places_kept : (gs : List (Node K)) (xs ys : List Place) (ls : List Link) (qs rs : Queued K) → ys ≡ xs → rs ≡ qs → fabric_of gs ys ls rs ≡ fabric_of gs xs ls qs
+  places_kept gs xs ys ls qs rs places queues = ap (λ zs. fabric_of gs zs ls rs) places ∙ ap (fabric_of gs xs ls) queues

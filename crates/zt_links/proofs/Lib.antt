@@ -11,3 +11,4 @@ pub mod Linked
 pub mod Refusing
 pub mod Turned
 pub mod Walks
+pub mod Unknown

@@ -1,8 +1,9 @@
+use Rattle.std.proofs.lemmas.Result.{IfOk-weaker}
 use Rattle.std.proofs.Common.{◌≡◌, Some, ap, refl, subst, ◌∙◌}
 use Rattle.zt_model.specs.Fabric.{sorted_by_face}
 use Rattle.zt_model.specs.Lists.{nth}
 use Rattle.zt_fabric_state.specs.Changes.{carried, said_sorted}
-use Rattle.zt_links.proofs.Carried.{made_called, made_nowhere, nothing_carried, ok_both}
+use Rattle.zt_links.proofs.Carried.{made_called, made_nowhere, made_says, nothing_carried, ok_both}
 use Rattle.zt_fabric_state.proofs.Members.{some_member}
 use Rattle.zt_links.proofs.making.make_call.Goals as goal
 
@@ -39,3 +40,13 @@ returns-in-Some-member_place-clause-does g c =
     (says ∙ ap (λ m. said_sorted cmp matching m.0 m.1 s) c.made.view_is)
     (does ∙ ap (λ m. carried cmp matching c.args.taken m.0 m.1 s) c.made.view_is))
     c.carry_at.ensures.says c.carry_at.ensures.does
+
+pub returns-in-Some-member_place-clause-says : goal.returns-in-Some-member_place-clause-says
+returns-in-Some-member_place-clause-says g c =
+    let cmp = g.K.Ord.cmp in
+    let matching = g.K.Key.matching in
+    let s = c.args.s.now in
+    let m = c.in-Some.made in
+    IfOk-weaker c.carry_at.result _ _
+    (λ sent says. made_says cmp matching g.met.K.Ord.total s c.args.made.now m sent.items c.in-Some.is (says ∙ ap (λ m. said_sorted cmp matching m.0 m.1 s) c.made.view_is))
+    c.carry_at.ensures.says

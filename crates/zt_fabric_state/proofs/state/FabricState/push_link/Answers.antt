@@ -1,7 +1,7 @@
 use Rattle.std.proofs.Common.{List, ◌+◌, ◌-◌, ◌≤◌, true, length, take, ap, subst, sym, arith, ◌∙◌}
 use Rattle.zt_model.specs.Places.{Fabric, Link}
 use Rattle.zt_link_queues.specs.Found.{AreBelow}
-use Rattle.zt_fabric_state.proofs.Carried.{on_ok}
+use Rattle.zt_fabric_state.proofs.Carried.{on_err, on_ok}
 use Rattle.zt_fabric_state.proofs.Joints.{links_pushed}
 use Rattle.zt_fabric_state.proofs.Placed.{fabric_of, front}
 use Rattle.zt_fabric_state.proofs.state.FabricState.push_link.Goals as goal
@@ -30,3 +30,8 @@ returns-clause-back g c =
     (on_ok c.push.result _ _
     (λ more. ap (λ (ls : List Link). fabric_of i.gateways.items i.places (take (length ls - 1) ls) i.queues) more ∙ ap (λ (ls : List Link). fabric_of i.gateways.items i.places ls i.queues) (front i.links _))
     c.push.ensures.ok)
+
+pub returns-clause-err : goal.returns-clause-err
+returns-clause-err g c =
+    let i = c.self.inside in
+    rw (← c.self.view_is) (on_err c.push.result _ _ (λ same. ap (λ (ls : List Link). fabric_of i.gateways.items i.places ls i.queues) same) c.push.ensures.err)

@@ -1,6 +1,6 @@
 use Rattle.zt_fabric_state.proofs.Carried.{on_ok}
 use Rattle.zt_fabric_state.proofs.Joints.{free_pushed, placed_pushed}
-use Rattle.zt_fabric_state.proofs.Placed.{as_many, place_pushed, ok_two, place_back}
+use Rattle.zt_fabric_state.proofs.Placed.{as_many, err_two, place_pushed, ok_two, place_back, places_kept}
 use Rattle.zt_fabric_state.proofs.state.FabricState.push_place.Goals as goal
 
 pub invariant_of-self : goal.invariant_of-self
@@ -32,3 +32,11 @@ returns-clause-back g c =
     (ok_two c.push_both.result _ _ _
     (λ places queues. place_back i.gateways.items i.places c.push_both.new.places i.links i.queues c.push_both.new.queues _ _ c.self.invariant.beside places queues)
     c.push_both.ensures.places c.push_both.ensures.queues)
+
+pub returns-clause-err : goal.returns-clause-err
+returns-clause-err g c =
+    let i = c.self.inside in
+    rw (← c.self.view_is)
+    (err_two c.push_both.result _ _ _
+    (λ places queues. places_kept i.gateways.items i.places c.push_both.new.places i.links i.queues c.push_both.new.queues places queues)
+    c.push_both.ensures.places_err c.push_both.ensures.queues_err)
