@@ -6,8 +6,8 @@ use Rattle.zt_protocol.specs.declared.messages.Message.{Message}
 use Rattle.zt_model.specs.Says.{Sends}
 use Rattle.zt_gateway.specs.Running.{oldest_for, without_oldest}
 use Rattle.zt_liveliness.specs.Books.{find_session, with_session}
-use Rattle.zt_liveliness.specs.Lively.{Lively, is_asking, left_by, reply_by, reply_of}
-use Rattle.zt_liveliness.specs.Queues.{answer_for, oldest_answer, without_answer}
+use Rattle.zt_liveliness.specs.Lively.{Lively, is_asking, left_by, live_in, reply_by, reply_of}
+use Rattle.zt_liveliness.specs.Queues.{answer_for, oldest_answer, reply_in, without_answer}
 use Rattle.zt_liveliness.specs.declared.books.Session.{Session}
 
 pub drop_item : {A : Type 0} (xs : List A) (i : ℕ) (x : A) → i < length xs → x ≡ get_or xs i x → drop i xs ≡ x ∷ drop (i + 1) xs
@@ -80,6 +80,12 @@ module _ {K : Type 0} where
   pub unanswered_here : (session id : ℕ) (ss : Sends K) (i : ℕ) (s : ℕ × Message K) → i < length ss → s ≡ get_or ss i s → is_some (answer_for session id s) ≡ true
       → without_answer session id (drop i ss) ≡ drop (suc i) ss
   unanswered_here session id ss i s within is own = rw (drop_item ss i s within is, own, add-one) refl
+
+  -- the expression of what a query that is open is given next
+  pub live_by : (oldest : Option (Option K)) → live_in (reply_by true oldest) ≡ reply_in oldest
+  live_by None = refl
+  live_by (Some None) = refl
+  live_by (Some (Some e)) = refl
 
   -- where nothing answers, nothing is taken
   pub unanswered_all : (session id : ℕ) (ss : Sends K) → oldest_answer session id ss ≡ None → without_answer session id ss ≡ ss

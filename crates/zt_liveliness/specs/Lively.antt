@@ -169,6 +169,11 @@ reply_by true (Some (Some e)) = Live e
 abbrev pub reply_of : {K : Type 0} → ℕ → ℕ → Lively K → Reply K
 reply_of session id l = reply_by (is_asking session id l) (oldest_answer session id l.waiting)
 
+-- the expression of an answer that has one
+abbrev pub live_in : {K : Type 0} → Reply K → Option K
+live_in (Live e) = Some e
+live_in _ = None
+
 -- and what is left: an answer is taken, and the end of a query ends it
 abbrev pub left_by : {K : Type 0} → ℕ → ℕ → Reply K → Lively K → Lively K
 left_by session id (Live e) l = record l { waiting = without_answer session id l.waiting }

@@ -19,6 +19,11 @@ abbrev pub oldest_answer : {K : Type 0} → ℕ → ℕ → Sends K → Option (
 oldest_answer session id [] = None
 oldest_answer session id (s ∷ ss) = if is_some (answer_for session id s) then answer_for session id s else oldest_answer session id ss
 
+-- the expression of an answer that is a reply
+abbrev pub reply_in : {K : Type 0} → Option (Option K) → Option K
+reply_in None = None
+reply_in (Some reply) = reply
+
 -- the messages but that one
 abbrev pub without_answer : {K : Type 0} → ℕ → ℕ → Sends K → Sends K
 without_answer session id [] = []

@@ -22,6 +22,7 @@ mod carrying;
 mod errors;
 mod laws;
 mod liveliness;
+mod looking;
 mod mail;
 mod queues;
 mod steps;

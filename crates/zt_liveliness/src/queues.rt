@@ -3,9 +3,11 @@ ghost use Rattle.std.specs.Prelude.{◌≡◌, ◌+◌, ◌<◌, ◌≤◌, ◌+
 ghost use Rattle.std.specs.Prelude.{filter, is_some, length, not, slice_index_or, vec_capacity};
 ghost use Rattle.std.specs.Prelude.{true, vec_len};
 ghost use Rattle.std.specs.List.{remove};
+ghost use Rattle.std.specs.Option.{option_copied};
 ghost use Rattle.zt_protocol.specs.declared.messages.Message.{Message};
 ghost use Rattle.zt_gateway.specs.Running.{oldest_for, without_closed, without_oldest};
-ghost use Rattle.zt_liveliness.specs.Queues.{answer_for, answer_in, oldest_answer, without_answer};
+ghost use Rattle.zt_liveliness.specs.Queues.{answer_for, answer_in, oldest_answer, reply_in};
+ghost use Rattle.zt_liveliness.specs.Queues.{without_answer};
 
 use zt_protocol::Message;
 
@@ -51,6 +53,16 @@ fn place_for<K>(waiting: &[(u32, Message<K>)], face: u32) -> Option<usize>
         }
     }
     None
+}
+
+// The oldest message for a face, which stays.
+pub(crate) fn oldest_for<K>(waiting: &[(u32, Message<K>)], face: u32) -> Option<&Message<K>>
+    ensures { option_copied result ≡ oldest_for face waiting.now }
+{
+    match place_for(waiting, face) {
+        None => None,
+        Some(place) => Some(&waiting[place].1),
+    }
 }
 
 // Takes the oldest message for a face.
@@ -114,6 +126,27 @@ fn place_of_answer<K>(waiting: &[(u32, Message<K>)], session: u32, id: u32) -> O
         }
     }
     None
+}
+
+// The expression of a reply, and none of an end.
+fn expression_in<K>(message: &Message<K>, id: u32) -> Option<&K>
+    requires { is_some (answer_in id message.now) ≡ true }
+    ensures { Some (option_copied result) ≡ answer_in id message.now }
+{
+    match message {
+        Message::DeclareToken { expr, .. } => Some(expr),
+        _ => None,
+    }
+}
+
+// The expression of the oldest reply of a query, which stays; none where the oldest is the end.
+pub(crate) fn oldest_reply<K>(waiting: &[(u32, Message<K>)], session: u32, id: u32) -> Option<&K>
+    ensures { option_copied result ≡ reply_in (oldest_answer session id waiting.now) }
+{
+    match place_of_answer(waiting, session, id) {
+        None => None,
+        Some(place) => expression_in(&waiting[place].1, id),
+    }
 }
 
 // Takes the oldest reply or end of a query: the expression of a reply, and none of an end.

@@ -12,4 +12,4 @@ mod taking;
 
 pub use hearing::{begin, copy_told, hear};
 pub use samples::{News, Sample, Subscriber, Told};
-pub use taking::{drop_news, drop_news_of_session, drop_told, take_sample};
+pub use taking::{drop_news, drop_news_of_session, drop_told, oldest_sample, take_sample};

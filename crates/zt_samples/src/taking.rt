@@ -1,6 +1,7 @@
 // Samples that wait for subscribers, and what goes with a subscriber and with a session.
 ghost use Rattle.std.specs.Prelude.{◌≡◌, ◌<◌, IfNone, IfSome, None, Some, length, slice_index_or};
 ghost use Rattle.std.specs.List.{remove};
+ghost use Rattle.std.specs.Option.{option_copied};
 ghost use Rattle.zt_samples.specs.Samples.{is_for, oldest_sample, without_news};
 ghost use Rattle.zt_samples.specs.Samples.{without_news_of_session, without_sample, without_session};
 ghost use Rattle.zt_samples.specs.declared.samples.News.{News};
@@ -24,6 +25,16 @@ fn place_of_sample<K>(news: &[News<K>], session: u32, subscriber: u32) -> Option
         }
     }
     None
+}
+
+/// The oldest sample that waits for the subscriber, which stays. None exactly where there is none.
+pub fn oldest_sample<K>(news: &[News<K>], session: u32, subscriber: u32) -> Option<&Sample<K>>
+    ensures { option_copied result ≡ oldest_sample session subscriber news.now }
+{
+    match place_of_sample(news, session, subscriber) {
+        None => None,
+        Some(place) => Some(&news[place].sample),
+    }
 }
 
 /// Takes the oldest sample that waits for the subscriber. None exactly where there is none. This
