@@ -1,0 +1,3 @@
+pub mod Tables
+pub mod Watched
+pub mod Beside
