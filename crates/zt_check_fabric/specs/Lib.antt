@@ -1,1 +1,5 @@
+pub mod Changed
+pub mod Linked
 pub mod Made
+pub mod Placed
+pub mod Waiting

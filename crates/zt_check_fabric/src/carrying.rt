@@ -1,23 +1,19 @@
 // What accepted lines change.
+ghost use Rattle.std.specs.Prelude.{◌≡◌, OnOk, option_map, string_bytes};
+ghost use Rattle.zt_protocol.specs.Plain.{plain_call, plain_line};
+ghost use Rattle.zt_region.specs.South.{plain_south};
+ghost use Rattle.zt_model.specs.Fabric.{call_at, call_of, new_rows, with_gateway};
+ghost use Rattle.zt_model.specs.Transcript.{call_stepped, fabric_with, with_call};
+ghost use Rattle.zt_model.specs.Transcript.{with_opening, with_stepped};
+ghost use Rattle.zt_model.specs.Lists.{nth};
+ghost use Rattle.zt_check_fabric.specs.Made.{made_at};
 
-use crate::ends::end_call;
 use crate::fabric::{ShownFabric, ShownNode};
-use crate::members::place_of_number;
-use crate::places::{ShownLink, ShownPlace};
-use crate::queues::ShownQueue;
 use std::alloc::Global;
 use zt_check_rows::ShownRows;
 use zt_keys::{Key, Memory};
 use zt_protocol::{Call, Line, Sent};
 use zt_region::{Admission, Region, SouthConf, WhatAmI, Zid};
-
-// The number of the next member of a list. The only error is that the numbers are given out.
-fn next_number(length: usize) -> Result<u32, Memory> {
-    if length >= 4294967295 {
-        return Err(Memory);
-    }
-    Ok(length as u32 + 1)
-}
 
 impl<'a, K: Key> ShownFabric<'a, K> {
     // A gateway is made.
@@ -31,7 +27,13 @@ impl<'a, K: Key> ShownFabric<'a, K> {
         name: &'a Option<String>,
         timeout: u64,
         refuse: &Admission,
-    ) -> Result<(), Memory> {
+    ) -> Result<(), Memory>
+        ensures { OnOk result (self.new ≡ with_gateway (record {
+          rows = new_rows mode zid regions.now timeout refuse.now.refused.items;
+          south = plain_south south.now;
+          name = option_map string_bytes name.now;
+        }) self.old) }
+    {
         let regions = regions.to_vec(alloc)?;
         let refused = refuse.refused.to_vec(alloc)?;
         let rows = ShownRows::new(alloc, mode, zid, regions, timeout, refused);
@@ -39,39 +41,59 @@ impl<'a, K: Key> ShownFabric<'a, K> {
         Ok(())
     }
 
-    // A call changes the rows of its gateway.
-    fn apply(
+    // A call changes the rows of its gateway, where that exists.
+    fn carry_at(
         &mut self,
         alloc: Global,
         gateway: u32,
-        pendings: &[(u32, u32)],
         call: &Call<K>,
-    ) -> Result<(), Memory> {
-        let Some(index) = place_of_number(&self.gateways, gateway) else {
-            return Ok(());
-        };
-        let node = &mut self.gateways[index];
-        node.rows.apply(alloc, pendings, call)
-    }
-
-    // A face that a call opens has its place behind the others.
-    fn open(&mut self, alloc: Global, gateway: u32, call: &Call<K>) -> Result<(), Memory> {
+        sents: &[Sent<K>],
+    ) -> Result<(), Memory>
+        ensures { OnOk result (self.new
+            ≡ with_call K.cmp K.matching sents.now
+            (call_at self.old gateway (plain_call call.now)) self.old) }
+    {
         let Some(node) = self.node(gateway) else {
             return Ok(());
         };
-        let Some(made) = node.rows().made().checked_add(1) else {
-            return Err(Memory);
-        };
-        self.faces.push(ShownPlace::new(gateway, made))?;
-        self.apply(alloc, gateway, &[], call)
+        let pendings = self.pendings_printed(alloc, gateway, node.rows(), call, sents)?;
+        self.apply(alloc, gateway, pendings.as_slice(), call)
+    }
+
+    /// A call that was made changes rows.
+    pub(crate) fn carry(
+        &mut self,
+        alloc: Global,
+        made: &Option<(u32, Call<K>)>,
+        sents: &[Sent<K>],
+    ) -> Result<(), Memory>
+        ensures { OnOk result (self.new
+            ≡ with_call K.cmp K.matching sents.now (made_at self.old made.now) self.old) }
+    {
+        match made {
+            None => Ok(()),
+            Some((gateway, call)) => self.carry_at(alloc, *gateway, call, sents),
+        }
+    }
+
+    // A call that was made opens a face.
+    fn open_made(&mut self, alloc: Global, made: &Option<(u32, Call<K>)>) -> Result<(), Memory>
+        ensures { OnOk result (self.new
+            ≡ with_opening K.cmp K.matching (made_at self.old made.now) self.old) }
+    {
+        match made {
+            None => Ok(()),
+            Some((gateway, call)) => self.open(alloc, *gateway, call),
+        }
     }
 
     // A line's call opens a face.
-    fn open_by_line(&mut self, alloc: Global, line: &Line<K>) -> Result<(), Memory> {
-        match self.call_of(alloc, line)? {
-            None => Ok(()),
-            Some((gateway, call)) => self.open(alloc, gateway, &call),
-        }
+    fn open_by_line(&mut self, alloc: Global, line: &Line<K>) -> Result<(), Memory>
+        ensures { OnOk result (self.new
+            ≡ with_opening K.cmp K.matching (call_of (plain_line line.now) self.old) self.old) }
+    {
+        let made = self.call_of(alloc, line)?;
+        self.open_made(alloc, &made)
     }
 
     // A line's call changes rows.
@@ -80,117 +102,45 @@ impl<'a, K: Key> ShownFabric<'a, K> {
         alloc: Global,
         line: &Line<K>,
         sents: &[Sent<K>],
-    ) -> Result<(), Memory> {
-        match self.call_of(alloc, line)? {
-            None => Ok(()),
-            Some((gateway, call)) => {
-                let pendings = self.pendings_printed(alloc, gateway, &call, sents)?;
-                self.apply(alloc, gateway, &pendings, &call)
-            }
-        }
-    }
-
-    // A link between the two faces that are made next.
-    fn add_link(&mut self, alloc: Global) -> Result<(), Memory> {
-        let one = next_number(self.faces.len())?;
-        let two = next_number(self.faces.len() + 1)?;
-        self.links.push(ShownLink::new(one, two))?;
-        self.waiting.push((one, ShownQueue::new(alloc)))?;
-        self.waiting.push((two, ShownQueue::new(alloc)))?;
-        Ok(())
-    }
-
-    // The calls that open the ends of a link.
-    fn end_calls(
-        &self,
-        alloc: Global,
-        one: u32,
-        two: u32,
-        first: u32,
-        back: u32,
-    ) -> Result<(Option<Call<K>>, Option<Call<K>>), Memory> {
-        let (Some(own), Some(other)) = (self.node(one), self.node(two)) else {
-            return Ok((None, None));
-        };
-        let forth = end_call(alloc, own, other, first)?;
-        let back = end_call(alloc, other, own, back)?;
-        Ok((forth, back))
-    }
-
-    // A face at an end of a link opens.
-    fn open_end(
-        &mut self,
-        alloc: Global,
-        gateway: u32,
-        call: &Option<Call<K>>,
-    ) -> Result<(), Memory> {
-        match call {
-            None => Ok(()),
-            Some(call) => self.open(alloc, gateway, call),
-        }
-    }
-
-    // Two gateways are joined.
-    fn open_link(
-        &mut self,
-        alloc: Global,
-        one: u32,
-        two: u32,
-        first: u32,
-        back: u32,
-    ) -> Result<(), Memory> {
-        let (forth, back) = self.end_calls(alloc, one, two, first, back)?;
-        self.add_link(alloc)?;
-        self.open_end(alloc, one, &forth)?;
-        self.open_end(alloc, two, &back)
-    }
-
-    // A face of a number in scripts is closed.
-    fn close_face(&mut self, alloc: Global, face: u32) -> Result<(), Memory> {
-        match self.closing_call(alloc, face)? {
-            None => Ok(()),
-            Some((gateway, call)) => self.apply(alloc, gateway, &[], &call),
-        }
-    }
-
-    // A link and the faces at its ends are closed.
-    fn close_link(&mut self, alloc: Global, number: u32) -> Result<(), Memory> {
-        let Some(link) = self.link(number) else {
-            return Ok(());
-        };
-        let (one, two) = (link.one(), link.two());
-        self.close_face(alloc, one)?;
-        self.close_face(alloc, two)?;
-        if let Some(index) = place_of_number(&self.links, number) {
-            let link = &mut self.links[index];
-            link.close();
-        }
-        self.waiting.retain(|row| two != row.0 && one != row.0);
-        Ok(())
+    ) -> Result<(), Memory>
+        ensures { OnOk result (self.new
+            ≡ with_call K.cmp K.matching sents.now
+            (call_of (plain_line line.now) self.old) self.old) }
+    {
+        let made = self.call_of(alloc, line)?;
+        self.carry(alloc, &made, sents)
     }
 
     // The oldest message of a direction of a link is taken, and what it says is done.
     fn step(
         &mut self,
         alloc: Global,
-        line: &Line<K>,
         link: u32,
         back: bool,
         sents: &[Sent<K>],
-    ) -> Result<(), Memory> {
-        self.call_by_line(alloc, line, sents)?;
+    ) -> Result<(), Memory>
+        ensures { OnOk result (self.new
+            ≡ with_call K.cmp K.matching sents.now
+            (call_stepped self.old back (nth link self.old.links))
+            (with_stepped link back self.old)) }
+    {
+        let made = self.call_stepped(alloc, link, back)?;
         self.take_waiting(link, back);
-        Ok(())
+        self.carry(alloc, &made, sents)
     }
 
     /// What an accepted line itself changes; `sents` is what is printed for it, which is heard
     /// afterwards. That numbers are given out counts as out of memory.
+    #[tactic(auto, unfolding(zt_model::specs::Transcript::fabric_with))]
     pub fn carry_out(
         &mut self,
         alloc: Global,
         line: &'a Line<K>,
         sents: &[Sent<K>],
-    ) -> Result<(), Memory> {
+    ) -> Result<(), Memory>
+        ensures { OnOk result (self.new
+            ≡ fabric_with K.cmp K.matching (plain_line line.now) sents.now self.old) }
+    {
         match line {
             Line::Gateway {
                 mode,
@@ -201,7 +151,8 @@ impl<'a, K: Key> ShownFabric<'a, K> {
                 timeout,
                 refuse,
             } => self.add_gateway(alloc, *mode, *zid, regions, south, name, *timeout, refuse),
-            Line::Session { .. } | Line::Face { .. } => self.open_by_line(alloc, line),
+            Line::Session { gateway, first } => self.open_session(alloc, *gateway, *first),
+            Line::Face { .. } => self.open_by_line(alloc, line),
             Line::Link {
                 one,
                 two,
@@ -209,7 +160,7 @@ impl<'a, K: Key> ShownFabric<'a, K> {
                 back,
             } => self.open_link(alloc, *one, *two, *first, *back),
             Line::Unlink { link } => self.close_link(alloc, *link),
-            Line::Step { link, back } => self.step(alloc, line, *link, *back, sents),
+            Line::Step { link, back } => self.step(alloc, *link, *back, sents),
             Line::Speak { .. } | Line::Moment { .. } | Line::Trees { .. } => {
                 self.call_by_line(alloc, line, sents)
             }

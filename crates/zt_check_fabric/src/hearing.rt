@@ -1,35 +1,32 @@
 // What printed messages change.
+ghost use Rattle.std.specs.Prelude.{◌≡◌, OnOk};
+ghost use Rattle.zt_protocol.specs.Plain.{plain_line};
+ghost use Rattle.zt_model.specs.Fabric.{after_hearing, after_refusal};
+ghost use Rattle.zt_check_fabric.specs.Placed.{IsPlaced};
 
 use crate::fabric::ShownFabric;
-use crate::members::place_of_number;
 use std::alloc::Global;
 use zt_keys::{Key, Memory};
 use zt_protocol::{Line, Refusal, Sent};
 
 impl<'a, K: Key> ShownFabric<'a, K> {
-    // The face that a message is printed for hears it.
-    fn hear_one(&mut self, alloc: Global, sent: &Sent<K>) -> Result<(), Memory> {
-        let Some(place) = self.place(sent.face) else {
-            return Ok(());
-        };
-        let (gateway, face) = (place.gateway(), place.face());
-        let Some(index) = place_of_number(&self.gateways, gateway) else {
-            return Ok(());
-        };
-        let node = &mut self.gateways[index];
-        node.rows.hear(alloc, face, &sent.message)
-    }
-
-    /// Faces hear what is printed for them.
-    pub fn hear(&mut self, alloc: Global, sents: &[Sent<K>]) -> Result<(), Memory> {
+    /// Faces hear what is printed for them. They are found by their places. Where each open face
+    /// has one, as `laws` says of every claimed transcript, this is what the definitions say.
+    pub fn hear(&mut self, alloc: Global, sents: &[Sent<K>]) -> Result<(), Memory>
+        ensures { OnOk result (IsPlaced self.old
+            → self.new ≡ after_hearing K.cmp sents.now self.old) }
+    {
         for sent in sents {
-            self.hear_one(alloc, sent)?;
+            self.tell(alloc, sent)?;
         }
         Ok(())
     }
 
     /// A refused line changes nothing, but that a message whose call is refused has left its link.
-    pub fn refuse(&mut self, line: &Line<K>, refusal: Refusal) {
+    pub fn refuse(&mut self, line: &Line<K>, refusal: Refusal)
+        ensures { self.new
+            ≡ after_refusal K.cmp K.matching (plain_line line.now) refusal self.old }
+    {
         if let Line::Step { link, back } = line {
             if 3 < refusal.number() {
                 self.take_waiting(*link, *back);

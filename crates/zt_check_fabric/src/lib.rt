@@ -7,10 +7,13 @@
 
 mod calling;
 mod carrying;
+mod changing;
 mod ends;
 mod fabric;
 mod hearing;
+pub mod laws;
 mod members;
+mod opening;
 mod pending;
 mod places;
 mod queues;

@@ -1,7 +1,9 @@
 // Places of faces, and links between them.
-ghost use Rattle.std.specs.Prelude.{◌≡◌, false, true};
+ghost use Rattle.std.specs.Prelude.{◌≡◌, false, true, IfOk};
 ghost use Rattle.zt_model.specs.Linking.{sending_end, speaking_end};
+ghost use Rattle.zt_model.specs.Places.{at_nth};
 
+use crate::members::place_of_number;
 use std::alloc::Global;
 use std::marker::Model;
 use zt_keys::Memory;
@@ -134,7 +136,9 @@ impl ShownLink {
 }
 
 /// Equal places.
-pub(crate) fn copy_places(alloc: Global, places: &[ShownPlace]) -> Result<Vec<ShownPlace>, Memory> {
+pub(crate) fn copy_places(alloc: Global, places: &[ShownPlace]) -> Result<Vec<ShownPlace>, Memory>
+    ensures { IfOk result (λ copies. copies.items ≡ places.now) }
+{
     let mut copies = Vec::new(alloc);
     for place in places {
         copies.push(place.copy())?;
@@ -143,10 +147,23 @@ pub(crate) fn copy_places(alloc: Global, places: &[ShownPlace]) -> Result<Vec<Sh
 }
 
 /// Equal links.
-pub(crate) fn copy_links(alloc: Global, links: &[ShownLink]) -> Result<Vec<ShownLink>, Memory> {
+pub(crate) fn copy_links(alloc: Global, links: &[ShownLink]) -> Result<Vec<ShownLink>, Memory>
+    ensures { IfOk result (λ copies. copies.items ≡ links.now) }
+{
     let mut copies = Vec::new(alloc);
     for link in links {
         copies.push(link.copy())?;
     }
     Ok(copies)
+}
+
+/// The link of a number is closed, where there is one.
+pub(crate) fn close_link(links: &mut Vec<ShownLink>, number: u32)
+    ensures { links.new.items
+        ≡ at_nth number (λ l. record l { is_open = false }) links.old.items }
+{
+    let Some(place) = place_of_number(links.as_slice(), number) else {
+        return;
+    };
+    links[place].close();
 }

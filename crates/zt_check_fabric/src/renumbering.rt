@@ -1,4 +1,7 @@
 // Calls, with the number that a face has at its gateway.
+ghost use Rattle.std.specs.Prelude.{◌≡◌, IfOk};
+ghost use Rattle.zt_protocol.specs.Plain.{plain_call};
+ghost use Rattle.zt_model.specs.Fabric.{call_face, with_call_face};
 
 use std::alloc::Global;
 use zt_check_faces::{copy_keys, copy_queryables};
@@ -6,7 +9,9 @@ use zt_keys::{Key, Memory};
 use zt_protocol::{Call, copy_expression};
 
 /// The face that a call names.
-pub(crate) fn call_face<K: Key>(call: &Call<K>) -> Option<u32> {
+pub(crate) fn call_face<K: Key>(call: &Call<K>) -> Option<u32>
+    ensures { result ≡ call_face (plain_call call.now) }
+{
     match call {
         Call::DeclareToken { face, .. }
         | Call::UndeclareToken { face, .. }
@@ -27,7 +32,9 @@ pub(crate) fn with_call_face<K: Key>(
     alloc: Global,
     face: u32,
     call: &Call<K>,
-) -> Result<Call<K>, Memory> {
+) -> Result<Call<K>, Memory>
+    ensures { IfOk result (λ copy. plain_call copy ≡ with_call_face face (plain_call call.now)) }
+{
     Ok(match call {
         Call::NewSession { first } => Call::NewSession { first: *first },
         Call::NewTransport {

@@ -1,38 +1,29 @@
 // What waits on links.
+ghost use Rattle.std.specs.Prelude.{◌≡◌, OnOk};
+ghost use Rattle.zt_model.specs.Fabric.{with_waiting, without_message};
 
 use crate::fabric::ShownFabric;
-use crate::members::place_of_number;
-use crate::queues::ShownQueue;
+use crate::queues::{add_printed, take_oldest};
 use std::alloc::Global;
 use zt_keys::{Key, Memory};
 use zt_protocol::Sent;
 
-// The oldest message of a face is taken.
-fn take_oldest<K: Key>(waiting: &mut Vec<(u32, ShownQueue<K>)>, face: u32) {
-    for row in waiting.iter_mut() {
-        if face == row.0 {
-            row.1.take_oldest();
-        }
-    }
-}
-
 impl<'a, K: Key> ShownFabric<'a, K> {
     /// The oldest message of a direction of a link is taken.
-    pub fn take_waiting(&mut self, link: u32, back: bool) {
-        if let Some(index) = place_of_number(&self.links, link) {
-            let face = self.links[index].sending_end(back);
-            take_oldest(&mut self.waiting, face);
-        }
+    pub fn take_waiting(&mut self, link: u32, back: bool)
+        ensures { self.new ≡ without_message link back self.old }
+    {
+        let Some(link) = self.link(link) else {
+            return;
+        };
+        let face = link.sending_end(back);
+        take_oldest(&mut self.waiting, face);
     }
 
     /// What is printed for the faces of open links waits there.
-    pub fn wait(&mut self, alloc: Global, sents: &[Sent<K>]) -> Result<(), Memory> {
-        if sents.is_empty() {
-            return Ok(());
-        }
-        for row in self.waiting.iter_mut() {
-            row.1.add_printed(alloc, row.0, sents)?;
-        }
-        Ok(())
+    pub fn wait(&mut self, alloc: Global, sents: &[Sent<K>]) -> Result<(), Memory>
+        ensures { OnOk result (self.new ≡ with_waiting sents.now self.old) }
+    {
+        add_printed(alloc, &mut self.waiting, sents)
     }
 }

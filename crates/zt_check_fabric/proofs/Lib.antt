@@ -1,0 +1,10 @@
+pub mod Carried
+pub mod Agreed
+pub mod Gathered
+pub mod Heard
+pub mod Kept
+pub mod Numbered
+pub mod Numbers
+pub mod Shown
+pub mod Still
+pub mod Waits
