@@ -50,8 +50,8 @@ impl<K: Key> Model for NodeState<K> {
 }
 
 impl<K: Key> NodeState<K> {
-    /// What the gateway keeps. After a call that lacked it, until `FabricState::restore` brought it
-    /// back.
+    /// What the gateway keeps. `Memory` comes only after a call that ran out of memory, until
+    /// `FabricState::restore` has brought back what was lost.
     pub fn rows(&self) -> Result<&GatewayState<K>, Memory>
         ensures { IfOk result (λ rows. rows.now ≡ self.now.rows) }
     {

@@ -59,7 +59,7 @@ impl<X: Drop> RisingRows<X> {
     }
 
     /// Puts a row behind the others. An id that isn't above those of all rows, or of one that went
-    /// not long ago, counts as out of memory. It leaves the rows as they were.
+    /// not long ago, counts as out of memory. After an error the rows are as before.
     pub fn push(&mut self, id: u32, row: X) -> Result<(), Memory>
         ensures ok { OnOk result (self.new ≡ self.old ++ (id, row) ∷ []) }
         ensures err { OnErr result (self.new ≡ self.old) }
