@@ -1,5 +1,5 @@
 -- Carrying out lines one after another.
-use Rattle.std.proofs.Common.{◌≡◌, ◌≢◌, ℕ, suc, ◌+◌, ◌≤◌, Bool, true, false, List, [], ◌∷◌, ◌++◌, length, map, Option, Some, Result, Ok, Err, refl, sym, ap, subst, ◌∙◌, arith, add-zero, add_assoc, append_assoc, append-nil, length-append, take, if◌then◌else◌, is_ok, is_err, OnErr}
+use Rattle.std.proofs.Common.{◌≡◌, ◌≢◌, ℕ, suc, ◌+◌, ◌≤◌, Bool, true, false, List, [], ◌∷◌, ◌++◌, length, map, Option, Some, Result, Ok, Err, refl, sym, ap, subst, ◌∙◌, arith, add-zero, add_assoc, append_assoc, append-nil, length-append, take, if◌then◌else◌, is_ok, is_err, OnErr, OnOk}
 use Rattle.std.specs.declared.cmp.Ordering.{Ordering}
 use Rattle.std.proofs.lemmas.List.{map-append, length-map}
 use Rattle.std.proofs.lemmas.List.Sums.{sum_by-append}
@@ -13,10 +13,12 @@ use Rattle.std.proofs.KnownBytes.{Appends-nil, Appends-trans}
 use Rattle.std.proofs.Math.Seq.{take-append-add}
 use Rattle.zt_streams.specs.Streams.{AppendsPart, HasRisen}
 use Rattle.zt_streams.specs.Lines.{last_line, rest_of, TakesRest}
+use Rattle.zt_text.specs.Sent.{EntryFits}
 use Rattle.zt_wire.specs.Reading.{line_read}
 use Rattle.zt_wire.specs.Text.{entries_text, entry_text, report_text}
 use Rattle.zt_model.specs.Fabric.{Fabric, entries_from, entry_of, fabric_after}
-use Rattle.zt_model.specs.Transcript.{messages_in, refusals_in}
+use Rattle.zt_model.specs.Transcript.{Each, messages_in, refusals_in}
+use Rattle.zt_laws.proofs.Lists.{each_append}
 use Rattle.zt_fabric.specs.Carrying.{Carries, EndsInPart, LineStops, Shows, Stops, StopsBehind, StopsWriting, Writes, WritesUntil, fabric_from, with_entries, with_entry}
 
 -- ---- totals
@@ -76,19 +78,20 @@ module _ {K : Type 0} (cmp : K → K → Ordering) (matching : K → K → Bool)
 module _ {K : Type 0} (cmp : K → K → Ordering) (matching : K → K → Bool) (reading : List ℕ → Result K KeyError) (printed : K → List ℕ) where
   pub carries-none : (s : Fabric K) (r : Report) (text : List ℕ) → Carries cmp matching reading printed [] s r text s r text
   unfolding entries_from fabric_from entries_text
-  carries-none s r text = record { lines = []; are_read = refl; fabric_is = refl; totals_are = with_entries-none K r; text_is = sym (append-nil text) }
+  carries-none s r text = record { lines = []; are_read = refl; fabric_is = refl; totals_are = with_entries-none K r; text_is = sym (append-nil text); fit = tt }
 
   pub carries-one : (bytes : List ℕ) (line : PlainLine K) (entry : PlainEntry K) (s s' : Fabric K) (r r' : Report) (text text' : List ℕ)
       → line_read reading bytes ≡ Ok line → entry ≡ entry_of cmp matching line s → s' ≡ fabric_after cmp matching line entry s
-      → r' ≡ with_entry entry r → text' ≡ text ++ entry_text printed (r.lines + 1) entry
+      → r' ≡ with_entry entry r → text' ≡ text ++ entry_text printed (r.lines + 1) entry → EntryFits entry
       → Carries cmp matching reading printed (bytes ∷ []) s r text s' r' text'
   unfolding entries_from fabric_from
-  carries-one bytes line entry s s' r r' text text' is_read is_machine after counted grown = record {
+  carries-one bytes line entry s s' r r' text text' is_read is_machine after counted grown fits = record {
     lines = line ∷ [];
     are_read = ap (λ x. x ∷ []) is_read;
     fabric_is = after ∙ ap (λ e. fabric_after cmp matching line e s) is_machine;
     totals_are = counted ∙ with_entries-one entry r ∙ ap (λ e. with_entries (e ∷ []) r) is_machine;
     text_is = grown ∙ ap (λ t. text ++ t) (entries_text-one printed (r.lines + 1) entry ∙ ap (λ e. entries_text printed (r.lines + 1) (e ∷ [])) is_machine);
+    fit = (subst EntryFits is_machine fits, tt);
   }
 
   lines_after : (es : List (PlainEntry K)) (r r' : Report) → r' ≡ with_entries es r → r'.lines ≡ r.lines + length es
@@ -111,11 +114,12 @@ module _ {K : Type 0} (cmp : K → K → Ordering) (matching : K → K → Bool)
         text_is = q.text_is ∙ ap (λ t. t ++ entries_text printed (r1.lines + 1) (entries cmp matching q.lines s1)) p.text_is ∙ append_assoc text _ _
             ∙ ap (λ t. text ++ t) (ap (λ n. entries_text printed (r.lines + 1) es ++ entries_text printed n (entries cmp matching q.lines s1)) number
             ∙ sym (entries_text-append printed (r.lines + 1) es (entries cmp matching q.lines s1)) ∙ ap (entries_text printed (r.lines + 1)) all);
+        fit = subst (Each EntryFits) all (each_append EntryFits es (entries cmp matching q.lines s1) p.fit q.fit);
       }
 
   -- what was carried out shows its text
   pub shows-carried : (texts : List (List ℕ)) (s s' : Fabric K) (r r' : Report) (text : List ℕ) → Carries cmp matching reading printed texts s r [] s' r' text → Shows cmp matching reading printed texts s (r.lines + 1) text
-  shows-carried texts s s' r r' text p = record { lines = p.lines; are_read = p.are_read; is_text = p.text_is }
+  shows-carried texts s s' r r' text p = record { lines = p.lines; are_read = p.are_read; is_text = p.text_is; fit = p.fit }
 
 -- ---- lines one after another
 
@@ -154,7 +158,7 @@ module _ {K : Type 0} (cmp : K → K → Ordering) (matching : K → K → Bool)
   partly-stops all left line left' s s' r r' text text' text2 error p first why kept = record {
     before = p.done;
     more = entries_text printed (r.lines + 1) (entries cmp matching p.carried.lines s);
-    shows = record { lines = p.carried.lines; are_read = p.carried.are_read; is_text = refl };
+    shows = record { lines = p.carried.lines; are_read = p.carried.are_read; is_text = refl; fit = p.carried.fit };
     text_is = kept ∙ p.carried.text_is;
     cause = by_cause error why;
   }
@@ -231,7 +235,7 @@ module _ {K : Type 0} (cmp : K → K → Ordering) (matching : K → K → Bool)
   stops-first texts s number old faults = record {
     before = [];
     text = [];
-    shows = record { lines = []; are_read = refl; is_text = refl };
+    shows = record { lines = []; are_read = refl; is_text = refl; fit = tt };
     cause = ((texts, refl), Appends-nil old);
   }
 
@@ -248,7 +252,7 @@ module _ {K : Type 0} (cmp : K → K → Ordering) (matching : K → K → Bool)
   pub carries-behind : (texts : List (List ℕ)) (s s' : Fabric K) (r r' : Report) (before text : List ℕ)
       → Carries cmp matching reading printed texts s r [] s' r' text → Carries cmp matching reading printed texts s r before s' r' (before ++ text)
   carries-behind texts s s' r r' before text p =
-      record { lines = p.lines; are_read = p.are_read; fabric_is = p.fabric_is; totals_are = p.totals_are; text_is = ap (λ t. before ++ t) p.text_is }
+      record { lines = p.lines; are_read = p.are_read; fabric_is = p.fabric_is; totals_are = p.totals_are; text_is = ap (λ t. before ++ t) p.text_is; fit = p.fit }
 
   -- lines that were carried out, and then lines whose entries have a text
   pub shows-then : (xs ys : List (List ℕ)) (s s1 : Fabric K) (r r1 : Report) (text more : List ℕ)
@@ -257,7 +261,7 @@ module _ {K : Type 0} (cmp : K → K → Ordering) (matching : K → K → Bool)
   shows-then xs ys s s1 r r1 text more p q =
       let fabric = fabric_from cmp matching q.lines s1 in
       let totals = with_entries (entries cmp matching q.lines s1) r1 in
-      let carried : Carries cmp matching reading printed ys s1 r1 text fabric totals (text ++ more) = record { lines = q.lines; are_read = q.are_read; fabric_is = refl; totals_are = refl; text_is = ap (λ t. text ++ t) q.is_text } in
+      let carried : Carries cmp matching reading printed ys s1 r1 text fabric totals (text ++ more) = record { lines = q.lines; are_read = q.are_read; fabric_is = refl; totals_are = refl; text_is = ap (λ t. text ++ t) q.is_text; fit = q.fit } in
       shows-carried cmp matching reading printed (xs ++ ys) s fabric r totals (text ++ more) (carries-then cmp matching reading printed xs ys s s1 fabric r r1 totals [] text (text ++ more) p carried)
 
 -- a part that comes after bytes that were written whole
@@ -265,6 +269,10 @@ pub part-behind : (a b d : Option (List ℕ)) (front bytes : List ℕ) → Appen
 part-behind a b d front bytes p q =
     let P : List ℕ → Type 0 = λ t. Appends a d t in
     (length front + q.0, omega (arith, q.1, length-append front bytes), subst P (sym (take-append-add front bytes q.0)) (Appends-trans a b d front (take q.0 bytes) p q.2))
+
+pub on_ok : {T E : Type 0} (r : Result T E) (P : Type 0) → false ≡ is_err r → OnOk r P → P
+on_ok (Ok x) P h p = p
+on_ok (Err e) P h p = absurd (cc)
 
 pub on_err : {T E : Type 0} (r : Result T E) (P : Type 0) → true ≡ is_err r → OnErr r P → P
 on_err (Ok x) P h p = absurd (cc)

@@ -19,6 +19,7 @@ use Rattle.zt_model.specs.Fabric.{Fabric, empty_fabric, entries_from}
 use Rattle.zt_model.specs.Transcript.{Each, report_of}
 use Rattle.zt_laws.specs.Sound.{HasFirstIds}
 use Rattle.zt_theorem_transcript.specs.Named.{HasNamedOptions}
+use Rattle.zt_fabric.proofs.Printed.{entries_printed}
 use Rattle.zt_fabric.specs.Transcripts.{Answers, BeginsWith, FailedToRead, FailedToWrite, FoundTooMuch, IsTranscript, RanToItsEnd, most_bytes, streams}
 use Rattle.zt_fabric.specs.Carrying.{Carries, Ends, EndsInPart, Shows, StopsWriting, Writes, WritesUntil, no_totals, with_entries}
 use Rattle.zt_fabric.proofs.ReadLines.{first_ids_of, named_options_of}
@@ -123,7 +124,7 @@ module _ {K : Type 0} (cmp : K → K → Ordering) (matching : K → K → Bool)
         → IsTranscript cmp matching reading texts (entries_from cmp matching p.lines empty_fabric)
     transcript_of texts text p =
         let right = law p.lines (first_ids_of reading texts p.lines p.are_read) (named_options_of reading texts p.lines p.are_read) in
-        record { lines = p.lines; are_read = p.are_read; are_the_machines = refl; are_faithful = right.faithful; are_strict = right.strict; keep_promises = right.promises; keep_stricter_promises = right.stricter_promises; tell_what_is_new = right.news; print_exactly = right.exactly; keep_tree_promises = right.tree_promises }
+        record { lines = p.lines; are_read = p.are_read; are_the_machines = refl; are_printed = entries_printed cmp matching p.lines (entries_from cmp matching p.lines empty_fabric) empty_fabric right.faithful p.fit; are_faithful = right.faithful; are_strict = right.strict; keep_promises = right.promises; keep_stricter_promises = right.stricter_promises; tell_what_is_new = right.news; print_exactly = right.exactly; keep_tree_promises = right.tree_promises }
 
     -- what was shown of a transcript
     record Told (texts : List (List ℕ)) (text : List ℕ) : Type 0 where
@@ -236,7 +237,7 @@ module _ {K : Type 0} (cmp : K → K → Ordering) (matching : K → K → Bool)
         let all = subst (λ (ls : List (List ℕ)). Carries cmp matching reading printed ls empty_fabric no_totals [] last report (text ++ more)) (sym (lines-ended read kept is)) both in
         record {
           entries = entries_from cmp matching all.lines empty_fabric;
-          transcript = transcript_of (lines_of read) (text ++ more) (record { lines = all.lines; are_read = all.are_read; is_text = all.text_is });
+          transcript = transcript_of (lines_of read) (text ++ more) (record { lines = all.lines; are_read = all.are_read; is_text = all.text_is; fit = all.fit });
           is_text = all.text_is;
           totals = all.totals_are ∙ totals-from_none (entries_from cmp matching all.lines empty_fabric);
         }

@@ -8,10 +8,11 @@ use Rattle.zt_protocol.specs.Plain.{PlainEntry, PlainLine}
 use Rattle.zt_protocol.specs.declared.entries.Report.{Report}
 use Rattle.zt_protocol.specs.declared.errors.RunError.{RunError}
 use Rattle.zt_protocol.specs.declared.errors.RunError.TheVariants as errors
+use Rattle.zt_text.specs.Sent.{EntryFits}
 use Rattle.zt_wire.specs.Reading.{line_read}
 use Rattle.zt_wire.specs.Text.{entries_text, report_text}
 use Rattle.zt_model.specs.Fabric.{Fabric, empty_fabric, entries_from, entry_of, fabric_after}
-use Rattle.zt_model.specs.Transcript.{messages_in, refusals_in}
+use Rattle.zt_model.specs.Transcript.{Each, messages_in, refusals_in}
 
 -- ---- totals
 
@@ -47,20 +48,22 @@ module _ {K : Type 0} (cmp : K → K → Ordering) (matching : K → K → Bool)
 
 module _ {K : Type 0} (cmp : K → K → Ordering) (matching : K → K → Bool) (reading : List ℕ → Result K KeyError) (printed : K → List ℕ) where
   -- These texts are lines, and from one fabric on the entries that they come to have this text, the first entry
-  -- being that of the line of this number.
+  -- being that of the line of this number. Their numbers are within their types.
   pub record Shows (texts : List (List ℕ)) (s : Fabric K) (number : ℕ) (text : List ℕ) : Type 0 where
     pub lines : List (PlainLine K)
     pub are_read : map (line_read reading) texts ≡ map (λ line. Ok line) lines
     pub is_text : text ≡ entries_text printed number (entries_from cmp matching lines s)
+    pub fit : Each EntryFits (entries_from cmp matching lines s)
 
   -- These texts are lines and were carried out: the fabric and the totals are those after them, and the text grew
-  -- by that of their entries.
+  -- by that of their entries, whose numbers are within their types.
   pub record Carries (texts : List (List ℕ)) (s : Fabric K) (r : Report) (text : List ℕ) (s' : Fabric K) (r' : Report) (text' : List ℕ) : Type 0 where
     pub lines : List (PlainLine K)
     pub are_read : map (line_read reading) texts ≡ map (λ line. Ok line) lines
     pub fabric_is : s' ≡ fabric_from cmp matching lines s
     pub totals_are : r' ≡ with_entries (entries_from cmp matching lines s) r
     pub text_is : text' ≡ text ++ entries_text printed (r.lines + 1) (entries_from cmp matching lines s)
+    pub fit : Each EntryFits (entries_from cmp matching lines s)
 
   -- These texts were carried out, and the text of their entries was written.
   pub record Writes (texts : List (List ℕ)) (s : Fabric K) (r : Report) (s' : Fabric K) (r' : Report) (old new : Option (List ℕ)) : Type 0 where

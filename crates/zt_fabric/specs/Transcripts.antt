@@ -10,6 +10,7 @@ use Rattle.zt_protocol.specs.Plain.{PlainEntry, PlainLine}
 use Rattle.zt_protocol.specs.declared.entries.Report.{Report}
 use Rattle.zt_protocol.specs.declared.errors.RunError.{RunError}
 use Rattle.zt_protocol.specs.declared.errors.RunError.TheVariants as errors
+use Rattle.zt_text.specs.Sent.{ArePrinted}
 use Rattle.zt_wire.specs.Reading.{line_read}
 use Rattle.zt_wire.specs.Text.{entries_text, report_text}
 use Rattle.zt_model.specs.Fabric.{empty_fabric, entries_from}
@@ -42,8 +43,9 @@ BeginsWith left read texts =
     ⊎ ((others : List (List ℕ)) × IsAtEnd left × (length read ≤ most_bytes) × (lines_of read ≡ texts ++ others))
 
 module _ {K : Type 0} (cmp : K → K → Ordering) (matching : K → K → Bool) (reading : List ℕ → Result K KeyError) where
-  -- Each of these texts is a line of the grammar, and the entries are what the machine comes to on these lines:
-  -- each is refused exactly by its cause, and after each entry every face keeps what it should. Each message names an
+  -- Each of these texts is a line of the grammar, and the entries are what the machine comes to on these lines.
+  -- Their numbers are within their types and their options have letters, so that no other entries have their text.
+  -- Each is refused exactly by its cause, and after each entry every face keeps what it should. Each message names an
   -- open face and its gateway, and too few ids are left only for a line's own call. And each turn, a line with its
   -- entry, keeps all promises, those that are kept beside them too; and no face is told a token that it keeps already,
   -- but in answer to an ask. Undeclarations by expression go to who wants and doesn't keep them, interests in subscribers
@@ -54,6 +56,7 @@ module _ {K : Type 0} (cmp : K → K → Ordering) (matching : K → K → Bool)
     pub lines : List (PlainLine K)
     pub are_read : map (line_read reading) texts ≡ map (λ line. Ok line) lines
     pub are_the_machines : entries ≡ entries_from cmp matching lines empty_fabric
+    pub are_printed : ArePrinted entries
     pub are_faithful : IsFaithfulFrom cmp matching lines entries empty_fabric
     pub are_strict : IsStrictFrom cmp matching lines entries empty_fabric
     pub keep_promises : Each (MeetsPromises cmp matching) (turns_from cmp matching lines entries empty_fabric)

@@ -1,4 +1,5 @@
 pub mod TextLemmas
+mod FitLemmas
 pub mod FrontLemmas
 pub mod Clean
 pub mod SentLaws

@@ -128,6 +128,28 @@ abbrev pub IsU32OrNone : Option ℕ → Type 0
 IsU32OrNone None = Unit {0}
 IsU32OrNone (Some n) = n ≤ 4294967295
 
+-- each number is within its type
+abbrev pub NumbersFit : {K : Type 0} → Message K → Type 0
+NumbersFit (DeclareToken id expr interest node) = (id ≤ 4294967295) × IsU32OrNone interest × (node ≤ 65535)
+NumbersFit (UndeclareToken id expr node) = (id ≤ 4294967295) × (node ≤ 65535)
+NumbersFit (DeclareFinal interest) = interest ≤ 4294967295
+NumbersFit (Interest id mode options expr) = id ≤ 4294967295
+NumbersFit (InterestFinal id) = id ≤ 4294967295
+NumbersFit (DeclareSubscriber id expr interest) = (id ≤ 4294967295) × (interest ≤ 4294967295)
+NumbersFit (DeclareQueryable id expr info interest) =
+    (id ≤ 4294967295) × (interest ≤ 4294967295) × (info.distance ≤ 65535)
+
+-- so are those of a message with its gateway and its face
+pub record SentFits {K : Type 0} (sent : Sent K) : Type 0 where
+  pub gateway : sent.gateway ≤ 4294967295
+  pub face : sent.face ≤ 4294967295
+  pub message : NumbersFit sent.message
+
+-- and those of each message of an entry
+abbrev pub EntryFits : {K : Type 0} → PlainEntry K → Type 0
+EntryFits (Ok sents) = AllByRecursion SentFits sents
+EntryFits (Err refusal) = Unit {0}
+
 -- numbers within their types, and no options but the five that have a letter
 abbrev pub IsMessage : {K : Type 0} → Message K → Type 0
 IsMessage (DeclareToken id expr interest node) = (id ≤ 4294967295) × IsU32OrNone interest × (node ≤ 65535)

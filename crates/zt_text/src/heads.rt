@@ -7,6 +7,7 @@ ghost use Rattle.arrayvec.specs.ArrayString.{array_string_len};
 ghost use Rattle.zt_protocol.specs.Interest.{has_bits};
 ghost use Rattle.zt_text.specs.Text.{spaced};
 ghost use Rattle.zt_text.specs.Front.{fields_before, front_text, key_of};
+ghost use Rattle.zt_text.specs.Sent.{NumbersFit, SentFits};
 ghost use Rattle.zt_fields.specs.Spellings.{letters_of, options_text};
 ghost use Rattle.zt_fields.specs.Spellings.{interest_mode_text, flag_text};
 
@@ -175,6 +176,7 @@ fn put_queryable(head: &mut ArrayString<ROOM>, interest_id: u32, id: u32, info: 
         ++ spaced (codes "queryable" ∷ decimal interest_id ∷ decimal id ∷ flag_text info.complete
         ∷ decimal info.distance ∷ []) }
     ensures len { array_string_len head.new ≤ array_string_len head.old + 80 }
+    ensures distance { info.distance ≤ 65535 }
 {
     head.push_str(" queryable");
     put_number(head, u64::from(interest_id));
@@ -191,6 +193,8 @@ fn put_two(head: &mut ArrayString<ROOM>, word: &str, one: u32, two: u32)
     ensures bytes { head.new.bytes ≡ head.old.bytes
         ++ (word.now ++ spaced (decimal one ∷ decimal two ∷ [])) }
     ensures len { array_string_len head.new ≤ array_string_len head.old + 57 }
+    ensures one { one ≤ 4294967295 }
+    ensures two { two ≤ 4294967295 }
 {
     head.push_str(word);
     put_number(head, u64::from(one));
@@ -217,6 +221,7 @@ fn put_fields<'a, K>(head: &mut ArrayString<ROOM>, message: &'a Message<K>) -> O
     ensures key { option_copied result ≡ key_of message.now }
     ensures bytes { head.new.bytes ≡ head.old.bytes ++ spaced (fields_before message.now) }
     ensures len { array_string_len head.new ≤ array_string_len head.old + 80 }
+    ensures fit { NumbersFit message.now }
 {
     match message {
         Message::DeclareToken {
@@ -286,6 +291,7 @@ pub(crate) fn put_front<'a, K>(head: &mut ArrayString<ROOM>, sent: &'a Sent<K>) 
     ensures key { option_copied result ≡ key_of sent.now.message }
     ensures bytes { head.new.bytes ≡ head.old.bytes ++ front_text sent.now }
     ensures len { array_string_len head.new ≤ array_string_len head.old + 137 }
+    ensures fit { SentFits sent.now }
 {
     put_two(head, ">", sent.gateway, sent.face);
     put_fields(head, &sent.message)

@@ -2,12 +2,13 @@
 // memory runs out.
 ghost use Rattle.std.specs.Prelude.{◌≡◌, ◌+◌, ◌<◌, ◌≤◌, ◌++◌, ◌∷◌, [], take, decimal, IsUtf8, codes};
 ghost use Rattle.std.specs.Prelude.{OnOk, OnErr, IfOk, is_ok, if◌then◌else◌, string_bytes};
-ghost use Rattle.std.specs.List.{flat_map};
+ghost use Rattle.std.specs.List.{AllByRecursion, flat_map};
 ghost use Rattle.std.specs.Option.{option_copied};
 ghost use Rattle.arrayvec.specs.ArrayString.{array_string_len};
 ghost use Rattle.zt_protocol.specs.Plain.{plain_entry};
 ghost use Rattle.zt_protocol.specs.Refusal.{name_of};
 ghost use Rattle.zt_text.specs.Text.{Begins, spaced, key_fields};
+ghost use Rattle.zt_text.specs.Sent.{EntryFits, SentFits};
 ghost use Rattle.zt_text.specs.Text.{sent_text, entry_text, report_text};
 
 use crate::heads::{ROOM, put_digits, put_front};
@@ -51,6 +52,7 @@ fn put_sent<K: Key>(
         ≡ string_bytes out.old ++ (head.old.bytes ++ sent_text K.printed sent.now)) }
     ensures room { OnOk result (array_string_len head.new ≤ 40) }
     ensures begun { Begins (string_bytes out.old) (string_bytes out.new) }
+    ensures fit { SentFits sent.now }
 {
     let key = put_front(head, sent);
     put_key(out, head, key)?;
@@ -69,6 +71,7 @@ fn put_all<K: Key>(
         ≡ string_bytes out.old
         ++ (head.old.bytes ++ flat_map (sent_text K.printed) sents.now)) }
     ensures begun { Begins (string_bytes out.old) (string_bytes out.new) }
+    ensures fit { OnOk result (AllByRecursion SentFits sents.now) }
 {
     for sent in sents {
         put_sent(out, head, sent)?;
@@ -87,6 +90,7 @@ fn put_sents<K: Key>(
         ≡ string_bytes out.old ++ (head.old.bytes ++ (codes " ok\n"
         ++ flat_map (sent_text K.printed) sents.now))) }
     ensures err { OnErr result (Begins (string_bytes out.old) (string_bytes out.new)) }
+    ensures fit { OnOk result (AllByRecursion SentFits sents.now) }
 {
     head.push_str(" ok\n");
     put_all(out, head, sents)?;
@@ -117,6 +121,7 @@ fn put_entry<K: Key>(out: &mut String, line: u64, entry: &Entry<K>) -> Result<()
     ensures ok { OnOk result (string_bytes out.new
         ≡ string_bytes out.old ++ entry_text K.printed line (plain_entry entry.now)) }
     ensures err { OnErr result (Begins (string_bytes out.old) (string_bytes out.new)) }
+    ensures fit { OnOk result (EntryFits (plain_entry entry.now)) }
 {
     let mut head = ArrayString::<ROOM>::new();
     put_digits(&mut head, line);
@@ -150,13 +155,15 @@ fn undo(out: &mut String, before: usize)
     out.truncate(before);
 }
 
-/// Appends an entry, with the number of its line.
+/// Appends an entry, with the number of its line. Its numbers are within their types, so that the
+/// text tells it apart from others.
 ///
 /// After an error `out` is as before.
 pub fn write_entry<K: Key>(out: &mut String, line: u64, entry: &Entry<K>) -> Result<(), Memory>
-    ensures { string_bytes out.new
+    ensures text { string_bytes out.new
         ≡ (if is_ok result then string_bytes out.old
         ++ entry_text K.printed line (plain_entry entry.now) else string_bytes out.old) }
+    ensures fit { OnOk result (EntryFits (plain_entry entry.now)) }
 {
     let before = out.len();
     let result = put_entry(out, line, entry);

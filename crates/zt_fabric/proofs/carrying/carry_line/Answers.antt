@@ -1,8 +1,9 @@
 use Rattle.zt_protocol.specs.Plain.{plain_line, plain_entry}
-use Rattle.std.proofs.Common.{string_bytes, arith}
+use Rattle.std.proofs.Common.{string_bytes, arith, sym, ◌∙◌}
 use Rattle.std.proofs.lemmas.Grind.{common_steps}
 use Rattle.zt_fabric.proofs.ReadLines.{first_ids_read}
-use Rattle.zt_fabric.proofs.CarryLemmas.{carries-one}
+use Rattle.zt_text.specs.Sent.{EntryFits}
+use Rattle.zt_fabric.proofs.CarryLemmas.{carries-one, on_ok}
 use Rattle.zt_fabric.proofs.carrying.carry_line.Goals as goal
 
 pub step_line-requires : goal.step_line-requires
@@ -14,3 +15,4 @@ returns-clause-ok g c =
     c.args.run.now.fabric _ c.args.run.now.report _ (string_bytes c.args.run.now.text) _
     c.in-Ok.ensures.ok c.in-Ok-step_line.ensures.entry c.in-Ok-step_line.ensures.ok c.count.ensures.counted
     (grind (arith, common_steps))
+    (on_ok _ (EntryFits (plain_entry c.in-Ok-step_line.entry)) (sym c.if-is_err.false ∙ c.is_err.ensures.value) c.write_entry.ensures.fit)
