@@ -1,13 +1,13 @@
 -- The clauses of all turns, and what is promised of a transcript.
-use Rattle.std.proofs.Common.{◌≡◌, ℕ, ◌+◌, Bool, false, List, [], ◌∷◌, length, arith}
+use Rattle.std.proofs.Common.{◌≡◌, Bool, false, List, [], ◌∷◌, length, arith}
 use Rattle.std.specs.declared.cmp.Ordering.{Ordering}
 use Rattle.zt_protocol.specs.Plain.{PlainEntry, PlainLine}
 use Rattle.zt_model.specs.Fabric.{Fabric, Node}
 use Rattle.zt_model.specs.Parts.{is_routed}
-use Rattle.zt_model.specs.Promises.{AnswersAsks, SendsFinals, turns_from}
+use Rattle.zt_model.specs.Promises.{turns_from}
 use Rattle.zt_model.specs.Rows.{Face, Rows}
-use Rattle.zt_model.specs.Transcript.{AllKeepWhatTheyShould, Each, FacesKeepWhatTheyShould, IsFaithfulFrom, KeepsWhatItShould, fabric_shown}
-use Rattle.zt_check.specs.Clauses.{EachPlainFace, KeepsNoLess, KeepsNoMore}
+use Rattle.zt_model.specs.Transcript.{Each, FacesKeepWhatTheyShould, KeepsWhatItShould, fabric_shown}
+use Rattle.zt_check.specs.Clauses.{KeepsNoLess, KeepsNoMore}
 use Rattle.zt_check.specs.Laws.{IsFaithfulAndAnswers, MeetsEveryClause}
 
 module _ {K : Type 0} (cmp : K → K → Ordering) (matching : K → K → Bool) where

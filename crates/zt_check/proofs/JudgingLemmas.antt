@@ -1,5 +1,5 @@
 -- Lemmas on a claimed transcript that is judged entry by entry.
-use Rattle.std.proofs.Common.{◌≡◌, inl, inr, ℕ, ◌+◌, ◌<◌, List, [], ◌∷◌, ◌++◌, length, sum_by, None, Some, Result, Ok, Err, IfOk, refl, sym, ap, subst, ◌∙◌, append_assoc, arith}
+use Rattle.std.proofs.Common.{◌≡◌, inl, inr, ℕ, ◌+◌, ◌<◌, true, false, List, [], ◌∷◌, ◌++◌, length, get_or, sum_by, None, Some, Result, Ok, Err, IfOk, refl, sym, ap, subst, ◌∙◌, append_assoc, arith}
 use Rattle.std.proofs.lemmas.List.{append-nil, length-append}
 use Rattle.std.proofs.lemmas.List.Sums.{sum_by-append}
 use Rattle.zt_protocol.specs.Plain.{PlainEntry, PlainLine}
@@ -7,14 +7,16 @@ use Rattle.zt_protocol.specs.declared.entries.Report.{Report}
 use Rattle.zt_text.specs.Sent.{IsPrinted}
 use Rattle.zt_text.specs.Text.{entries_text, entry_text, report_text}
 use Rattle.std.specs.Prelude.{Bool}
-use Rattle.std.specs.List.{AllByRecursion}
 use Rattle.std.specs.declared.cmp.Ordering.{Ordering}
 use Rattle.zt_model.specs.Fabric.{Fabric, empty_fabric}
-use Rattle.zt_model.specs.Promises.{turns_from}
+use Rattle.zt_model.specs.Promises.{Turn, turns_from}
 use Rattle.zt_model.specs.Transcript.{Each, IsEntry, fabric_shown, messages_in, refusals_in, report_of}
 use Rattle.zt_check_trace.specs.Entries.{BeginsWithEntry, FindsEntry}
 use Rattle.zt_check_trace.proofs.MessageLemmas.{all_more}
-use Rattle.zt_check.specs.Clauses.{MeetsAll, decided}
+use Rattle.zt_check_fabric.specs.Placed.{IsPlaced}
+use Rattle.zt_check_fabric.proofs.Shown.{shown_placed}
+use Rattle.zt_check.specs.Clauses.{FailsFirst, MeetsAll, Tells, decided, is_decided, turn_of}
+use Rattle.zt_check.proofs.TurnLemmas.{each_more, no_turns, shown_after, shown_more, turns_more}
 use Rattle.zt_check.specs.Judging.{BeginsWell, BeginsWithEntries, Breaks, Judges, JudgesDecided, JudgesTotals, StopsAt}
 use Rattle.zt_check.specs.Totals.{IsInRange, with_entry}
 use Rattle.zt_check.specs.declared.verdict.Clause.{Clause}
@@ -71,36 +73,6 @@ module _ {K : Type 0} (printed : K → List ℕ) where
         are_all = inr next.is_all;
       }
 
-  -- so many entries were read off the front of a claimed text, and these are their totals
-  pub record IsUnderway (claimed rest : List ℕ) (report : Report) (done : ℕ) : Type 0 where
-    pub entries : List (PlainEntry K)
-    pub begins : BeginsWithEntries printed claimed entries rest
-    pub is_done : length entries ≡ done
-    pub totals : report ≡ report_of entries
-    pub lines : report.lines ≡ done
-    pub range : IsInRange report
-
-  pub underway_first : (claimed : List ℕ) → IsUnderway claimed claimed no_totals 0
-  underway_first claimed = record {
-    entries = [];
-    begins = begins_none claimed;
-    is_done = refl;
-    totals = totals_none K;
-    lines = refl;
-    range = record { messages_fit = omega arith; refusals_fit = omega arith };
-  }
-
-  pub underway_next : (claimed rest : List ℕ) (report report' : Report) (done number : ℕ) (entry : PlainEntry K) (behind : List ℕ) → IsUnderway claimed rest report done → number ≡ report.lines + 1
-      → BeginsWithEntry printed number rest entry behind → report' ≡ with_entry entry report → IsInRange report' → IsUnderway claimed behind report' (done + 1)
-  underway_next claimed rest report report' done number entry behind under is next counted range = record {
-    entries = under.entries ++ entry ∷ [];
-    begins = begins_more claimed under.entries rest number entry behind under.begins (omega (arith, is, under.lines, under.is_done)) next;
-    is_done = omega (arith, length-append under.entries (entry ∷ []), under.is_done);
-    totals = counted ∙ (ap (with_entry entry) under.totals ∙ totals_more under.entries entry);
-    lines = omega (arith, ap (λ (r : Report). r.lines) counted, under.lines);
-    range = range;
-  }
-
 -- the clauses are different ones
 cause_is_not_text : Cause ≡ Text → ⊥
 cause_is_not_text h = cc
@@ -118,39 +90,89 @@ finals_is_not_text : Finals ≡ Text → ⊥
 finals_is_not_text h = cc
 
 module _ {K : Type 0} (cmp : K → K → Ordering) (matching : K → K → Bool) (printed : K → List ℕ) where
-  entries_met : (lines : List (PlainLine K)) (entries : List (PlainEntry K)) (s : Fabric K) → AllByRecursion IsEntry entries → Each (MeetsAll cmp matching decided) (turns_from cmp matching lines entries s)
-  unfolding turns_from
-  entries_met [] entries s h = tt
-  entries_met (line ∷ lines) [] s h = tt
-  entries_met (line ∷ lines) (entry ∷ entries) s h = ((h.0, tt), entries_met lines entries (fabric_shown cmp matching line entry s) h.1)
+  -- So many entries were read off the front of a claimed text, and the turn of each meets the clauses that are decided.
+  -- These are their totals, and the fabric that they show.
+  pub record IsUnderway (script : List (PlainLine K)) (claimed rest : List ℕ) (report : Report) (done : ℕ) (s : Fabric K) : Type 0 where
+    pub entries : List (PlainEntry K)
+    pub begins : BeginsWithEntries printed claimed entries rest
+    pub is_done : length entries ≡ done
+    pub totals : report ≡ report_of entries
+    pub lines : report.lines ≡ done
+    pub range : IsInRange report
+    pub met : Each (MeetsAll cmp matching decided) (turns_from cmp matching script entries empty_fabric)
+    pub shown : shown_after cmp matching script entries empty_fabric ≡ s
+    pub placed : IsPlaced s
 
-  begins_well : (lines : List (PlainLine K)) (claimed : List ℕ) (entries : List (PlainEntry K)) (rest : List ℕ) → BeginsWithEntries printed claimed entries rest → BeginsWell cmp matching printed decided lines claimed entries rest
-  begins_well lines claimed entries rest begins = record { begins = begins; met = entries_met lines entries empty_fabric begins.are_entries }
+  pub underway_first : (lines : List (PlainLine K)) (claimed : List ℕ) (s : Fabric K) → s ≡ empty_fabric → IsUnderway lines claimed claimed no_totals 0 s
+  underway_first lines claimed s none = record {
+    entries = [];
+    begins = begins_none printed claimed;
+    is_done = refl;
+    totals = totals_none K;
+    lines = refl;
+    range = record { messages_fit = omega arith; refusals_fit = omega arith };
+    met = no_turns cmp matching (MeetsAll cmp matching decided) lines empty_fabric;
+    shown = sym none;
+    placed = subst IsPlaced (sym none) (record { one = tt; made = tt });
+  }
 
-  pub underway_breaks : (lines : List (PlainLine K)) (claimed rest : List ℕ) (report : Report) (done number : ℕ) → IsUnderway printed claimed rest report done → done < length lines → number ≡ report.lines + 1
+  turn_after : (lines : List (PlainLine K)) (claimed rest : List ℕ) (report : Report) (done : ℕ) (s : Fabric K) (line : PlainLine K) (entry : PlainEntry K) → (under : IsUnderway lines claimed rest report done s)
+      → done < length lines → line ≡ get_or lines done line
+      → turns_from cmp matching lines (under.entries ++ entry ∷ []) empty_fabric ≡ turns_from cmp matching lines under.entries empty_fabric ++ turn_of cmp matching line entry s ∷ []
+  turn_after lines claimed rest report done s line entry under within is =
+      let at : line ≡ get_or lines (length under.entries) line = is ∙ ap (λ (k : ℕ). get_or lines k line) (sym under.is_done) in
+      turns_more cmp matching lines under.entries empty_fabric line entry (omega (arith, within, under.is_done)) at
+      ∙ ap (λ (t : Fabric K). turns_from cmp matching lines under.entries empty_fabric ++ turn_of cmp matching line entry t ∷ []) under.shown
+
+  pub underway_next : (lines : List (PlainLine K)) (claimed rest : List ℕ) (report report' : Report) (done number : ℕ) (s t : Fabric K) (line : PlainLine K) (entry : PlainEntry K) (behind : List ℕ)
+      → IsUnderway lines claimed rest report done s → done < length lines → line ≡ get_or lines done line → number ≡ report.lines + 1
+      → BeginsWithEntry printed number rest entry behind → report' ≡ with_entry entry report → IsInRange report'
+      → Tells cmp matching (turn_of cmp matching line entry s) None → t ≡ fabric_shown cmp matching line entry s → IsUnderway lines claimed behind report' (done + 1) t
+  underway_next lines claimed rest report report' done number s t line entry behind under within at is next counted range meets shows =
+      let here : line ≡ get_or lines (length under.entries) line = at ∙ ap (λ (k : ℕ). get_or lines k line) (sym under.is_done) in
+      record {
+        entries = under.entries ++ entry ∷ [];
+        begins = begins_more printed claimed under.entries rest number entry behind under.begins (omega (arith, is, under.lines, under.is_done)) next;
+        is_done = omega (arith, length-append under.entries (entry ∷ []), under.is_done);
+        totals = counted ∙ (ap (with_entry entry) under.totals ∙ totals_more under.entries entry);
+        lines = omega (arith, ap (λ (r : Report). r.lines) counted, under.lines);
+        range = range;
+        met =
+            subst (λ (ts : List (Turn K)). Each (MeetsAll cmp matching decided) ts) (sym (turn_after lines claimed rest report done s line entry under within at))
+            (each_more (MeetsAll cmp matching decided) (turns_from cmp matching lines under.entries empty_fabric) (turn_of cmp matching line entry s) under.met meets);
+        shown =
+            shown_more cmp matching lines under.entries empty_fabric line entry (omega (arith, within, under.is_done)) here
+            ∙ (ap (fabric_shown cmp matching line entry) under.shown ∙ sym shows);
+        placed = subst IsPlaced (sym shows) (shown_placed cmp matching line entry s under.placed);
+      }
+
+  begins_well : (lines : List (PlainLine K)) (claimed rest : List ℕ) (report : Report) (done : ℕ) (s : Fabric K) → (under : IsUnderway lines claimed rest report done s) → BeginsWell cmp matching printed decided lines claimed under.entries rest
+  begins_well lines claimed rest report done s under = record { begins = under.begins; met = under.met }
+
+  pub underway_breaks : (lines : List (PlainLine K)) (claimed rest : List ℕ) (report : Report) (done number : ℕ) (s : Fabric K) → IsUnderway lines claimed rest report done s → done < length lines → number ≡ report.lines + 1
       → FindsEntry printed number rest None → Breaks cmp matching printed decided lines claimed number Text
-  underway_breaks lines claimed rest report done number under more is none =
+  underway_breaks lines claimed rest report done number s under more is none =
       let same : number ≡ length under.entries + 1 = omega (arith, is, under.lines, under.is_done) in
       record {
         entries = under.entries;
         rest = rest;
-        well = begins_well lines claimed under.entries rest under.begins;
+        well = begins_well lines claimed rest report done s under;
         breaks = inl (refl, inl (omega (arith, under.is_done), subst (λ (k : ℕ). FindsEntry printed k rest None) same none));
         is_line = same;
       }
 
-  pub underway_last : (lines : List (PlainLine K)) (claimed rest : List ℕ) (report : Report) (done : ℕ) (verdict : Verdict) → IsUnderway printed claimed rest report done → done ≡ length lines
+  pub underway_last : (lines : List (PlainLine K)) (claimed rest : List ℕ) (report : Report) (done : ℕ) (s : Fabric K) (verdict : Verdict) → IsUnderway lines claimed rest report done s → done ≡ length lines
       → JudgesTotals report rest verdict → Judges cmp matching printed decided lines claimed verdict
-  underway_last lines claimed rest report done (verdict.Holds totals) under all h = record {
+  underway_last lines claimed rest report done s (verdict.Holds totals) under all h = record {
     entries = under.entries;
-    well = begins_well lines claimed under.entries (report_text totals) (subst (λ (t : List ℕ). BeginsWithEntries printed claimed under.entries t) (h.1 ∙ ap report_text (sym h.0)) under.begins);
+    well = subst (λ (t : List ℕ). BeginsWell cmp matching printed decided lines claimed under.entries t) (h.1 ∙ ap report_text (sym h.0)) (begins_well lines claimed rest report done s under);
     is_whole = under.is_done ∙ all;
     totals = h.0 ∙ under.totals;
   }
-  underway_last lines claimed rest report done (verdict.Breaks line failed) under all h = record {
+  underway_last lines claimed rest report done s (verdict.Breaks line failed) under all h = record {
     entries = under.entries;
     rest = rest;
-    well = begins_well lines claimed under.entries rest under.begins;
+    well = begins_well lines claimed rest report done s under;
     breaks = inl (h.1, inr (under.is_done ∙ all, λ is. h.2 (is ∙ ap report_text (sym under.totals))));
     is_line = omega (arith, h.0, under.lines, under.is_done);
   }
@@ -165,31 +187,42 @@ module _ {K : Type 0} (cmp : K → K → Ordering) (matching : K → K → Bool)
   decided_last lines claimed rest report (verdict.Breaks line Answers) h right = absurd (answers_is_not_text h.1)
   decided_last lines claimed rest report (verdict.Breaks line Finals) h right = absurd (finals_is_not_text h.1)
 
-  pub totals_result : (lines : List (PlainLine K)) (claimed rest : List ℕ) (report : Report) (done : ℕ) {E : Type 0} (result : Result Verdict E) → IsUnderway printed claimed rest report done → done ≡ length lines
+  pub totals_result : (lines : List (PlainLine K)) (claimed rest : List ℕ) (report : Report) (done : ℕ) (s : Fabric K) {E : Type 0} (result : Result Verdict E) → IsUnderway lines claimed rest report done s → done ≡ length lines
       → IfOk result (λ verdict. JudgesTotals report rest verdict) → IfOk result (λ verdict. JudgesDecided cmp matching printed lines claimed verdict)
-  totals_result lines claimed rest report done (Ok verdict) under all h =
-      decided_last lines claimed rest report verdict h (underway_last lines claimed rest report done verdict under all h)
-  totals_result lines claimed rest report done (Err e) under all h = tt
+  totals_result lines claimed rest report done s (Ok verdict) under all h =
+      decided_last lines claimed rest report verdict h (underway_last lines claimed rest report done s verdict under all h)
+  totals_result lines claimed rest report done s (Err e) under all h = tt
 
-  -- the entry of the next line stands, and its turn is broken by a clause that isn't decided
-  pub underway_stops : (lines : List (PlainLine K)) (claimed rest : List ℕ) (report : Report) (done number : ℕ) (entry : PlainEntry K) (behind : List ℕ) (failed : Clause) → IsUnderway printed claimed rest report done → number ≡ report.lines + 1
-      → BeginsWithEntry printed number rest entry behind → (Some failed ≡ Some Text → ⊥) → JudgesDecided cmp matching printed lines claimed (verdict.Breaks number failed)
-  underway_stops lines claimed rest report done number entry behind failed under is next other =
+  -- the entry of the next line stands, and its turn is said to fail a clause
+  pub underway_stops : (lines : List (PlainLine K)) (claimed rest : List ℕ) (report : Report) (done number : ℕ) (s : Fabric K) (line : PlainLine K) (entry : PlainEntry K) (behind : List ℕ) (failed : Clause)
+      → IsUnderway lines claimed rest report done s → done < length lines → line ≡ get_or lines done line → number ≡ report.lines + 1
+      → BeginsWithEntry printed number rest entry behind → Tells cmp matching (turn_of cmp matching line entry s) (Some failed) → JudgesDecided cmp matching printed lines claimed (verdict.Breaks number failed)
+  underway_stops lines claimed rest report done number s line entry behind failed under within at is next told =
       let same : number ≡ length under.entries + 1 = omega (arith, is, under.lines, under.is_done) in
-      of_clause failed other (record {
+      let stands : BeginsWithEntry printed (length under.entries + 1) rest entry behind = subst (λ (k : ℕ). BeginsWithEntry printed k rest entry behind) same next in
+      let is_next = turn_after lines claimed rest report done s line entry under within at in
+      by_clause (is_decided failed) same stands is_next told
+    where
+      by_clause : (b : Bool) → number ≡ length under.entries + 1 → BeginsWithEntry printed (length under.entries + 1) rest entry behind
+          → turns_from cmp matching lines (under.entries ++ entry ∷ []) empty_fabric ≡ turns_from cmp matching lines under.entries empty_fabric ++ turn_of cmp matching line entry s ∷ []
+          → elim b as (λ _. Type 0) [ true ↦ FailsFirst cmp matching decided (turn_of cmp matching line entry s) failed | false ↦ MeetsAll cmp matching decided (turn_of cmp matching line entry s) ]
+          → elim b as (λ _. Type 0) [ true ↦ Breaks cmp matching printed decided lines claimed number failed | false ↦ StopsAt cmp matching printed decided lines claimed number ]
+      by_clause true same stands is_next fails = record {
         entries = under.entries;
         rest = rest;
-        well = begins_well lines claimed under.entries rest under.begins;
+        well = begins_well lines claimed rest report done s under;
+        breaks = inr (record { entry = entry; behind = behind; stands = stands; turn = turn_of cmp matching line entry s; is_next = is_next; fails = fails });
+        is_line = same;
+      }
+      by_clause false same stands is_next meets = record {
+        entries = under.entries;
+        rest = rest;
+        well = begins_well lines claimed rest report done s under;
         entry = entry;
         behind = behind;
-        stands = subst (λ (k : ℕ). BeginsWithEntry printed k rest entry behind) same next;
+        stands = stands;
+        turn = turn_of cmp matching line entry s;
+        is_next = is_next;
+        meets = meets;
         is_line = same;
-      })
-    where
-      of_clause : (failed : Clause) → (Some failed ≡ Some Text → ⊥) → StopsAt cmp matching printed decided lines claimed number → JudgesDecided cmp matching printed lines claimed (verdict.Breaks number failed)
-      of_clause Text other stops = absurd (other refl)
-      of_clause Cause other stops = stops
-      of_clause Upper other stops = stops
-      of_clause Lower other stops = stops
-      of_clause Answers other stops = stops
-      of_clause Finals other stops = stops
+      }

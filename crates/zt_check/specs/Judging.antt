@@ -1,5 +1,5 @@
 -- What a judge says of an input.
-use Rattle.std.specs.Prelude.{◌≡◌, ◌≢◌, ◌⊎◌, ℕ, Bool, false, ◌+◌, ◌<◌, ◌≤◌, List, [], ◌∷◌, ◌++◌, length, None, Result, Ok, Err}
+use Rattle.std.specs.Prelude.{◌≡◌, ◌≢◌, ◌⊎◌, ℕ, Bool, true, false, ◌+◌, ◌<◌, ◌≤◌, List, [], ◌∷◌, ◌++◌, length, None, Result, Ok, Err}
 use Rattle.std.specs.List.{AllByRecursion, list_any}
 use Rattle.std.specs.declared.cmp.Ordering.{Ordering}
 use Rattle.zt_keys.specs.declared.error.KeyError.{KeyError}
@@ -14,7 +14,7 @@ use Rattle.zt_model.specs.Transcript.{Each, IsEntry, report_of}
 use Rattle.zt_check_trace.specs.Entries.{BeginsWithEntry, FindsEntry}
 use Rattle.zt_check_trace.specs.Parts.{IsCut, begins_with_mark, is_end_of_script}
 use Rattle.zt_check_trace.specs.Script.{AreRead, HasBadLine}
-use Rattle.zt_check.specs.Clauses.{FailsFirst, MeetsAll, decided}
+use Rattle.zt_check.specs.Clauses.{FailsFirst, MeetsAll, decided, is_decided}
 use Rattle.zt_check.specs.declared.verdict.CheckError.{CheckError}
 use Rattle.zt_check.specs.declared.verdict.CheckError.TheVariants as errors
 use Rattle.zt_check.specs.declared.verdict.Clause.{Clause}
@@ -82,7 +82,7 @@ module _ {K : Type 0} (cmp : K → K → Ordering) (matching : K → K → Bool)
     pub is_line : line ≡ length entries + 1
 
   -- The entries before this line stand at the front of the claimed text, and their turns meet the clauses; the line's own
-  -- entry stands behind them, in the printed form.
+  -- entry stands behind them, in the printed form, and its turn meets them too.
   pub record StopsAt (lines : List (PlainLine K)) (claimed : List ℕ) (line : ℕ) : Type 0 where
     pub entries : List (PlainEntry K)
     pub rest : List ℕ
@@ -90,6 +90,9 @@ module _ {K : Type 0} (cmp : K → K → Ordering) (matching : K → K → Bool)
     pub entry : PlainEntry K
     pub behind : List ℕ
     pub stands : BeginsWithEntry printed (length entries + 1) rest entry behind
+    pub turn : Turn K
+    pub is_next : turns_of lines (entries ++ entry ∷ []) ≡ turns_of lines entries ++ turn ∷ []
+    pub meets : MeetsAll cmp matching asked turn
     pub is_line : line ≡ length entries + 1
 
   -- what a verdict says of the text that is claimed for these lines
@@ -99,13 +102,13 @@ module _ {K : Type 0} (cmp : K → K → Ordering) (matching : K → K → Bool)
 
 module _ {K : Type 0} (cmp : K → K → Ordering) (matching : K → K → Bool) (printed : K → List ℕ) where
   -- What a check says of the text that is claimed for these lines: by the clauses that it decides. Of a break of another
-  -- clause it says no more than where it is.
+  -- clause it says no more than where it is, and that those hold up to there.
   abbrev pub JudgesDecided : List (PlainLine K) → List ℕ → Verdict → Type 0
   JudgesDecided lines claimed (Holds report) = IsRight cmp matching printed decided lines claimed report
   JudgesDecided lines claimed (verdict.Breaks line failed) =
-      elim failed [
-        | Text ↦ Breaks cmp matching printed decided lines claimed line Text
-        | _ ↦ StopsAt cmp matching printed decided lines claimed line
+      elim (is_decided failed) [
+        | true ↦ Breaks cmp matching printed decided lines claimed line failed
+        | false ↦ StopsAt cmp matching printed decided lines claimed line
       ]
 
 -- what is said where all entries were read, by their totals

@@ -1,9 +1,9 @@
 //! A judge of foreign transcripts: whether what another implementation printed for a script is a
 //! transcript of it, and if not, the first line at which it isn't.
 //!
-//! That the printed form is decided rightly is proved. The other five clauses, whether a line is
-//! refused by its cause and what faces keep, get and are told, are decided too; that is tested, and
-//! no more is proved of it than that it is safe.
+//! That the printed form is decided rightly is proved, and so is whether a line is refused exactly by
+//! its cause. The other four clauses, what faces keep, get and are told, are decided too; that is
+//! tested, and no more is proved of it than that it is safe.
 #![tactic(auto)]
 
 mod checking;

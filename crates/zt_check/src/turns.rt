@@ -1,5 +1,9 @@
 //! One turn of a claimed transcript: a line with its entry, and the fabric that they show.
-ghost use Rattle.std.specs.Prelude.{◌≢◌, IfOk, Some};
+ghost use Rattle.std.specs.Prelude.{◌≡◌, IfOk, None, Ok};
+ghost use Rattle.zt_protocol.specs.Plain.{plain_entry, plain_line};
+ghost use Rattle.zt_model.specs.Transcript.{IsEntry, fabric_shown};
+ghost use Rattle.zt_check_fabric.specs.Placed.{IsPlaced};
+ghost use Rattle.zt_check.specs.Clauses.{IsLater, Tells, turn_of};
 
 use crate::verdict::Clause;
 use std::alloc::Global;
@@ -12,7 +16,7 @@ use zt_protocol::{Entry, Line, Sent};
 
 // The first of these clauses, in their order, that a turn fails.
 fn first_failed(more: bool, less: bool, answers: bool, finals: bool) -> Option<Clause>
-    ensures { result ≢ Some Clause.Text }
+    ensures { IsLater result }
 {
     if !more {
         return Some(Clause::Upper);
@@ -36,7 +40,9 @@ fn judge_accepted<'a, K: Key>(
     line: &'a Line<K>,
     sents: &[Sent<K>],
 ) -> Result<Option<Clause>, Memory>
-    ensures { IfOk result (λ failed. failed ≢ Some Clause.Text) }
+    ensures later { IfOk result (λ failed. IsLater failed) }
+    ensures shown { IfOk result (λ failed. IsPlaced fabric.old → fabric.new
+        ≡ fabric_shown K.cmp K.matching (plain_line line.now) (Ok sents.now) fabric.old) }
 {
     let found = fabric.call_of(alloc, line)?;
     let pending = pending_answered(fabric, &found);
@@ -60,7 +66,13 @@ pub(crate) fn judge_turn<'a, K: Key>(
     line: &'a Line<K>,
     entry: &Entry<K>,
 ) -> Result<Option<Clause>, Memory>
-    ensures { IfOk result (λ failed. failed ≢ Some Clause.Text) }
+    ensures tells { IfOk result (λ failed. IsEntry (plain_entry entry.now)
+        → Tells K.cmp K.matching
+        (turn_of K.cmp K.matching (plain_line line.now) (plain_entry entry.now) fabric.old)
+        failed) }
+    ensures shown { IfOk result (λ failed. failed ≡ None → IsPlaced fabric.old → fabric.new
+        ≡ fabric_shown K.cmp K.matching
+        (plain_line line.now) (plain_entry entry.now) fabric.old) }
 {
     if !is_refused_by_cause(alloc, fabric, line, entry)? {
         return Ok(Some(Clause::Cause));

@@ -30,7 +30,8 @@ pub(crate) fn asks_from_north<K: Key>(rows: &ShownRows<K>, face: &ShownFace<K>) 
     is_north(face) && !takes_from_north(rows.mode(), face.mode())
 }
 
-/// Whether an interest in what is there now alone asks for more than tokens, or for less.
+/// Whether an interest is of mode Current and asks for subscribers or queryables, or doesn't ask
+/// for tokens.
 pub(crate) fn is_illegal_current(mode: InterestMode, options: InterestOptions) -> bool
     ensures { result ≡ is_illegal_current mode options }
 {

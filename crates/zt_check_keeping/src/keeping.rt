@@ -1,4 +1,15 @@
 // What faces keep after a turn.
+ghost use Rattle.std.specs.Prelude.{◌≡◌, ◌&&◌, None, Some};
+ghost use Rattle.std.specs.List.{list_all};
+ghost use Rattle.zt_model.specs.Seen.{may_hear};
+ghost use Rattle.zt_check_keeping.specs.Keeping.{are_no_less, are_no_more, at_face, at_gateway};
+ghost use Rattle.zt_check_keeping.specs.Keeping.{changed_are_kept, faces_keep_rightly};
+ghost use Rattle.zt_check_keeping.specs.Keeping.{heard_are_kept, heard_is_kept, holder_keeps};
+ghost use Rattle.zt_check_keeping.specs.Keeping.{keeps_bound, keeps_no_less_of};
+ghost use Rattle.zt_check_keeping.specs.Keeping.{keeps_no_more_of, keeps_rightly, may_hear_all};
+ghost use Rattle.zt_check_keeping.specs.Keeping.{opened_keeps_all, unheld_may_hear};
+ghost use Rattle.zt_check_keeping.specs.Owing.{keeps_all};
+
 use crate::changed::Changed;
 use crate::heard::Heard;
 use crate::owing::{keeps_asked, keeps_everything};
@@ -16,32 +27,50 @@ enum Bound {
 }
 
 // The face keeps the expression only if it is visible to it and it may hear of it.
-fn keeps_no_more_of<K: Key>(rows: &ShownRows<K>, face: &ShownFace<K>, expr: &K) -> bool {
+fn keeps_no_more_of<K: Key>(rows: &ShownRows<K>, face: &ShownFace<K>, expr: &K) -> bool
+    ensures { result ≡ keeps_no_more_of K.cmp K.matching rows.now face.now expr.now }
+{
     (may_hear(face, expr) && is_seen(rows, face.region(), expr))
         || !has_expression(face.told(), expr)
 }
 
 // The face keeps the expression if it is admitted and owed to it.
-fn keeps_no_less_of<K: Key>(rows: &ShownRows<K>, face: &ShownFace<K>, expr: &K) -> bool {
+fn keeps_no_less_of<K: Key>(rows: &ShownRows<K>, face: &ShownFace<K>, expr: &K) -> bool
+    ensures { result ≡ keeps_no_less_of K.cmp K.matching rows.now face.now expr.now }
+{
     !is_owed(face, expr)
         || !is_seen_and_admitted(rows, face.region(), expr)
         || has_expression(face.told(), expr)
 }
 
-// The face keeps of the expression what it should, if it is outside router regions.
-fn keeps_rightly<K: Key>(bound: Bound, rows: &ShownRows<K>, face: &ShownFace<K>, expr: &K) -> bool {
-    if rows.is_routed(face) {
-        return true;
-    }
+// The face keeps of the expression what this bound asks for.
+fn keeps_bound<K: Key>(bound: Bound, rows: &ShownRows<K>, face: &ShownFace<K>, expr: &K) -> bool
+    ensures { result ≡ keeps_bound K.cmp K.matching bound rows.now face.now expr.now }
+{
     match bound {
         Bound::Upper => keeps_no_more_of(rows, face, expr),
         Bound::Lower => keeps_no_less_of(rows, face, expr),
     }
 }
 
-// All faces of a gateway keep of the expression what they should.
-fn faces_keep_rightly<K: Key>(bound: Bound, rows: &ShownRows<K>, expr: &K) -> bool {
-    for face in rows.faces() {
+// The face keeps of the expression what it should, if it is outside router regions.
+fn keeps_rightly<K: Key>(bound: Bound, rows: &ShownRows<K>, face: &ShownFace<K>, expr: &K) -> bool
+    ensures { result ≡ keeps_rightly K.cmp K.matching bound rows.now face.now expr.now }
+{
+    rows.is_routed(face) || keeps_bound(bound, rows, face, expr)
+}
+
+// All of these faces of a gateway keep of the expression what they should.
+fn faces_keep_rightly<K: Key>(
+    bound: Bound,
+    rows: &ShownRows<K>,
+    faces: &[ShownFace<K>],
+    expr: &K,
+) -> bool
+    ensures { result ≡ list_all
+        (λ f. keeps_rightly K.cmp K.matching bound rows.now f expr.now) faces.now }
+{
+    for face in faces {
         if !keeps_rightly(bound, rows, face, expr) {
             return false;
         }
@@ -49,20 +78,47 @@ fn faces_keep_rightly<K: Key>(bound: Bound, rows: &ShownRows<K>, expr: &K) -> bo
     true
 }
 
+// Of a token that the line changes all faces of its gateway keep what they should.
+fn changed_is_kept<'a, K: Key>(
+    bound: Bound,
+    fabric: &ShownFabric<'a, K>,
+    gateway: u32,
+    expr: &K,
+) -> bool
+    ensures { result ≡ at_gateway fabric.now gateway
+        (λ g. faces_keep_rightly K.cmp K.matching bound g expr.now) }
+{
+    match fabric.node(gateway) {
+        None => true,
+        Some(node) => faces_keep_rightly(bound, node.rows(), node.rows().faces(), expr),
+    }
+}
+
 // Of the tokens that the line changes all faces keep what they should.
 fn changed_are_kept<'a, K: Key>(
     bound: Bound,
     fabric: &ShownFabric<'a, K>,
     tokens: &[(u32, K)],
-) -> bool {
+) -> bool
+    ensures { result ≡ changed_are_kept K.cmp K.matching bound fabric.now tokens.now }
+{
     for token in tokens {
-        if let Some(node) = fabric.node(token.0) {
-            if !faces_keep_rightly(bound, node.rows(), &token.1) {
-                return false;
-            }
+        if !changed_is_kept(bound, fabric, token.0, &token.1) {
+            return false;
         }
     }
     true
+}
+
+// Of a token of which it heard a face of the number keeps what it should.
+fn face_keeps_bound<K: Key>(bound: Bound, rows: &ShownRows<K>, face: u32, expr: &K) -> bool
+    ensures { result ≡ at_face face
+        (λ g f. keeps_bound K.cmp K.matching bound g f expr.now) rows.now }
+{
+    match rows.face(face) {
+        None => true,
+        Some(found) => rows.is_routed(found) || keeps_bound(bound, rows, found, expr),
+    }
 }
 
 // Of a token of which it heard a face keeps what it should.
@@ -70,14 +126,13 @@ fn heard_is_kept<'a, K: Key>(
     bound: Bound,
     fabric: &ShownFabric<'a, K>,
     token: &(u32, u32, K),
-) -> bool {
-    let Some(node) = fabric.node(token.0) else {
-        return true;
-    };
-    let Some(face) = node.rows().face(token.1) else {
-        return true;
-    };
-    keeps_rightly(bound, node.rows(), face, &token.2)
+) -> bool
+    ensures { result ≡ heard_is_kept K.cmp K.matching bound fabric.now token.now }
+{
+    match fabric.node(token.0) {
+        None => true,
+        Some(node) => face_keeps_bound(bound, node.rows(), token.1, &token.2),
+    }
 }
 
 // Of the tokens of which they heard faces keep what they should.
@@ -85,7 +140,9 @@ fn heard_are_kept<'a, K: Key>(
     bound: Bound,
     fabric: &ShownFabric<'a, K>,
     tokens: &[(u32, u32, K)],
-) -> bool {
+) -> bool
+    ensures { result ≡ heard_are_kept K.cmp K.matching bound fabric.now tokens.now }
+{
     for token in tokens {
         if !heard_is_kept(bound, fabric, token) {
             return false;
@@ -94,9 +151,11 @@ fn heard_are_kept<'a, K: Key>(
     true
 }
 
-// The face may hear of all that it keeps.
-fn may_hear_all<K: Key>(face: &ShownFace<K>) -> bool {
-    for row in face.told() {
+// The face may hear of all these tokens.
+fn may_hear_all<K: Key>(face: &ShownFace<K>, told: &[(u32, K)]) -> bool
+    ensures { result ≡ list_all (λ row. may_hear K.matching face.now row.1) told.now }
+{
+    for row in told {
         if !may_hear(face, &row.1) {
             return false;
         }
@@ -104,82 +163,143 @@ fn may_hear_all<K: Key>(face: &ShownFace<K>) -> bool {
     true
 }
 
+// A face of the number may hear of all that it keeps.
+fn face_may_hear_all<K: Key>(rows: &ShownRows<K>, face: u32) -> bool
+    ensures { result ≡ at_face face (λ g f. may_hear_all K.cmp K.matching f) rows.now }
+{
+    match rows.face(face) {
+        None => true,
+        Some(found) => rows.is_routed(found) || may_hear_all(found, found.told()),
+    }
+}
+
 // A face that holds an interest no more may hear of all that it keeps.
-fn unheld_may_hear<'a, K: Key>(fabric: &ShownFabric<'a, K>, gateway: u32, face: u32) -> bool {
-    let Some(node) = fabric.node(gateway) else {
-        return true;
-    };
-    let Some(found) = node.rows().face(face) else {
-        return true;
-    };
-    node.rows().is_routed(found) || may_hear_all(found)
+fn unheld_may_hear<'a, K: Key>(fabric: &ShownFabric<'a, K>, at: &(u32, u32)) -> bool
+    ensures { result ≡ unheld_may_hear K.cmp K.matching fabric.now at.now }
+{
+    match fabric.node(at.0) {
+        None => true,
+        Some(node) => face_may_hear_all(node.rows(), at.1),
+    }
+}
+
+// A face of the number keeps all that is owed to it.
+fn face_keeps_all<K: Key>(rows: &ShownRows<K>, face: u32) -> bool
+    ensures { result ≡ at_face face (λ g f. keeps_all K.cmp K.matching g f None) rows.now }
+{
+    match rows.face(face) {
+        None => true,
+        Some(found) => rows.is_routed(found) || keeps_everything(rows, found),
+    }
 }
 
 // A new face keeps all that is owed to it.
-fn opened_keeps_all<'a, K: Key>(fabric: &ShownFabric<'a, K>, gateway: u32, face: u32) -> bool {
-    let Some(node) = fabric.node(gateway) else {
-        return true;
-    };
-    let Some(found) = node.rows().face(face) else {
-        return true;
-    };
-    node.rows().is_routed(found) || keeps_everything(node.rows(), found)
+fn opened_keeps_all<'a, K: Key>(fabric: &ShownFabric<'a, K>, at: &(u32, u32)) -> bool
+    ensures { result ≡ opened_keeps_all K.cmp K.matching fabric.now at.now }
+{
+    match fabric.node(at.0) {
+        None => true,
+        Some(node) => face_keeps_all(node.rows(), at.1),
+    }
+}
+
+// A face of the number keeps what its interest of the id concerns.
+fn face_keeps_asked<K: Key>(rows: &ShownRows<K>, face: u32, id: u32) -> bool
+    ensures { result ≡ at_face face (λ g f. keeps_all K.cmp K.matching g f (Some id)) rows.now }
+{
+    match rows.face(face) {
+        None => true,
+        Some(found) => rows.is_routed(found) || keeps_asked(rows, found, id),
+    }
 }
 
 // A face that begins to hold an interest keeps what this concerns.
-fn holder_keeps<'a, K: Key>(fabric: &ShownFabric<'a, K>, gateway: u32, face: u32, id: u32) -> bool {
-    let Some(node) = fabric.node(gateway) else {
-        return true;
-    };
-    let Some(found) = node.rows().face(face) else {
-        return true;
-    };
-    node.rows().is_routed(found) || keeps_asked(node.rows(), found, id)
+fn holder_keeps<'a, K: Key>(fabric: &ShownFabric<'a, K>, at: &(u32, u32, u32)) -> bool
+    ensures { result ≡ holder_keeps K.cmp K.matching fabric.now at.now }
+{
+    match fabric.node(at.0) {
+        None => true,
+        Some(node) => face_keeps_asked(node.rows(), at.1, at.2),
+    }
 }
 
-/// Faces outside router regions keep only visible tokens that they may hear of, where they did
-/// before the line. The fabric is that after its entry.
+// Faces that hold an interest no more may hear of all that they keep.
+fn all_unheld_may_hear<'a, K: Key>(fabric: &ShownFabric<'a, K>, unheld: &[(u32, u32)]) -> bool
+    ensures { result ≡ list_all (unheld_may_hear K.cmp K.matching fabric.now) unheld.now }
+{
+    for at in unheld {
+        if !unheld_may_hear(fabric, at) {
+            return false;
+        }
+    }
+    true
+}
+
+// Faces that open keep all that is owed to them.
+fn all_opened_keep<'a, K: Key>(fabric: &ShownFabric<'a, K>, opened: &[(u32, u32)]) -> bool
+    ensures { result ≡ list_all (opened_keeps_all K.cmp K.matching fabric.now) opened.now }
+{
+    for at in opened {
+        if !opened_keeps_all(fabric, at) {
+            return false;
+        }
+    }
+    true
+}
+
+// Faces that begin to hold an interest keep what this concerns.
+fn all_holders_keep<'a, K: Key>(fabric: &ShownFabric<'a, K>, held: &[(u32, u32, u32)]) -> bool
+    ensures { result ≡ list_all (holder_keeps K.cmp K.matching fabric.now) held.now }
+{
+    for at in held {
+        if !holder_keeps(fabric, at) {
+            return false;
+        }
+    }
+    true
+}
+
+/// Faces outside router regions keep only visible tokens that they may hear of: it is looked at for
+/// all pairs of a face and an expression that the line or its messages may have changed. The fabric
+/// is that after its entry.
 pub fn keeps_no_more<'a, K: Key>(
     fabric: &ShownFabric<'a, K>,
     changed: &Changed<K>,
     heard: &Heard<K>,
-) -> bool {
-    if !changed_are_kept(Bound::Upper, fabric, &changed.tokens)
-        || !heard_are_kept(Bound::Upper, fabric, &heard.tokens)
-    {
-        return false;
-    }
-    for row in changed.unheld.as_slice() {
-        if !unheld_may_hear(fabric, row.0, row.1) {
-            return false;
-        }
-    }
-    true
+) -> bool
+    ensures { result ≡ are_no_more K.cmp K.matching fabric.now
+        changed.now.tokens.items heard.now.tokens.items changed.now.unheld.items }
+{
+    changed_are_kept(Bound::Upper, fabric, changed.tokens.as_slice())
+        && heard_are_kept(Bound::Upper, fabric, heard.tokens.as_slice())
+        && all_unheld_may_hear(fabric, changed.unheld.as_slice())
 }
 
 // Faces that open, and faces that begin to hold an interest, keep all that is owed to them then.
-fn asked_are_kept<'a, K: Key>(fabric: &ShownFabric<'a, K>, changed: &Changed<K>) -> bool {
-    for row in changed.opened.as_slice() {
-        if !opened_keeps_all(fabric, row.0, row.1) {
-            return false;
-        }
-    }
-    for row in changed.held.as_slice() {
-        if !holder_keeps(fabric, row.0, row.1, row.2) {
-            return false;
-        }
-    }
-    true
+fn asked_are_kept<'a, K: Key>(
+    fabric: &ShownFabric<'a, K>,
+    opened: &[(u32, u32)],
+    held: &[(u32, u32, u32)],
+) -> bool
+    ensures { result ≡ (list_all (opened_keeps_all K.cmp K.matching fabric.now) opened.now
+        && list_all (holder_keeps K.cmp K.matching fabric.now) held.now) }
+{
+    all_opened_keep(fabric, opened) && all_holders_keep(fabric, held)
 }
 
-/// Faces outside router regions keep every admitted token that is owed to them, where they did
-/// before the line. The fabric is that after its entry.
+/// Faces outside router regions keep every admitted token that is owed to them: it is looked at for
+/// all pairs of a face and an expression that the line or its messages may have changed. The fabric
+/// is that after its entry.
 pub fn keeps_no_less<'a, K: Key>(
     fabric: &ShownFabric<'a, K>,
     changed: &Changed<K>,
     heard: &Heard<K>,
-) -> bool {
-    changed_are_kept(Bound::Lower, fabric, &changed.tokens)
-        && heard_are_kept(Bound::Lower, fabric, &heard.tokens)
-        && asked_are_kept(fabric, changed)
+) -> bool
+    ensures { result ≡ are_no_less K.cmp K.matching fabric.now
+        changed.now.tokens.items heard.now.tokens.items
+        changed.now.opened.items changed.now.held.items }
+{
+    changed_are_kept(Bound::Lower, fabric, changed.tokens.as_slice())
+        && heard_are_kept(Bound::Lower, fabric, heard.tokens.as_slice())
+        && asked_are_kept(fabric, changed.opened.as_slice(), changed.held.as_slice())
 }

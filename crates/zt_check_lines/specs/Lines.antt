@@ -1,5 +1,5 @@
 -- Why a line is refused, where enough ids are left.
-use Rattle.std.specs.Prelude.{ℕ, Bool, true, false, ◌==◌, ◌+◌, ◌&&◌, ◌||◌, not, nat_le, nat_lt, List, [], ◌∷◌, length, Option, Some, None, Ok, Err}
+use Rattle.std.specs.Prelude.{ℕ, Bool, true, false, ◌==◌, ◌+◌, ◌&&◌, ◌||◌, not, nat_le, nat_lt, List, [], ◌∷◌, length, Option, Some, None, is_none, is_some, Ok, Err}
 use Rattle.std.specs.List.{list_any}
 use Rattle.std.specs.declared.cmp.Ordering.{Ordering}
 use Rattle.zt_region.specs.declared.region.Region.{Region}
@@ -10,13 +10,15 @@ use Rattle.zt_protocol.specs.Plain.{PlainLine}
 use Rattle.zt_protocol.specs.Refusal.{number_of}
 use Rattle.zt_protocol.specs.declared.errors.Refusal.{Refusal}
 use Rattle.zt_protocol.specs.declared.errors.Refusal.TheVariants as refusal
-use Rattle.zt_model.specs.Fabric.{CallAt, is_full, is_without_trees_above, line_causes}
+use Rattle.zt_protocol.specs.declared.errors.Refusal.TheVariants.{IdsSpent}
+use Rattle.zt_model.specs.Fabric.{CallAt, is_full, is_linked_face, is_open_link, is_unknown_gateway, is_without_trees_above, line_causes}
 use Rattle.zt_model.specs.Hat.{hat_of, north_hat}
-use Rattle.zt_model.specs.Linking.{climbs_to, is_answer}
+use Rattle.zt_model.specs.Linking.{climbs_to, is_answer, oldest}
 use Rattle.zt_model.specs.Places.{Fabric, Node}
+use Rattle.zt_model.specs.Lists.{is_some_and, nth}
 use Rattle.zt_model.specs.Refusals.{GREATEST_NUMBER, first_cause, is_north_taken, left_ids}
 use Rattle.zt_model.specs.Strategy.{is_region_of}
-use Rattle.zt_model.specs.Transcript.{most_ids}
+use Rattle.zt_model.specs.Transcript.{comes_to_ids, line_may_lack_ids, most_ids}
 use Rattle.zt_check_causes.specs.Causes.{call_cause}
 
 module _ {K : Type 0} (cmp : K → K → Ordering) (matching : K → K → Bool) where
@@ -42,6 +44,37 @@ cause_if false cause = None
 -- two refusals are one, by their numbers
 abbrev pub is_same : Refusal → Refusal → Bool
 is_same a b = number_of a == number_of b
+
+-- a message waits in a direction of a link
+abbrev pub waits : {K : Type 0} → Fabric K → ℕ → Bool → Bool
+waits s link back = is_some_and (nth link s.links) (λ l. is_some (oldest s l back))
+
+-- ---- single lines, by the cause of their call, where they make one
+
+-- why a session isn't opened
+abbrev pub session_cause : {K : Type 0} → Fabric K → ℕ → Option Refusal
+session_cause s gateway = or_cause (cause_if (is_unknown_gateway s gateway) refusal.UnknownGateway) (cause_if (is_full s.faces) refusal.NumbersSpent)
+
+-- why a line isn't carried out that names a gateway
+abbrev pub cause_at_gateway : {K : Type 0} → Fabric K → ℕ → Option Refusal → Option Refusal
+cause_at_gateway s gateway called = or_cause (cause_if (is_unknown_gateway s gateway) refusal.UnknownGateway) called
+
+-- why a transport isn't opened
+abbrev pub face_cause : {K : Type 0} → Fabric K → ℕ → Option Refusal → Option Refusal
+face_cause s gateway called = or_cause (cause_at_gateway s gateway called) (cause_if (is_full s.faces) refusal.NumbersSpent)
+
+-- why a face may not speak so, whose call is this
+abbrev pub speaking_cause : {K : Type 0} → Fabric K → Option (CallAt K) → Option ℕ → Option Refusal → Option Refusal
+speaking_cause s made face called =
+    or_cause (cause_if (is_none made) refusal.UnknownFace) (or_cause (cause_if (is_linked_face s face) refusal.LinkedFace) called)
+
+-- why a link isn't closed
+abbrev pub unlink_cause : {K : Type 0} → Fabric K → ℕ → Option Refusal
+unlink_cause s link = cause_if (not (is_open_link s link)) refusal.UnknownLink
+
+-- why the oldest message of a direction of a link isn't delivered
+abbrev pub step_cause : {K : Type 0} → Fabric K → ℕ → Bool → Option Refusal → Option Refusal
+step_cause s link back called = or_cause (unlink_cause s link) (or_cause (cause_if (not (waits s link back)) refusal.EmptyLink) called)
 
 -- ---- gateways
 
@@ -94,3 +127,9 @@ module _ {K : Type 0} (cmp : K → K → Ordering) (matching : K → K → Bool)
   -- some face of the gateway may have too few ids left
   abbrev pub has_face_that_may_lack : Node K → Bool
   has_face_that_may_lack node = list_any (λ f. nat_lt (left_ids f) (most_ids cmp matching node.rows f)) node.rows.faces
+
+  -- A line is refused by this cause, where `cause` is its first if enough ids are left: it is that one, or it says that
+  -- too few are left where no earlier cause holds and the line could draw more.
+  abbrev pub is_refused_by : PlainLine K → Fabric K → Option Refusal → Refusal → Bool
+  is_refused_by line s cause given =
+      is_some_and cause (is_same given) || (is_same given IdsSpent && (comes_to_ids cause && line_may_lack_ids cmp matching line s))

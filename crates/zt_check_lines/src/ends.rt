@@ -1,6 +1,6 @@
 // What a link that is to be made asks of its two ends.
 ghost use Rattle.std.specs.Prelude.{◌≡◌};
-ghost use Rattle.zt_check_lines.specs.Lines.{is_taken, misfits, names_no_region};
+ghost use Rattle.zt_check_lines.specs.Lines.{closes_loop_at, is_taken, misfits, names_no_region};
 
 use crate::loops::climbs_to;
 use zt_check_causes::{fits, has_one_north, is_north_taken, is_region_of};
@@ -55,7 +55,9 @@ pub(crate) fn closes_loop<'a, K: Key>(
     node: &ShownNode<'a, K>,
     beyond: u32,
     answer: &Result<(Region, Bound), RegionError>,
-) -> bool {
+) -> bool
+    ensures { result ≡ closes_loop_at fabric.now gateway node.now beyond answer.now }
+{
     match answer {
         Ok((region, _)) => {
             has_one_north(node.rows().mode())

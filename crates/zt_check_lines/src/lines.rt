@@ -1,13 +1,18 @@
 // Why a line is refused.
-ghost use Rattle.std.specs.Prelude.{◌≡◌, ◌&&◌, nat_le};
+ghost use Rattle.std.specs.Prelude.{◌≡◌, ◌&&◌, IfOk, is_some, nat_le};
 ghost use Rattle.std.specs.List.{list_any};
-ghost use Rattle.zt_protocol.specs.Plain.{plain_call};
-ghost use Rattle.zt_model.specs.Fabric.{call_face, is_linked_face};
+ghost use Rattle.zt_protocol.specs.Plain.{plain_call, plain_line};
+ghost use Rattle.zt_model.specs.Fabric.{call_at, call_face, call_of, is_linked_face};
+ghost use Rattle.zt_model.specs.Fabric.{is_open_link, is_unknown_gateway};
 ghost use Rattle.zt_model.specs.Fabric.{is_without_trees_above};
 ghost use Rattle.zt_model.specs.Linking.{is_end_of};
+ghost use Rattle.zt_model.specs.Lists.{first_of};
 ghost use Rattle.zt_model.specs.Refusals.{GREATEST_NUMBER};
-ghost use Rattle.zt_check_lines.specs.Lines.{gateway_cause};
-ghost use Rattle.zt_check_lines.specs.Lines.{names_other_region};
+ghost use Rattle.zt_check_fabric.specs.Made.{made_at};
+ghost use Rattle.zt_check_lines.specs.Lines.{cause_at, cause_at_gateway, face_cause};
+ghost use Rattle.zt_check_lines.specs.Lines.{gateway_cause, line_cause, names_other_region};
+ghost use Rattle.zt_check_lines.specs.Lines.{session_cause, speaking_cause, step_cause};
+ghost use Rattle.zt_check_lines.specs.Lines.{unlink_cause, waits};
 
 use crate::links::link_cause;
 use std::alloc::Global;
@@ -25,11 +30,15 @@ pub(crate) fn is_full(count: usize) -> bool
     u32::MAX as usize <= count
 }
 
-fn is_unknown_gateway<'a, K: Key>(fabric: &ShownFabric<'a, K>, gateway: u32) -> bool {
+fn is_unknown_gateway<'a, K: Key>(fabric: &ShownFabric<'a, K>, gateway: u32) -> bool
+    ensures { result ≡ is_unknown_gateway fabric.now gateway }
+{
     fabric.node(gateway).is_none()
 }
 
-fn is_open_link<'a, K: Key>(fabric: &ShownFabric<'a, K>, link: u32) -> bool {
+fn is_open_link<'a, K: Key>(fabric: &ShownFabric<'a, K>, link: u32) -> bool
+    ensures { result ≡ is_open_link fabric.now link }
+{
     match fabric.link(link) {
         None => false,
         Some(link) => link.is_open(),
@@ -73,12 +82,16 @@ fn is_linked<'a, K: Key>(fabric: &ShownFabric<'a, K>, call: &Call<K>) -> bool
 }
 
 // Whether one of these messages is the oldest.
-fn is_any<K: Key>(messages: &[Message<K>]) -> bool {
+fn is_any<K: Key>(messages: &[Message<K>]) -> bool
+    ensures { result ≡ is_some (first_of messages.now) }
+{
     !messages.is_empty()
 }
 
 // Whether a message waits in a direction of a link.
-fn waits<'a, K: Key>(fabric: &ShownFabric<'a, K>, link: u32, back: bool) -> bool {
+fn waits<'a, K: Key>(fabric: &ShownFabric<'a, K>, link: u32, back: bool) -> bool
+    ensures { result ≡ waits fabric.now link back }
+{
     match fabric.link(link) {
         None => false,
         Some(link) => is_any(fabric.waiting(link.sending_end(back))),
@@ -138,7 +151,9 @@ fn gateway_cause<'a, K: Key>(
 }
 
 // Why a session isn't opened.
-fn session_cause<'a, K: Key>(fabric: &ShownFabric<'a, K>, gateway: u32) -> Option<Refusal> {
+fn session_cause<'a, K: Key>(fabric: &ShownFabric<'a, K>, gateway: u32) -> Option<Refusal>
+    ensures { result ≡ session_cause fabric.now gateway }
+{
     if is_unknown_gateway(fabric, gateway) {
         return Some(Refusal::UnknownGateway);
     }
@@ -154,7 +169,10 @@ fn node_cause<'a, K: Key>(
     fabric: &ShownFabric<'a, K>,
     gateway: u32,
     call: &Call<K>,
-) -> Result<Option<Refusal>, Memory> {
+) -> Result<Option<Refusal>, Memory>
+    ensures { IfOk result (λ cause. cause
+        ≡ cause_at K.cmp K.matching (call_at fabric.now gateway (plain_call call.now))) }
+{
     match fabric.node(gateway) {
         None => Ok(None),
         Some(node) => call_cause(alloc, node.rows(), call),
@@ -166,7 +184,10 @@ fn made_cause<'a, K: Key>(
     alloc: Global,
     fabric: &ShownFabric<'a, K>,
     made: &Option<(u32, Call<K>)>,
-) -> Result<Option<Refusal>, Memory> {
+) -> Result<Option<Refusal>, Memory>
+    ensures { IfOk result (λ cause. cause
+        ≡ cause_at K.cmp K.matching (made_at fabric.now made.now)) }
+{
     match made {
         None => Ok(None),
         Some((gateway, call)) => node_cause(alloc, fabric, *gateway, call),
@@ -179,7 +200,11 @@ fn cause_at_gateway<'a, K: Key>(
     fabric: &ShownFabric<'a, K>,
     gateway: u32,
     made: &Option<(u32, Call<K>)>,
-) -> Result<Option<Refusal>, Memory> {
+) -> Result<Option<Refusal>, Memory>
+    ensures { IfOk result (λ cause. cause
+        ≡ cause_at_gateway fabric.now gateway
+        (cause_at K.cmp K.matching (made_at fabric.now made.now))) }
+{
     if is_unknown_gateway(fabric, gateway) {
         return Ok(Some(Refusal::UnknownGateway));
     }
@@ -192,7 +217,11 @@ fn face_cause<'a, K: Key>(
     fabric: &ShownFabric<'a, K>,
     gateway: u32,
     made: &Option<(u32, Call<K>)>,
-) -> Result<Option<Refusal>, Memory> {
+) -> Result<Option<Refusal>, Memory>
+    ensures { IfOk result (λ cause. cause
+        ≡ face_cause fabric.now gateway
+        (cause_at K.cmp K.matching (made_at fabric.now made.now))) }
+{
     if let Some(cause) = cause_at_gateway(alloc, fabric, gateway, made)? {
         return Ok(Some(cause));
     }
@@ -203,7 +232,9 @@ fn face_cause<'a, K: Key>(
 }
 
 // Whether the call is made on a gateway.
-fn is_made<'a, K: Key>(fabric: &ShownFabric<'a, K>, made: &Option<(u32, Call<K>)>) -> bool {
+fn is_made<'a, K: Key>(fabric: &ShownFabric<'a, K>, made: &Option<(u32, Call<K>)>) -> bool
+    ensures { result ≡ is_some (made_at fabric.now made.now) }
+{
     match made {
         None => false,
         Some((gateway, _)) => !is_unknown_gateway(fabric, *gateway),
@@ -216,7 +247,11 @@ fn speaking_cause<'a, K: Key>(
     fabric: &ShownFabric<'a, K>,
     call: &Call<K>,
     made: &Option<(u32, Call<K>)>,
-) -> Result<Option<Refusal>, Memory> {
+) -> Result<Option<Refusal>, Memory>
+    ensures { IfOk result (λ cause. cause
+        ≡ speaking_cause fabric.now (made_at fabric.now made.now) (call_face (plain_call call.now))
+        (cause_at K.cmp K.matching (made_at fabric.now made.now))) }
+{
     if !is_made(fabric, made) {
         return Ok(Some(Refusal::UnknownFace));
     }
@@ -233,7 +268,11 @@ fn step_cause<'a, K: Key>(
     link: u32,
     back: bool,
     made: &Option<(u32, Call<K>)>,
-) -> Result<Option<Refusal>, Memory> {
+) -> Result<Option<Refusal>, Memory>
+    ensures { IfOk result (λ cause. cause
+        ≡ step_cause fabric.now link back
+        (cause_at K.cmp K.matching (made_at fabric.now made.now))) }
+{
     if !is_open_link(fabric, link) {
         return Ok(Some(Refusal::UnknownLink));
     }
@@ -244,20 +283,26 @@ fn step_cause<'a, K: Key>(
 }
 
 // Why a link isn't closed.
-fn unlink_cause<'a, K: Key>(fabric: &ShownFabric<'a, K>, link: u32) -> Option<Refusal> {
+fn unlink_cause<'a, K: Key>(fabric: &ShownFabric<'a, K>, link: u32) -> Option<Refusal>
+    ensures { result ≡ unlink_cause fabric.now link }
+{
     if is_open_link(fabric, link) {
         return None;
     }
     Some(Refusal::UnknownLink)
 }
 
-/// Why a line is refused, if enough ids are left.
-pub fn line_cause<'a, K: Key>(
+// Why a line is refused that makes this call, where it makes one.
+fn cause_with<'a, K: Key>(
     alloc: Global,
     fabric: &ShownFabric<'a, K>,
     line: &Line<K>,
-) -> Result<Option<Refusal>, Memory> {
-    let made = fabric.call_of(alloc, line)?;
+    made: &Option<(u32, Call<K>)>,
+) -> Result<Option<Refusal>, Memory>
+    ensures { IfOk result (λ cause. made_at fabric.now made.now
+        ≡ call_of (plain_line line.now) fabric.now
+        → cause ≡ line_cause K.cmp K.matching (plain_line line.now) fabric.now) }
+{
     match line {
         Line::Gateway {
             mode,
@@ -266,7 +311,7 @@ pub fn line_cause<'a, K: Key>(
             ..
         } => Ok(gateway_cause(fabric, *mode, regions.as_slice(), refuse.refused.as_slice())),
         Line::Session { gateway, .. } => Ok(session_cause(fabric, *gateway)),
-        Line::Face { gateway, .. } => face_cause(alloc, fabric, *gateway, &made),
+        Line::Face { gateway, .. } => face_cause(alloc, fabric, *gateway, made),
         Line::Link {
             one,
             two,
@@ -274,9 +319,22 @@ pub fn line_cause<'a, K: Key>(
             back,
         } => link_cause(alloc, fabric, *one, *two, *first, *back),
         Line::Unlink { link } => Ok(unlink_cause(fabric, *link)),
-        Line::Step { link, back } => step_cause(alloc, fabric, *link, *back, &made),
-        Line::Speak { call } => speaking_cause(alloc, fabric, call, &made),
-        Line::Moment { gateway, .. } => cause_at_gateway(alloc, fabric, *gateway, &made),
-        Line::Trees { gateway, .. } => cause_at_gateway(alloc, fabric, *gateway, &made),
+        Line::Step { link, back } => step_cause(alloc, fabric, *link, *back, made),
+        Line::Speak { call } => speaking_cause(alloc, fabric, call, made),
+        Line::Moment { gateway, .. } => cause_at_gateway(alloc, fabric, *gateway, made),
+        Line::Trees { gateway, .. } => cause_at_gateway(alloc, fabric, *gateway, made),
     }
+}
+
+/// Why a line is refused, if enough ids are left.
+pub fn line_cause<'a, K: Key>(
+    alloc: Global,
+    fabric: &ShownFabric<'a, K>,
+    line: &Line<K>,
+) -> Result<Option<Refusal>, Memory>
+    ensures { IfOk result (λ cause. cause
+        ≡ line_cause K.cmp K.matching (plain_line line.now) fabric.now) }
+{
+    let made = fabric.call_of(alloc, line)?;
+    cause_with(alloc, fabric, line, &made)
 }

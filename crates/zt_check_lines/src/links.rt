@@ -1,7 +1,9 @@
 // Why a link isn't made.
-ghost use Rattle.std.specs.Prelude.{◌≡◌, ◌+◌, ◌||◌, length, nat_le};
+ghost use Rattle.std.specs.Prelude.{◌≡◌, ◌+◌, ◌||◌, IfOk, length, nat_le};
+ghost use Rattle.zt_protocol.specs.Plain.{Link};
 ghost use Rattle.zt_model.specs.Fabric.{is_full};
 ghost use Rattle.zt_model.specs.Refusals.{GREATEST_NUMBER};
+ghost use Rattle.zt_check_lines.specs.Lines.{ends_cause, line_cause};
 
 use crate::ends::{closes_loop, is_taken, misfits, names_no_region};
 use crate::lines::is_full;
@@ -20,6 +22,7 @@ fn lacks_numbers<'a, K: Key>(fabric: &ShownFabric<'a, K>) -> bool
 }
 
 // Why a link isn't made between two gateways, by the regions of its ends.
+#[tactic(auto, unfolding(crate::specs::Lines::ends_cause, zt_model::specs::Refusals::first_cause))]
 fn ends_cause<'a, K: Key>(
     fabric: &ShownFabric<'a, K>,
     one: u32,
@@ -28,7 +31,10 @@ fn ends_cause<'a, K: Key>(
     two: u32,
     far: &ShownNode<'a, K>,
     returning: &Result<(Region, Bound), RegionError>,
-) -> Option<Refusal> {
+) -> Option<Refusal>
+    ensures { result
+        ≡ ends_cause fabric.now one near.now going.now two far.now returning.now }
+{
     if names_no_region(near, going) || names_no_region(far, returning) {
         return Some(Refusal::NoSuchRegion);
     }
@@ -59,7 +65,10 @@ pub(crate) fn link_cause<'a, K: Key>(
     two: u32,
     first: u32,
     back: u32,
-) -> Result<Option<Refusal>, Memory> {
+) -> Result<Option<Refusal>, Memory>
+    ensures { IfOk result (λ cause. cause
+        ≡ line_cause K.cmp K.matching (Link one two first back) fabric.now) }
+{
     let Some(near) = fabric.node(one) else {
         return Ok(Some(Refusal::UnknownGateway));
     };

@@ -1,8 +1,8 @@
 // Whether one gateway lies above another.
-ghost use Rattle.std.specs.Prelude.{◌≡◌, ◌&&◌};
+ghost use Rattle.std.specs.Prelude.{◌≡◌, ◌&&◌, length};
 ghost use Rattle.std.specs.Option.{option_copied};
 ghost use Rattle.zt_region.specs.Region.{is_north};
-ghost use Rattle.zt_model.specs.Linking.{is_end_of};
+ghost use Rattle.zt_model.specs.Linking.{climbs_to, gateway_above, gateway_beyond, is_end_of};
 ghost use Rattle.zt_model.specs.Lists.{first_where};
 
 use zt_check_causes::{has_one_north, is_north};
@@ -31,7 +31,9 @@ fn open_link_of(links: &[ShownLink], face: u64) -> Option<&ShownLink>
 }
 
 // The gateway at the other end of a face's open link.
-fn gateway_beyond<'a, K: Key>(fabric: &ShownFabric<'a, K>, face: u64) -> Option<u32> {
+fn gateway_beyond<'a, K: Key>(fabric: &ShownFabric<'a, K>, face: u64) -> Option<u32>
+    ensures { result ≡ gateway_beyond fabric.now face }
+{
     let link = open_link_of(fabric.links(), face)?;
     let other = if face == u64::from(link.one()) {
         link.two()
@@ -57,7 +59,9 @@ fn first_north<K: Key>(faces: &[ShownFace<K>]) -> Option<&ShownFace<K>>
 }
 
 // The gateway above one that has one face to the north.
-fn gateway_above<'a, K: Key>(fabric: &ShownFabric<'a, K>, gateway: u32) -> Option<u32> {
+fn gateway_above<'a, K: Key>(fabric: &ShownFabric<'a, K>, gateway: u32) -> Option<u32>
+    ensures { result ≡ gateway_above fabric.now gateway }
+{
     let Some(node) = fabric.node(gateway) else {
         return None;
     };
@@ -72,7 +76,9 @@ fn gateway_above<'a, K: Key>(fabric: &ShownFabric<'a, K>, gateway: u32) -> Optio
 }
 
 /// Whether a gateway is another or lies below it, at most as many links away as there are gateways.
-pub(crate) fn climbs_to<'a, K: Key>(fabric: &ShownFabric<'a, K>, from: u32, to: u32) -> bool {
+pub(crate) fn climbs_to<'a, K: Key>(fabric: &ShownFabric<'a, K>, from: u32, to: u32) -> bool
+    ensures { result ≡ climbs_to (length fabric.now.gateways) fabric.now from to }
+{
     let mut at = from;
     for climbed in 0..fabric.gateways().len() {
         if at == to {

@@ -1,10 +1,13 @@
 // Whether an entry refuses a line exactly where it has a cause, and by that cause.
 ghost use Rattle.std.specs.Prelude.{◌≡◌, IfOk};
+ghost use Rattle.std.specs.Bool.{Decides};
 ghost use Rattle.std.specs.List.{list_any};
+ghost use Rattle.zt_protocol.specs.Plain.{plain_entry, plain_line};
 ghost use Rattle.zt_protocol.specs.declared.errors.Refusal.TheVariants.{IdsSpent};
 ghost use Rattle.zt_model.specs.Lists.{is_some_and};
-ghost use Rattle.zt_model.specs.Transcript.{comes_to_ids};
-ghost use Rattle.zt_check_lines.specs.Lines.{has_face_that_may_lack, is_same};
+ghost use Rattle.zt_model.specs.Transcript.{IsRefusedByCause, comes_to_ids};
+ghost use Rattle.zt_model.specs.Transcript.{line_may_lack_ids};
+ghost use Rattle.zt_check_lines.specs.Lines.{has_face_that_may_lack, is_refused_by, is_same};
 
 use crate::lines::line_cause;
 use std::alloc::Global;
@@ -58,7 +61,10 @@ fn may_line_lack_ids<'a, K: Key>(
     alloc: Global,
     fabric: &ShownFabric<'a, K>,
     line: &'a Line<K>,
-) -> Result<bool, Memory> {
+) -> Result<bool, Memory>
+    ensures { IfOk result (λ lack. lack
+        ≡ line_may_lack_ids K.cmp K.matching (plain_line line.now) fabric.now) }
+{
     let mut after = fabric.copy(alloc)?;
     let unprinted = Vec::new(alloc);
     after.carry_out(alloc, line, &unprinted)?;
@@ -72,7 +78,10 @@ fn is_refused_by<'a, K: Key>(
     line: &'a Line<K>,
     cause: Option<Refusal>,
     refusal: Refusal,
-) -> Result<bool, Memory> {
+) -> Result<bool, Memory>
+    ensures { IfOk result (λ refused. refused
+        ≡ is_refused_by K.cmp K.matching (plain_line line.now) fabric.now cause refusal) }
+{
     if is_cause(cause, refusal) {
         return Ok(true);
     }
@@ -92,7 +101,11 @@ pub fn is_refused_by_cause<'a, K: Key>(
     fabric: &ShownFabric<'a, K>,
     line: &'a Line<K>,
     entry: &Entry<K>,
-) -> Result<bool, Memory> {
+) -> Result<bool, Memory>
+    ensures { IfOk result (λ refused. Decides refused
+        (IsRefusedByCause K.cmp K.matching
+        (plain_line line.now) (plain_entry entry.now) fabric.now)) }
+{
     let cause = line_cause(alloc, fabric, line)?;
     match &entry.outcome {
         Ok(_) => Ok(cause.is_none()),

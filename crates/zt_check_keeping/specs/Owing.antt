@@ -1,0 +1,46 @@
+-- What a face keeps of the tokens that are owed to it, source by source.
+use Rattle.std.specs.Prelude.{ℕ, Bool, true, ◌==◌, ◌&&◌, ◌||◌, not, List, Option, None, Some}
+use Rattle.std.specs.List.{list_all, list_any}
+use Rattle.std.specs.declared.cmp.Ordering.{Ordering}
+use Rattle.zt_region.specs.declared.region.Region.{Region}
+use Rattle.zt_region.specs.Admission.{admits}
+use Rattle.zt_region.specs.Region.{zid_eq}
+use Rattle.zt_model.specs.Rows.{ById, Face, InterestRow, RoutedRow, Rows}
+use Rattle.zt_model.specs.Seen.{concerns, is_owed, sees}
+use Rattle.zt_model.specs.Visible.{keeps}
+
+-- faces of a region see the tokens of another, and the admission table admits them
+abbrev pub is_shown_and_admitted : List (Region × Region) → Region → Region → Bool
+is_shown_and_admitted refused own source = sees own source && admits refused source own
+
+module _ {K : Type 0} (cmp : K → K → Ordering) (matching : K → K → Bool) where
+  -- an interest that is held under the id concerns the expression
+  abbrev pub is_concerned : ById (InterestRow K) → ℕ → K → Bool
+  is_concerned held id e = list_any (λ row. (row.0 == id) && concerns matching row.1 e) held
+
+  -- where no id is given, all is asked about
+  abbrev pub is_asked : Face K → Option ℕ → K → Bool
+  is_asked f None e = true
+  is_asked f (Some id) e = is_concerned f.held id e
+
+  -- the face keeps the expression, if it is asked about and owed to it
+  abbrev pub keeps_concerned : Face K → Option ℕ → K → Bool
+  keeps_concerned f id e = (not (is_asked f id e) || not (is_owed matching f e)) || keeps cmp f e
+
+  -- and each of what another face declares
+  abbrev pub keeps_declared : Face K → Option ℕ → ById K → Bool
+  keeps_declared f id live = list_all (λ row. keeps_concerned f id row.1) live
+
+  -- of all other faces that are seen and admitted
+  abbrev pub keeps_of_faces : List (Region × Region) → Face K → Option ℕ → List (Face K) → Bool
+  keeps_of_faces refused f id sources =
+      list_all (λ source. not (is_shown_and_admitted refused f.region source.region) || keeps_declared f id source.live) sources
+
+  -- of a row of a router region
+  abbrev pub keeps_routed : Rows K → Face K → Option ℕ → RoutedRow K → Bool
+  keeps_routed g f id row =
+      (zid_eq row.source g.zid || not (is_shown_and_admitted g.refused f.region row.region)) || keeps_concerned f id row.expr
+
+  -- and of all other routers
+  abbrev pub keeps_all : Rows K → Face K → Option ℕ → Bool
+  keeps_all g f id = keeps_of_faces g.refused f id g.faces && list_all (keeps_routed g f id) g.routed

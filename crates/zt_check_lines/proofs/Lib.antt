@@ -1,0 +1,3 @@
+pub mod Causes
+pub mod Climbing
+pub mod Refusing
