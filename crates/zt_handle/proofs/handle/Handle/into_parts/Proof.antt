@@ -1,0 +1,74 @@
+-- `into_parts` takes the handle apart.
+use Rattle.std.proofs.Common.{◌≡◌, List, [], ◌∷◌, ◌++◌, refl, sym, subst, lit<}
+use mathlib.Core.Bool.{Bool, true, false}
+use mir.Val.{Val, vptr, vbool, vcons, vnil, has_ty}
+use base.Logic.{SProp, ent, id⊢, emp}
+use base.Fml.{ftrue}
+use prog.Wp.{WpFn}
+use types.Kit.{‵, raw, ◌⊛◌, at_ret, ◌$◌, ◌∵◌, !, qed, by, move, keep, split, fsplit, fjoin, suffices, use0, use1}
+use types.Run.{stop, fld, lit, of_opd, no_more, and_then, first, branches, exec, returns, enter}
+use types.ByLocal.{alloc_all, pass_all, free_all, look_at, get, get_in, sets, sets_last, env}
+use types.Part.{agg, sub, whole}
+use types.Match.{live}
+use contract.Monad.{fact, fact_i}
+use contract.Running.{tables}
+use denote.Exit.{yes}
+use denote.Param.{layout}
+use denote.RattleType.{RattleType, owns}
+use denote.Signature.{types_at, type_at, plain}
+use denote.RawPtr.{Ptr, block_ptr, ptr_val}
+use denote.Steps.{nothing}
+use denote.Triple.Walked.{Stays, stay_dropped, walk_of, Goes-dropped}
+use Rattle.core.specs.declared.option.Option.TheVariants.{None, Some}
+use Rattle.core.proofs.alloc.Calls.{handle_tells}
+use Rattle.core.proofs.alloc.Shapes.{after}
+use Rattle.core.proofs.cell.Inside.{Good}
+use Rattle.core.proofs.atomic.Steps.{Ptr-Good}
+use mir.Syntax.{ty_ptr}
+use Rattle.core.proofs.option.Made.{Some-of, none_of}
+use Rattle.std_alloc.proofs.ResultValues.{and_tt}
+use Rattle.std.proofs.raw_atomic.Walks.{proved_at, leaves}
+use Rattle.zt_handle.specs.contracts.handle.Handle as handle
+use Rattle.zt_handle.proofs.Values.{Z, al, Raw, both, raw_in, handle_out, owned_out}
+use Rattle.zt_handle.specs.contracts.handle.Handle.into_parts.{ended, clauses}
+use Rattle.zt_handle.specs.contracts.handle.Handle.into_parts.Key.{name as #self}
+use Rattle.zt_handle.proofs.handle.Handle.into_parts.Statement.{statement}
+use Rattle.zt_handle.proofs.handle.Handle.into_parts.Code as code
+
+pub into_parts_spec : {M : Type 1} → statement M
+into_parts_spec 𝓤 𝓛 𝓜 𝓡 wired =
+    let H = 𝓛.H in let 𝓣 = tables 𝓤 H 𝓜 𝓡 𝓡.env in let c = clauses 𝓛 𝓜.mem 𝓡.returns in let fn = code.function in
+    let hs : Stays ended.signature.params ended.kept = (stay_dropped (plain (λ _. handle.the_row)) yes, (stay_dropped (plain (λ _. Z)) yes, tt)) in
+    proved_at 𝓛 ended hs c 𝓜 𝓡 (Goes-dropped 𝓛 0 (plain (λ _. handle.the_row)) yes (λ κs x f. refl), (Goes-dropped 𝓛 0 (plain (λ _. Z)) yes (λ κs x f. refl), tt)) #self fn (code.unfolded 𝓤 H 𝓜 𝓡 wired) (λ z are.
+    let v = z.0.3.0 in let a = z.0.3.1.0 in let Post : Val → SProp 𝓤 = (walk_of 𝓛 ended hs c).post z in let Run : List Val → SProp 𝓤 = λ ws. WpFn 𝓤 H 𝓣.C 𝓣.Λ fn ws Post in
+    qed 𝓛 ((‵ ftrue ⊛ ‵ (owns (types_at ended.signature.params z.0.0) z.0.3 z.0.4)) ∷ raw ((c z.0.0 z.0.3).requires z.1) ∷ []) ∵ split ! $ move ! (1 ∷ []) $ fsplit ! $
+    handle_out ! v z.0.4.0 (λ ws. owned_out ! _ v.at v.there v.value
+    (λ et ev. fsplit ! $ handle_tells al ! a z.0.4.1.0 (λ h eh fits.
+    let w : Val = both (ptr_val v.at) (vbool false) in let Out : RattleType = type_at ended.signature.result z.0.0 in
+    let ws' : z.0.4.0 ≡ w ∷ [] = subst (λ (t : Bool). z.0.4.0 ≡ both (ptr_val v.at) (vbool t) ∷ []) et ws in
+    suffices ! (Run (w ∷ h ∷ [])) (subst (λ (us : List Val). ent 𝓤 (Run (w ∷ h ∷ [])) (Run us)) (sym (λ i. ws' i ++ (eh i ++ []))) (id⊢ 𝓤 (Run (w ∷ h ∷ [])))) $
+    enter ! 𝓣.C 𝓣.Λ fn (w ∷ h ∷ []) Post $ alloc_all ! (λ l. let Ev = env fn.locals l in pass_all ! refl ((and_tt (has_ty ty_ptr (ptr_val v.at)) (Ptr-Good v.at).0, ((Ptr-Good v.at).1, (tt, tt))), (fits, tt)) $
+    sets ! (of_opd ! (get_in ! (fld ! refl (stop !)) (sub ! 0 refl (whole !)))) refl (Ptr-Good v.at) $
+    sets ! (of_opd ! (get_in ! (fld ! refl (stop !)) (sub ! 1 refl (whole !)))) refl (tt, tt) $
+    sets ! (of_opd ! (get ! refl)) refl (tt, tt) $ first ! $ branches ! (get ! refl) (λ wrong. absurd wrong) (λ _.
+    sets_last ! (agg ! (and_then ! (lit ! tt) (no_more !))) refl (tt, (record { fits = lit< tt }, tt)) $ exec ! 𝓣.C 𝓣.Λ Ev (after 4 fn.body) (at_ret Ev Post) $
+    sets ! (of_opd ! (get ! refl)) refl (tt, (record { fits = lit< tt }, tt)) $
+    use0 𝓛 (‵ (Out.own_val None (live 0 vnil ∷ []))) (none_of 𝓛 Raw) $
+    use0 𝓛 (raw (fact 𝓤 (None ≡ v.value))) (fact_i 𝓤 (None ≡ v.value) (emp 𝓤) (sym ev)) $ nothing ! $ nothing ! $ fjoin ! $ nothing ! $ fjoin ! $
+    returns ! (look_at ! 0 refl) $ free_all ! refl $ keep ! (5 ∷ 0 ∷ 2 ∷ 1 ∷ []) $ by ! (leaves 𝓛 ended hs c z (live 0 vnil) None (tt, (tt, tt)) (tt, (tt, tt)))))))
+    (λ b o x ea et ev. move ! (1 ∷ []) $ fsplit ! $ handle_tells al ! a z.0.4.1.0 (λ h eh fits.
+    let w : Val = both (vptr b o) (vbool true) in let Out : RattleType = type_at ended.signature.result z.0.0 in
+    let ws' : z.0.4.0 ≡ w ∷ [] = subst (λ (t : Bool). z.0.4.0 ≡ both (vptr b o) (vbool t) ∷ []) et (subst (λ (p : Ptr). z.0.4.0 ≡ both (ptr_val p) (vbool v.there) ∷ []) ea ws) in
+    let made : Val = both (vptr b o) h in let v₁ : Val = live 1 (vcons made vnil) in let d : Raw.Denot = record { ptr = block_ptr b o; alloc = a; value = x } in
+    let good : Good (layout Out) v₁ = (and_tt _ (and_tt (has_ty (layout Z) h) fits.0), (record { fits = lit< tt }, ((tt, (fits.1, tt)), tt))) in
+    suffices ! (Run (w ∷ h ∷ [])) (subst (λ (us : List Val). ent 𝓤 (Run (w ∷ h ∷ [])) (Run us)) (sym (λ i. ws' i ++ (eh i ++ []))) (id⊢ 𝓤 (Run (w ∷ h ∷ [])))) $
+    enter ! 𝓣.C 𝓣.Λ fn (w ∷ h ∷ []) Post $ alloc_all ! (λ l. let Ev = env fn.locals l in pass_all ! refl ((tt, (tt, (tt, tt))), (fits, tt)) $
+    sets ! (of_opd ! (get_in ! (fld ! refl (stop !)) (sub ! 0 refl (whole !)))) refl (tt, tt) $
+    sets ! (of_opd ! (get_in ! (fld ! refl (stop !)) (sub ! 1 refl (whole !)))) refl (tt, tt) $
+    sets ! (of_opd ! (get ! refl)) refl (tt, tt) $ first ! $ branches ! (get ! refl) (λ _.
+    sets ! (of_opd ! (get ! refl)) refl (tt, tt) $ sets ! (agg ! (and_then ! (get ! refl) (and_then ! (get ! refl) (no_more !)))) refl (and_tt (has_ty (layout Z) h) fits.0, (tt, (fits.1, tt))) $
+    sets_last ! (agg ! (and_then ! (lit ! tt) (and_then ! (get ! refl) (no_more !)))) refl good $ exec ! 𝓣.C 𝓣.Λ Ev (after 4 fn.body) (at_ret Ev Post) $
+    sets ! (of_opd ! (get ! refl)) refl good $ move ! (2 ∷ 0 ∷ []) $ raw_in ! b o h a x $
+    use1 𝓛 (‵ (Out.own_val (Some d) (v₁ ∷ []))) (Some-of 𝓛 Raw d made) $
+    use0 𝓛 (raw (fact 𝓤 (Some x ≡ v.value))) (fact_i 𝓤 (Some x ≡ v.value) (emp 𝓤) (sym ev)) $ nothing ! $ nothing ! $ fjoin ! $ nothing ! $ fjoin ! $
+    returns ! (look_at ! 0 refl) $ free_all ! refl $ keep ! (4 ∷ 0 ∷ 2 ∷ 1 ∷ []) $ by ! (leaves 𝓛 ended hs c z v₁ (Some d) (tt, (tt, tt)) (tt, (tt, tt)))) (λ wrong. absurd wrong))))))
