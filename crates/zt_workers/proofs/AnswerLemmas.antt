@@ -4,8 +4,8 @@ use Rattle.std.proofs.lemmas.List.{length-map, length-take, take_more}
 use Rattle.zt_laws.proofs.Lists.{map-append}
 use Rattle.zt_theorem_journal.specs.Dealt.{numbered_from}
 use Rattle.zt_theorem_journal.proofs.Order.{numbered_append}
-use Rattle.zt_workers.specs.Dealing.{with_lines}
-use Rattle.zt_workers.proofs.OrderLemmas.{lines_more}
+use Rattle.zt_dealing.specs.Dealing.{with_lines}
+use Rattle.zt_dealing.proofs.OrderLemmas.{lines_more}
 
 module _ {A B X : Type 0} (shown : A → ℕ × B) (entry_of : X → B) where
   -- numbered entries behind others

@@ -28,14 +28,14 @@ use Rattle.zt_theorem_journal.proofs.Replay.{script_comes, script_refused}
 use Rattle.zt_shared.specs.Recorded.{journalled, plain_outcome}
 use Rattle.zt_shared.specs.declared.entries.JournalEntry.{JournalEntry}
 use Rattle.zt_workers.specs.Answers.{CarriesOut, answered}
-use Rattle.zt_workers.specs.Dealing.{IsMadeByWorkers, with_lines}
-use Rattle.zt_workers.specs.Plans.{IsPlan, call_of, numbered, plan_lines}
+use Rattle.zt_dealing.specs.Dealing.{IsMadeByWorkers, with_lines}
+use Rattle.zt_plans.specs.Plans.{IsPlan, call_of, numbered, plan_lines}
 use Rattle.zt_workers.specs.declared.answering.Answer.{Answer}
-use Rattle.zt_workers.specs.declared.plan.Numbered.{Numbered}
-use Rattle.zt_workers.specs.declared.plan.Plan.{Plan}
+use Rattle.zt_plans.specs.declared.plan.Numbered.{Numbered}
+use Rattle.zt_plans.specs.declared.plan.Plan.{Plan}
 use Rattle.zt_workers.proofs.MadeLemmas.{as_many_entries}
-use Rattle.zt_workers.proofs.OrderLemmas.{all_seconds, lines_map}
-use Rattle.zt_workers.proofs.PlanLemmas.{script_driven}
+use Rattle.zt_dealing.proofs.OrderLemmas.{all_seconds, lines_map}
+use Rattle.zt_plans.proofs.PlanLemmas.{script_driven}
 
 each_back : {A : Type 0} (P : A → Type 0) (xs ys : List A) → Each P (xs ++ ys) → Each P ys
 each_back P [] ys all = all

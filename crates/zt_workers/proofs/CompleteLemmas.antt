@@ -15,7 +15,7 @@ use Rattle.zt_wire.specs.Reading.{line_read}
 use Rattle.zt_model.specs.Journal.{are_makings_first, is_driven, is_making, is_speaking}
 use Rattle.zt_fabric.specs.Transcripts.{BeginsWith, HasNoFault, Streams, most_bytes, status_of}
 use Rattle.zt_workers.specs.Answers.{Answers, GivesDriven, IsDriven}
-use Rattle.zt_workers.specs.Plans.{AreRead, is_bad_behind}
+use Rattle.zt_plans.specs.Plans.{AreRead, is_bad_behind}
 
 -- ---- the first lines of a script that may be driven
 

@@ -30,11 +30,11 @@ use Rattle.zt_fabric.proofs.Right.{AreRight}
 use Rattle.zt_theorem_journal.specs.Alone.{Speaks}
 use Rattle.zt_fabric.specs.Transcripts.{most_bytes, streams}
 use Rattle.zt_workers.specs.Answers.{AreTranscript, Answers, CarriesOut, answered, totals_of, IsCarriedOut, Transcribes, transcript_text}
-use Rattle.zt_workers.specs.Plans.{AreRead, call_of, plan_lines, script_lines}
+use Rattle.zt_plans.specs.Plans.{AreRead, call_of, plan_lines, script_lines}
 use Rattle.zt_workers.specs.declared.answering.Answer.{Answer}
-use Rattle.zt_workers.specs.declared.plan.Plan.{Plan}
-use Rattle.zt_workers.proofs.PlanLemmas.{lines_driven}
-use Rattle.zt_workers.specs.Reading.{ReadingStops, ReadsScript}
+use Rattle.zt_plans.specs.declared.plan.Plan.{Plan}
+use Rattle.zt_plans.proofs.PlanLemmas.{lines_driven}
+use Rattle.zt_plans.specs.Reading.{ReadingStops, ReadsScript}
 
 -- ---- lines that are read
 
@@ -78,7 +78,7 @@ module _ {K : Type 0} (reading : List ℕ → Result K KeyError) where
 
   -- ---- what was read
 
-  not_longer : (a b : Option (List ℕ)) (bytes : List ℕ) (longer : Bool) (t : TakesFront most_bytes a b bytes longer) → longer ≡ false → length t.read ≤ most_bytes
+  pub not_longer : (a b : Option (List ℕ)) (bytes : List ℕ) (longer : Bool) (t : TakesFront most_bytes a b bytes longer) → longer ≡ false → length t.read ≤ most_bytes
   not_longer a b bytes longer t whole = elim (cases_lt most_bytes (length t.read)) as (λ _. length t.read ≤ most_bytes) [
     | inl more ↦ let longer_ : longer ≡ true = t.longer_is.1 more in absurd (cc)
     | inr fits ↦ fits

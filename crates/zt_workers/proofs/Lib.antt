@@ -1,12 +1,6 @@
-pub mod PlanLemmas
-pub mod DealLemmas
-pub mod OrderLemmas
-pub mod ReadLemmas
 pub mod MadeLemmas
 pub mod CarryLemmas
 pub mod DriveLemmas
 pub mod CompleteLemmas
 pub mod PrintLemmas
-pub mod WorkLemmas
-pub mod LineLemmas
 pub mod AnswerLemmas

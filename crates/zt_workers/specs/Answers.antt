@@ -23,7 +23,7 @@ use Rattle.zt_laws.specs.Sound.{HasFirstIds}
 use Rattle.zt_theorem_transcript.specs.Named.{HasNamedOptions}
 use Rattle.zt_theorem_journal.specs.Dealt.{numbered_from}
 use Rattle.zt_fabric.specs.Transcripts.{BeginsWith, CountsFaults, HasNoFault, Streams, most_bytes}
-use Rattle.zt_workers.specs.Plans.{AreRead, HasBadText}
+use Rattle.zt_plans.specs.Plans.{AreRead, HasBadText}
 use Rattle.zt_workers.specs.declared.answering.Answer.{Answer}
 
 -- an answer: the number of a line, and what it came to

@@ -5,11 +5,11 @@ ghost use Rattle.zt_protocol.specs.Plain.{plain_entry};
 ghost use Rattle.zt_theorem_journal.specs.Dealt.{numbered_from};
 ghost use Rattle.zt_shared.specs.Recorded.{plain_outcome};
 ghost use Rattle.zt_workers.specs.Answers.{answered};
-ghost use Rattle.zt_workers.specs.Dealing.{with_lines};
+ghost use Rattle.zt_dealing.specs.Dealing.{with_lines};
 
-use crate::plan::Numbered;
 use std::alloc::Global;
 use zt_keys::{Key, Memory};
+use zt_plans::Numbered;
 use zt_protocol::{Entry, Line, Refusal};
 use zt_shared::{Journal, JournalEntry};
 

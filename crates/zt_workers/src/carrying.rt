@@ -5,17 +5,16 @@ ghost use Rattle.zt_laws.specs.Sound.{HasFirstIds};
 ghost use Rattle.zt_model.specs.Transcript.{Each};
 ghost use Rattle.zt_theorem_journal.specs.Alone.{Speaks};
 ghost use Rattle.zt_workers.specs.Answers.{CarriesOut, answered};
-ghost use Rattle.zt_workers.specs.Plans.{IsPlan, call_of, plan_lines};
+ghost use Rattle.zt_plans.specs.Plans.{IsPlan, call_of, plan_lines};
 
 use crate::answering::{Answer, all_refused, answer_journal, answer_makings};
-use crate::gate::Gate;
 use crate::making::make_faces;
-use crate::plan::Plan;
-use crate::sharing::journal_of;
 use std::alloc::Global;
 use std::sync::Wait;
 use std::thread::Threads;
+use zt_dealing::{Gate, journal_of};
 use zt_keys::{Key, Memory};
+use zt_plans::Plan;
 use zt_protocol::CallError;
 
 /// Carries out a plan: makes its gateway, opens its faces, and lets workers make its calls.

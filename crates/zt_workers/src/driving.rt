@@ -4,17 +4,17 @@ ghost use Rattle.std.specs.Prelude.{IfErr, IfOk, IsOkUnless};
 ghost use Rattle.zt_fabric.specs.Transcripts.{CountsFaults, streams};
 ghost use Rattle.zt_workers.specs.Answers.{Answers, GivesDriven, Transcribes, answered, totals_of};
 ghost use Rattle.zt_workers.specs.Answers.{transcript_text};
-ghost use Rattle.zt_workers.specs.Reading.{ReadingStops};
+ghost use Rattle.zt_plans.specs.Reading.{ReadingStops};
 
 use crate::answering::Answer;
 use crate::carrying::carry_out;
-use crate::gate::Gate;
 use crate::printing::print_all;
-use crate::reading::read_plan;
 use std::alloc::Global;
 use std::sync::Wait;
 use std::thread::Threads;
+use zt_dealing::Gate;
 use zt_keys::Key;
+use zt_plans::read_plan;
 use zt_protocol::{Report, RunError};
 use zt_streams::{SCRIPT_BYTES, Script, ScriptError, Sink, Source, read_script, write_all};
 

@@ -5,18 +5,14 @@
 
 mod answering;
 mod carrying;
-mod dealing;
 mod driving;
-mod gate;
 mod making;
-mod ordering;
-mod plan;
 mod printing;
 mod program;
-mod reading;
-mod sharing;
-mod working;
 
+pub use answering::{Answer, all_refused, answer_journal, answer_makings};
 pub use driving::{MOST_WORKERS, drive};
-pub use gate::{Gate, NoGate};
-pub use program::drive_tool;
+pub use making::make_faces;
+pub use printing::print_all;
+pub use program::{drive_tool, status};
+pub use zt_dealing::{Gate, NoGate};

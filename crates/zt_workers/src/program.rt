@@ -8,10 +8,10 @@ ghost use Rattle.zt_workers.specs.Answers.{Answers, GivesDriven};
 ghost use Rattle.zt_workers.specs.Words.{workers_asked};
 
 use crate::driving::{MOST_WORKERS, drive};
-use crate::gate::NoGate;
 use std::alloc::Global;
 use std::sync::Wait;
 use std::thread::Threads;
+use zt_dealing::NoGate;
 use zt_fields::Spelled;
 use zt_keys::{Key, KeyExpr};
 use zt_protocol::{Report, RunError};
@@ -82,7 +82,8 @@ fn workers_asked(words: &[String]) -> Option<u32>
     }
 }
 
-fn status(answer: &Result<Report, RunError>) -> u8
+/// The status of a program that answers this: 0, or 1 to 5 by the error.
+pub fn status(answer: &Result<Report, RunError>) -> u8
     ensures { result ≡ status_of answer.now }
 {
     match answer {

@@ -6,7 +6,7 @@ use Rattle.zt_protocol.specs.Plain.{PlainEntry}
 use Rattle.zt_shared.specs.Recorded.{plain_outcome}
 use Rattle.zt_shared.specs.declared.entries.JournalEntry.{JournalEntry}
 use Rattle.zt_workers.specs.Answers.{answered}
-use Rattle.zt_workers.specs.Dealing.{with_lines}
+use Rattle.zt_dealing.specs.Dealing.{with_lines}
 use Rattle.zt_workers.proofs.AnswerLemmas.{line_more}
 use Rattle.zt_workers.proofs.answering.answer_journal.Goals as goal
 

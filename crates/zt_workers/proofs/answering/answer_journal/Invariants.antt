@@ -1,7 +1,7 @@
 use Rattle.std.proofs.Common.{◌≡◌, ◌++◌, map, length, take}
 use Rattle.zt_shared.specs.Recorded.{plain_outcome}
 use Rattle.zt_workers.specs.Answers.{answered}
-use Rattle.zt_workers.specs.Dealing.{with_lines}
+use Rattle.zt_dealing.specs.Dealing.{with_lines}
 use Rattle.zt_workers.proofs.answering.answer_journal.Given as goal
 
 -- the entries so far have their lines

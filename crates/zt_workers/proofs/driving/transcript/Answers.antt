@@ -3,10 +3,10 @@ use Rattle.zt_streams.specs.Lines.{lines_of}
 use Rattle.zt_fabric.proofs.ReadLines.{first_ids_of, named_options_of}
 use Rattle.zt_fabric.proofs.Right.{right_of_lines}
 use Rattle.zt_workers.specs.Answers.{CarriesOut, answered}
-use Rattle.zt_workers.specs.Plans.{plan_lines}
-use Rattle.zt_workers.specs.Reading.{ReadsScript}
+use Rattle.zt_plans.specs.Plans.{plan_lines}
+use Rattle.zt_plans.specs.Reading.{ReadsScript}
 use Rattle.zt_workers.specs.declared.answering.Answer.{Answer}
-use Rattle.zt_workers.specs.declared.plan.Plan.{Plan}
+use Rattle.zt_plans.specs.declared.plan.Plan.{Plan}
 use Rattle.zt_workers.proofs.DriveLemmas.{lines_read, none_answered, plan_small, plan_speaks, printed_transcript}
 use Rattle.zt_workers.proofs.driving.transcript.Goals as goal
 

@@ -1,0 +1,4 @@
+pub mod DealLemmas
+pub mod OrderLemmas
+pub mod WorkLemmas
+pub mod LineLemmas

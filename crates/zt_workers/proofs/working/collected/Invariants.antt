@@ -1,6 +1,0 @@
-use Rattle.std.proofs.Common.{◌≡◌, Ok, map}
-use Rattle.zt_workers.proofs.working.collected.Given as goal
-
--- the results so far were good
-abbrev pub invariant-loop-result : goal.invariant-loop-result
-invariant-loop-result g l = l.yielded ≡ map (λ done. Ok done) l.all.items

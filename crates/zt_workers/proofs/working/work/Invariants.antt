@@ -1,6 +1,0 @@
-use Rattle.zt_workers.proofs.WorkLemmas.{HasWorked}
-use Rattle.zt_workers.proofs.working.work.Given as goal
-
--- the calls so far were made
-abbrev pub invariant-loop-one : goal.invariant-loop-one
-invariant-loop-one g l = HasWorked l.fn.job.pass l.pass l.yielded l.lines.items
