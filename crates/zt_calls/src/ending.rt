@@ -76,7 +76,7 @@ pub(crate) fn end_pending<K: Key>(
     say(alloc, g, speech, finals)
 }
 
-/// A final from the north, for an interest that waits or not.
+/// A final from a north face. It ends the interest that waits under the id, if there is one.
 pub(crate) fn declare_final<K: Key>(
     alloc: Global,
     g: &mut GatewayState<K>,

@@ -44,7 +44,8 @@ fn registers<K: Key>(f: &FaceState<K>, interest: Option<InterestId>) -> bool
     }
 }
 
-// The token answers the asks that sent the interest which waits, if one does.
+// A token that came as an answer is passed on to the asks for which the gateway asked upstream,
+// where an interest still waits under the id.
 fn answer_asked<K: Key>(
     alloc: Global,
     g: &mut GatewayState<K>,
@@ -127,8 +128,8 @@ fn declare_from<K: Key>(
     }
 }
 
-/// A face declares a token: one that stands in for a router's where its region is of routers, else
-/// one of its own, which may answer an interest.
+/// A face declares a token. In a router region the token is that of the router which the node id
+/// names; elsewhere it is the face's own, and may answer an interest.
 pub(crate) fn declare_token<K: Key>(
     alloc: Global,
     g: &mut GatewayState<K>,

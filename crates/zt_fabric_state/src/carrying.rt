@@ -89,8 +89,9 @@ pub fn next_face<K: Key>(g: &GatewayState<K>) -> Result<u32, Memory>
     g.made().checked_add(1).ok_or(Memory)
 }
 
-/// Opens a face at its gateway, where its place stands last, and answers what the call says. That
-/// the face has no number counts as out of memory. After an error nothing is changed.
+/// Opens a face at its gateway and answers what the call sends. The face's place is the last of the
+/// fabric. If no number is left for the face, that counts as out of memory. After an error nothing
+/// is changed.
 pub fn open_at<K: Key>(
     alloc: Global,
     s: &mut FabricState<K>,

@@ -57,8 +57,9 @@ impl<K: Key> FaceState<K> {
         self.rows.live.put(id, expr.copy(alloc)?)
     }
 
-    /// The face holds an interest that asks for what comes later, and asks one that asks for what
-    /// is there now, which was sent upstream as these, each a face and an id.
+    /// Keeps an interest of the face: as held, if it asks for what comes later, and as an ask, if
+    /// it asks for what is there now. `pendings` are the interests as which the ask was sent
+    /// upstream, each a face and an id.
     pub fn ask(
         &mut self,
         alloc: Global,

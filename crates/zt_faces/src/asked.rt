@@ -16,8 +16,8 @@ use zt_rows::RowsById;
 pub enum Asker {
     /// Nobody's.
     Nobody,
-    /// None but the ask of this face under this id. At this place among what it was sent as, from
-    /// 0, the face and the id may be found.
+    /// The ask of this face under this id, and no other. `place`, from 0, is where the interest may
+    /// be found among those as which the ask was sent upstream.
     One { face: u32, id: u32, place: u32 },
     /// Maybe those of several.
     Several,

@@ -43,7 +43,7 @@ pub(crate) fn standing_of<K: Key>(f: &FaceState<K>) -> Standing
     }
 }
 
-/// A face more. After an error nothing changes.
+/// Adds a face. After an error nothing changes.
 pub(crate) fn add_standing(
     routers: &mut BTreeSet<Standing>,
     standing: Standing,
@@ -57,7 +57,7 @@ pub(crate) fn add_standing(
     Ok(())
 }
 
-/// A face less.
+/// Removes a face.
 pub(crate) fn drop_standing(routers: &mut BTreeSet<Standing>, standing: Standing)
     ensures { HasLess standing routers.old.keys routers.new.keys }
 {

@@ -13,8 +13,6 @@ mod outbox;
 mod prepared;
 mod sorting;
 mod sourced;
-#[cfg(test)]
-mod tests;
 
 pub use builder::GatewayBuilder;
 pub use gateway::Gateway;

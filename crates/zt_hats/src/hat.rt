@@ -157,8 +157,8 @@ impl Hat {
         }
     }
 
-    /// Whether what is there now alone is asked of the lowest such face, beside the faces that await
-    /// their initial final: `route_interest` of `hat/peer`, in the mode `Current`.
+    /// Whether an interest of mode Current is sent only to the lowest of the faces that it may go to,
+    /// beside those that await their initial final: `route_interest` of `hat/peer`.
     pub fn asks_one(self) -> bool
         ensures { result ≡ (rules self).asks_one }
     {

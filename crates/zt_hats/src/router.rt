@@ -69,7 +69,7 @@ pub(crate) fn leads_up(_bound: Bound) -> bool
     false
 }
 
-/// Whether what is there now alone is asked of the lowest such face.
+/// Whether an interest of mode Current is sent only to the lowest of the faces that it may go to.
 pub(crate) fn asks_one() -> bool
     ensures { result ≡ router.asks_one }
 {

@@ -33,8 +33,8 @@ fn drop_in<K: Key>(rows: &mut Vec<((u32, u32), Option<K>)>, face: u32, id: u32)
     rows.retain(|row| is_other(row, face, id));
 }
 
-// Whether interests are known to be in one expression still, with one in this expression more. It
-// is compared with the first alone.
+// Whether all interests are still known to be in one expression after one in this expression is
+// added. It is enough to compare it with the first.
 fn stay_alike<K: Key>(rows: &[((u32, u32), Option<K>)], are_alike: bool, about: &Option<K>) -> bool
     requires { are_alike ≡ true → AreAlike rows.now }
     ensures { (holder : ℕ × ℕ) → result ≡ true → AreAlike (rows.now ++ (holder, about.now) ∷ []) }

@@ -60,14 +60,14 @@ impl<K: Key> WildKeys<K> {
         }
     }
 
-    /// A key stands at no number no more.
+    /// Removes a key that has no number.
     pub(crate) fn remove_free(&mut self, key: &K)
         ensures { HasChanged K.cmp None key.now false self.old self.new }
     {
         self.free.remove(key);
     }
 
-    /// A key stands at the number no more.
+    /// Removes a key from those at the number.
     pub(crate) fn remove_at(&mut self, number: u64, key: &K)
         ensures { HasChanged K.cmp (Some number) key.now false self.old self.new }
     {

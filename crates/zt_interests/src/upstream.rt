@@ -218,7 +218,8 @@ fn does_any_stand<K: Key>(g: &GatewayState<K>, pendings: &[(u32, u32)]) -> bool
     pendings.iter().any(|p| stands(g, *p))
 }
 
-// Whether one stands of the pendings that are nearer to a place than `reach`.
+// Whether one of the pendings still waits in a window of `reach` places before `place` and from it
+// on.
 fn does_near_stand<K: Key>(
     g: &GatewayState<K>,
     pendings: &[(u32, u32)],

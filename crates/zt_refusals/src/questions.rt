@@ -29,7 +29,8 @@ pub(crate) fn asks_from_north<K: Key>(g: &GatewayState<K>, f: &FaceState<K>) -> 
     is_north(f) && !hat_of_face(g, f).takes_interests(f.mode())
 }
 
-/// Whether what is there now alone is asked for, and not of tokens alone.
+/// Whether an interest is of mode Current and asks for subscribers or queryables, or doesn't ask
+/// for tokens.
 pub(crate) fn is_illegal_current(mode: InterestMode, options: InterestOptions) -> bool
     ensures { result ≡ is_illegal_current mode options }
 {

@@ -150,7 +150,8 @@ fn answer_all<K: Key>(
     Ok(sends)
 }
 
-/// What the interest asks for now can be looked for among few from here on, where memory suffices.
+/// Makes an index of live expressions, if the interest asks for some at once and memory suffices.
+/// The answers are then found without trying each expression.
 pub fn prepare_answers<K: Key>(alloc: Global, g: &mut GatewayState<K>, interest: &RemoteInterest<K>)
     ensures { g.new ≡ g.old }
 {

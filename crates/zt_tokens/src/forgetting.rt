@@ -20,7 +20,8 @@ use zt_region::Region;
 use zt_state::{FaceState, GatewayState};
 use zt_token_index::id_in;
 
-// Whether faces of no region see the expression: those of `Local` see each live token.
+// Whether no live token of the expression is left in any region. Sessions see every live token, so
+// it is enough to ask whether they see one.
 fn is_gone<K: Key>(g: &GatewayState<K>, expr: &K) -> bool
     ensures { result ≡ true → IsGone K.cmp g.now expr.now }
 {
@@ -205,7 +206,8 @@ impl<'a, K: Key> FaceRule<K> for Forgets<'a, K> {
 }
 
 /// The faces that can't see an expression any more hear that it is gone from a region: Zenoh's
-/// `unpropagate_token`. Those alone are asked that seek it, unless another one was told it.
+/// `unpropagate_token`. Only faces that seek the expression are visited, unless a face was told it
+/// that doesn't seek it.
 pub fn forget<K: Key>(
     alloc: Global,
     g: &GatewayState<K>,

@@ -92,7 +92,7 @@ pub fn is_told<K: Key>(
     is_seeker_told(g, source, f, known) && seeks(g.mode(), f, expr)
 }
 
-/// Of regions those whose tokens faces of a region are shown, in a gateway of this mode.
+/// The regions whose tokens are shown to the faces of the region `own`, in a gateway of this mode.
 #[derive(Drop)]
 pub struct ShownTo {
     pub mode: WhatAmI,
