@@ -1,7 +1,7 @@
 -- What keeps asks known by what they were sent as.
 use Rattle.std.proofs.Common.{◌≡◌, ℕ, ◌+◌, ◌<◌, ◌==◌, ◌&&◌, Bool, true, false, cond, if◌then◌else◌, List, [], ◌∷◌, ◌++◌, Option, Some, add-one, ap, drop, eq-eqb, get_or, length, map, nat_eq, refl, subst, suc, sym, ◌∙◌}
 use Rattle.std.proofs.Math.Seq.{drop-cons}
-use Rattle.std.proofs.lemmas.Bool.{eqb-true}
+use Rattle.std.proofs.lemmas.Bool.{and_from, and_parts, eqb-true}
 use Rattle.std.proofs.lemmas.Cmp.{ranked}
 use Rattle.std.specs.FinMap.Entries.{by_order, put}
 use Rattle.std.specs.List.{AllByRecursion, list_any}
@@ -9,11 +9,9 @@ use Rattle.std.specs.Ordering.{nat_cmp}
 use Rattle.std.specs.declared.cmp.Ordering.TheVariants.{Less, Equal, Greater}
 use Rattle.zt_keys.specs.Test.{by_test}
 use Rattle.zt_model.specs.Hearing.{put_if}
-use Rattle.zt_model.specs.Lists.{at_id}
 use Rattle.zt_model.specs.Rows.{Ask, ById, Face}
 use Rattle.zt_model.specs.Telling.{was_sent_as}
-use Rattle.zt_rows.proofs.Found.{at_put}
-use Rattle.zt_faces.specs.Asked.{AreAsked, AreKnown, Askings, IsAskerOf, IsKnown, KnowsMore, RowsKnowMore, asker_at, asker_in, asker_of, knows}
+use Rattle.zt_faces.specs.Asked.{AreAsked, AreKnown, Askings, IsAskerOf, IsKnown, KnowsMore, asker_at, knows, pair_eq}
 use Rattle.zt_faces.specs.declared.asked.Asker.{Asker}
 
 -- ---- by askers that know more
@@ -61,33 +59,29 @@ module _ {X : Type 0} (Q : Askings → X → Type 0) where
 pub item-left : {X : Type 0} (xs : List X) (i : ℕ) (x : X) → i < length xs → x ≡ get_or xs i x → drop i xs ≡ x ∷ drop (i + 1) xs
 item-left xs i x lt is = rw add-one (drop-cons xs i x lt ∙ ap (λ y. y ∷ drop (suc i) xs) (sym is))
 
--- ---- as rows are put
+-- ---- as one is put
 
-pub rows-put : (rows : ById Asker) (id : ℕ) (asker : Asker) → ((n k : ℕ) → knows (asker_of (at_id id rows)) n k ≡ true → knows asker n k ≡ true) → RowsKnowMore rows (put nat_cmp id asker rows)
-rows-put rows id asker kept = record {
-  at = λ m n k known.
-      by_test (id == m)
-      (λ t. rw (at_put m id asker rows, t) (kept n k (subst (λ j. knows (asker_of (at_id j rows)) n k ≡ true) (sym (eqb-true id m t)) known)))
-      (λ t. rw (at_put m id asker rows, t) known);
-}
+-- two numbers are the same where their test says so
+pub pair_eq-same : (a b : ℕ × ℕ) → pair_eq a b ≡ true → a ≡ b
+pair_eq-same a b same =
+    let both = and_parts (a.0 == b.0) (a.1 == b.1) same in
+    λ i. (eqb-true a.0 b.0 both.0 i, eqb-true a.1 b.1 both.1 i)
 
-pub rows-same : (rows : ById Asker) → RowsKnowMore rows rows
-rows-same rows = record { at = λ m n id known. known }
+pub pair_eq-refl : (a : ℕ × ℕ) → pair_eq a a ≡ true
+pair_eq-refl a = and_from _ _ (eq-eqb a.0 a.0 refl) (eq-eqb a.1 a.1 refl)
 
-pub row-here : (rows : ById Asker) (id : ℕ) (asker : Asker) (n k : ℕ) → knows asker n k ≡ true → knows (asker_of (at_id id (put nat_cmp id asker rows))) n k ≡ true
-row-here rows id asker n k known = rw (at_put id id asker rows, eq-eqb id id refl) known
-
-module _ (old new : ℕ → Option (ById Asker)) (a : ℕ) (rows : ById Asker) (is : (q : ℕ) → new q ≡ cond (nat_eq a q) (Some rows) (old q)) where
-  pub face-put : ((m n id : ℕ) → knows (asker_in (old a) m) n id ≡ true → knows (asker_of (at_id m rows)) n id ≡ true) → KnowsMore (asker_at old) (asker_at new)
-  face-put kept = record {
+module _ (old new : ℕ × ℕ → Option Asker) (sent : ℕ × ℕ) (asker : Asker)
+    (is : (q : ℕ × ℕ) → new q ≡ cond (pair_eq sent q) (Some asker) (old q)) where
+  pub one-put : ((n id : ℕ) → knows (asker_at old sent) n id ≡ true → knows asker n id ≡ true) → KnowsMore (asker_at old) (asker_at new)
+  one-put kept = record {
     at = λ p n id known.
-        by_test (nat_eq a p.0)
-        (λ t. rw (is p.0, t) (kept p.1 n id (subst (λ j. knows (asker_in (old j) p.1) n id ≡ true) (sym (eqb-true a p.0 t)) known)))
-        (λ t. rw (is p.0, t) known);
+        by_test (pair_eq sent p)
+        (λ t. rw (is p, t) (kept n id (subst (λ q. knows (asker_at old q) n id ≡ true) (sym (pair_eq-same sent p t)) known)))
+        (λ t. rw (is p, t) known);
   }
 
-  pub face-here : (s n id : ℕ) → knows (asker_of (at_id s rows)) n id ≡ true → knows (asker_at new (a, s)) n id ≡ true
-  face-here s n id known = rw (is a, eq-eqb a a refl) known
+  pub one-here : (n id : ℕ) → knows asker n id ≡ true → knows (asker_at new sent) n id ≡ true
+  one-here n id known = rw (is sent, pair_eq-refl sent) known
 
 -- a row that is put in its place
 pub all-put : {A : Type 0} (P : ℕ × A → Type 0) (id : ℕ) (v : A) (rows : ById A) → P (id, v) → AllByRecursion P rows → AllByRecursion P (put nat_cmp id v rows)

@@ -2,20 +2,18 @@
 --     Askings                    of each face and id, whose asks were sent so
 --     knows asker n id           the ask of the face n under id may be one of them
 --     asker_of found             what is known where this was found
---     asker_in found id          and where these rows were
---     asker_at found             what is known by what is found of a face
---     asked_in rows              what is known by a map from faces to rows
+--     pair_eq a b                the same two numbers
+--     asker_at found             what is known by what is found
+--     asked_in rows              what is known by a map from faces and ids
 --     IsKnown askers n id sent   the ask of the face n under id is known by all that it was sent as
 --     AreKnown askers n asks     each ask of the face n is
 --     AreAsked askers faces      each ask of each face is
 --     KeepsAsks f g              where the asks of a face were known, they still are once it became g
 --     KnowsMore old new          what was known before is
---     RowsKnowMore old new       the same of the rows of one face
 --     IsAskerOf asker n id faces     it knows each ask that was sent to the face n under id
-use Rattle.std.specs.Prelude.{◌≡◌, ℕ, Bool, true, false, ◌==◌, ◌&&◌, List, Option, Some, None, nat_eq}
+use Rattle.std.specs.Prelude.{◌≡◌, ℕ, Bool, true, false, ◌==◌, ◌&&◌, List, Option, Some, None}
 use Rattle.std.specs.HashMap.{HashMap, get}
 use Rattle.std.specs.List.{AllByRecursion}
-use Rattle.zt_model.specs.Lists.{at_id}
 use Rattle.zt_model.specs.Rows.{Ask, ById, Face}
 use Rattle.zt_model.specs.Telling.{was_sent_as}
 use Rattle.zt_faces.specs.declared.asked.Asker.{Asker}
@@ -33,24 +31,21 @@ abbrev pub asker_of : Option Asker → Asker
 asker_of None = Nobody
 asker_of (Some asker) = asker
 
-abbrev pub asker_in : Option (ById Asker) → ℕ → Asker
-asker_in None id = Nobody
-asker_in (Some rows) id = asker_of (at_id id rows)
+-- whether they are the same two numbers
+abbrev pub pair_eq : ℕ × ℕ → ℕ × ℕ → Bool
+pair_eq a b = (a.0 == b.0) && (a.1 == b.1)
 
-abbrev pub asker_at : (ℕ → Option (ById Asker)) → Askings
-asker_at found sent = asker_in (found sent.0) sent.1
+abbrev pub asker_at : (ℕ × ℕ → Option Asker) → Askings
+asker_at found sent = asker_of (found sent)
 
-abbrev pub asked_in : {S : Type 0} → HashMap ℕ (ById Asker) S → Askings
-asked_in rows = asker_at (get nat_eq rows)
+abbrev pub asked_in : {S : Type 0} → HashMap (ℕ × ℕ) Asker S → Askings
+asked_in rows = asker_at (get pair_eq rows)
 
 abbrev pub IsKnown : Askings → ℕ → ℕ → List (ℕ × ℕ) → Type 0
 IsKnown askers n id sent = AllByRecursion (λ p. knows (askers p) n id ≡ true) sent
 
 pub record KnowsMore (old new : Askings) : Type 0 where
   pub at : (p : ℕ × ℕ) (n id : ℕ) → knows (old p) n id ≡ true → knows (new p) n id ≡ true
-
-pub record RowsKnowMore (old new : ById Asker) : Type 0 where
-  pub at : (m n id : ℕ) → knows (asker_of (at_id m old)) n id ≡ true → knows (asker_of (at_id m new)) n id ≡ true
 
 module _ {K : Type 0} where
   abbrev pub AreKnown : Askings → ℕ → ById (Ask K) → Type 0

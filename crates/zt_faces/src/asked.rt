@@ -1,8 +1,6 @@
 // Whose asks were sent upstream, found by the face and the id that they were sent as.
 ghost use Rattle.std.specs.Prelude.{◌≡◌, ℕ, true, IfOk, OnOk};
-ghost use Rattle.zt_model.specs.Lists.{at_id};
-ghost use Rattle.zt_faces.specs.Asked.{AreAsked, AreKnown, IsKnown, KnowsMore, RowsKnowMore};
-ghost use Rattle.zt_faces.specs.Asked.{asked_in, asker_of, knows};
+ghost use Rattle.zt_faces.specs.Asked.{AreAsked, AreKnown, IsKnown, KnowsMore, asked_in, knows};
 
 use std::alloc::Global;
 use std::collections::HashMap;
@@ -54,35 +52,19 @@ impl Asker {
 // So many entries are left alone.
 const FEW: usize = 64;
 
-// Whose asks were sent under the id.
-fn find_in(rows: &RowsById<Asker>, id: u32) -> Asker
-    ensures { result ≡ asker_of (at_id id rows.now) }
+// Whose asks were sent as this.
+fn find_in(askers: &HashMap<(u32, u32), Asker>, sent: (u32, u32)) -> Asker
+    ensures { result ≡ asked_in askers.now sent }
 {
-    match rows.at(id) {
+    match askers.get(&sent) {
         None => Asker::Nobody,
         Some(asker) => *asker,
     }
 }
 
-// The ask of a face under an id was sent under this id too.
-fn note_in(
-    rows: &mut RowsById<Asker>,
-    sent: u32,
-    face: u32,
-    id: u32,
-    place: u32,
-) -> Result<(), Memory>
-    ensures here { OnOk result (knows (asker_of (at_id sent rows.new)) face id ≡ true) }
-    ensures kept { RowsKnowMore rows.old rows.new }
-{
-    let asker = find_in(rows, sent).with(face, id, place);
-    rows.put(sent, asker)
-}
-
 // The ask of a face under an id was sent as this too.
 fn note(
-    alloc: Global,
-    askers: &mut HashMap<u32, RowsById<Asker>>,
+    askers: &mut HashMap<(u32, u32), Asker>,
     sent: (u32, u32),
     face: u32,
     id: u32,
@@ -91,21 +73,14 @@ fn note(
     ensures here { OnOk result (knows (asked_in askers.new sent) face id ≡ true) }
     ensures kept { KnowsMore (asked_in askers.old) (asked_in askers.new) }
 {
-    match askers.get_mut(&sent.0) {
-        Some(rows) => note_in(rows, sent.1, face, id, place),
-        None => {
-            let mut rows = RowsById::new(alloc);
-            note_in(&mut rows, sent.1, face, id, place)?;
-            askers.insert(sent.0, rows)?;
-            Ok(())
-        }
-    }
+    let asker = find_in(askers, sent).with(face, id, place);
+    askers.insert(sent, asker)?;
+    Ok(())
 }
 
 // The ask of a face under an id was sent as these too.
 fn note_all(
-    alloc: Global,
-    askers: &mut HashMap<u32, RowsById<Asker>>,
+    askers: &mut HashMap<(u32, u32), Asker>,
     face: u32,
     id: u32,
     pendings: &[(u32, u32)],
@@ -115,7 +90,7 @@ fn note_all(
 {
     let mut place = 0u32;
     for sent in pendings {
-        note(alloc, askers, *sent, face, id, place)?;
+        note(askers, *sent, face, id, place)?;
         place = place.saturating_add(1);
     }
     Ok(())
@@ -125,7 +100,7 @@ fn note_all(
 /// gone may be known still.
 #[derive(Drop)]
 pub(crate) struct Askers {
-    rows: HashMap<u32, RowsById<Asker>>,
+    rows: HashMap<(u32, u32), Asker>,
     // So many were put since all were.
     entries: usize,
     // From so many on those that are gone are dropped.
@@ -146,16 +121,12 @@ impl Askers {
     pub(crate) fn find(&self, face: u32, id: u32) -> Asker
         ensures { result ≡ asked_in self.now.rows (face, id) }
     {
-        let Some(rows) = self.rows.get(&face) else {
-            return Asker::Nobody;
-        };
-        find_in(rows, id)
+        find_in(&self.rows, (face, id))
     }
 
     // The ask of a face under an id was sent upstream as these.
     pub(crate) fn note_ask(
         &mut self,
-        alloc: Global,
         face: u32,
         id: u32,
         pendings: &[(u32, u32)],
@@ -164,43 +135,34 @@ impl Askers {
         ensures kept { KnowsMore (asked_in self.old.rows) (asked_in self.new.rows) }
     {
         self.entries = self.entries.saturating_add(pendings.len());
-        note_all(alloc, &mut self.rows, face, id, pendings)
+        note_all(&mut self.rows, face, id, pendings)
     }
 
     // These asks of a face were sent upstream.
-    fn note_asks<K: Key>(
-        &mut self,
-        alloc: Global,
-        face: u32,
-        asks: &RowsById<AskState<K>>,
-    ) -> Result<(), Memory>
+    fn note_asks<K: Key>(&mut self, face: u32, asks: &RowsById<AskState<K>>) -> Result<(), Memory>
         ensures here { OnOk result (AreKnown (asked_in self.new.rows) face asks.now) }
         ensures kept { KnowsMore (asked_in self.old.rows) (asked_in self.new.rows) }
     {
         for (id, ask) in asks.iter() {
-            self.note_ask(alloc, face, *id, ask.pendings())?;
+            self.note_ask(face, *id, ask.pendings())?;
         }
         Ok(())
     }
 
     // The asks of the face were sent upstream.
-    pub(crate) fn note_face<K: Key>(
-        &mut self,
-        alloc: Global,
-        f: &FaceState<K>,
-    ) -> Result<(), Memory>
+    pub(crate) fn note_face<K: Key>(&mut self, f: &FaceState<K>) -> Result<(), Memory>
         ensures here { OnOk result (AreKnown (asked_in self.new.rows) f.now.number f.now.asks) }
         ensures kept { KnowsMore (asked_in self.old.rows) (asked_in self.new.rows) }
     {
-        self.note_asks(alloc, f.number(), f.asks())
+        self.note_asks(f.number(), f.asks())
     }
 
     // The asks of these faces were sent upstream.
-    fn note_faces<K: Key>(&mut self, alloc: Global, faces: &[FaceState<K>]) -> Result<(), Memory>
+    fn note_faces<K: Key>(&mut self, faces: &[FaceState<K>]) -> Result<(), Memory>
         ensures { OnOk result (AreAsked (asked_in self.new.rows) faces.now) }
     {
         for f in faces {
-            self.note_face(alloc, f)?;
+            self.note_face(f)?;
         }
         Ok(())
     }
@@ -210,7 +172,7 @@ impl Askers {
         ensures { IfOk result (λ askers. AreAsked (asked_in askers.rows) faces.now) }
     {
         let mut askers = Askers::new(alloc);
-        askers.note_faces(alloc, faces)?;
+        askers.note_faces(faces)?;
         let twice = askers.entries.saturating_mul(2);
         askers.many = twice.saturating_add(faces.len()).saturating_add(FEW);
         Ok(askers)

@@ -46,8 +46,41 @@ fn is_place<K: Key>(faces: &[FaceState<K>], number: u32, place: usize) -> bool
     }
 }
 
+// Where the face of a number stands, if it is found among those that may have it. Numbers count up
+// from 1 and faces never come back, so before it as many numbers are missing as are among all at
+// most. A binary search among these few.
+fn search_near<K: Key>(faces: &[FaceState<K>], number: u32) -> Option<usize>
+    ensures { IfSome result (λ place. IsPlace (λ f. f.number) number faces.now place) }
+{
+    let last = faces.last()?;
+    let missing = (last.number() as usize).saturating_sub(faces.len());
+    let end = (number as usize).min(faces.len());
+    let start = (number as usize).saturating_sub(missing + 1).min(end);
+    let found = faces[start..end].binary_search_by(|f| f.number().cmp(&number));
+    let place = start + found.ok()?;
+    if is_place(faces, number, place) {
+        Some(place)
+    } else {
+        None
+    }
+}
+
+// Where the face of a number stands, where some below it were closed.
+#[inline(never)]
+fn search<K: Key>(faces: &[FaceState<K>], number: u32) -> Option<usize>
+    requires { IsRising (λ f. f.number) faces.now }
+    ensures found { IfSome result (λ place. IsPlace (λ f. f.number) number faces.now place) }
+    ensures none { IfNone result (HasNone (λ f. f.number) number faces.now) }
+{
+    match search_near(faces, number) {
+        Some(place) => Some(place),
+        None => search_place(faces, number),
+    }
+}
+
 // Where the face of a number stands. Numbers count up from 1, so where none below it was closed it
 // stands at its own; otherwise it is found by binary search.
+#[inline(always)]
 fn place_of<K: Key>(faces: &[FaceState<K>], number: u32) -> Option<usize>
     requires { IsRising (λ f. f.number) faces.now }
     ensures found { IfSome result (λ place. IsPlace (λ f. f.number) number faces.now place) }
@@ -57,7 +90,7 @@ fn place_of<K: Key>(faces: &[FaceState<K>], number: u32) -> Option<usize>
     if is_place(faces, number, place) {
         return Some(place);
     }
-    search_place(faces, number)
+    search(faces, number)
 }
 
 // The face of a number.
@@ -201,7 +234,7 @@ fn know<K: Key>(
     ensures asked { OnOk result (AreAsked (asked_in askers.new.rows) faces.now) }
 {
     tidy(alloc, faces, askers)?;
-    askers.note_ask(alloc, number, id, pendings)
+    askers.note_ask(number, id, pendings)
 }
 
 // What a face asks for now is known from here on by what it was sent as, if anything.
@@ -491,7 +524,7 @@ impl<K: Key> Faces<K> {
         ensures err { OnErr result (self.new ≡ self.old) }
     {
         let next = face.next();
-        self.askers.note_face(alloc, &face)?;
+        self.askers.note_face(&face)?;
         push_in(&mut self.faces, &mut self.routers, face)?;
         self.highest_next = self.highest_next.max(next);
         Ok(())

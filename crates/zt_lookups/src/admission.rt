@@ -10,6 +10,9 @@ use std::marker::Model;
 use zt_keys::Memory;
 use zt_region::{Admission, Region};
 
+// So few pairs are compared one by one, which is faster than a binary search.
+const FEW: usize = 8;
+
 /// The pairs of regions that are refused, as they are listed, with the same in order for a binary
 /// search.
 #[derive(Drop)]
@@ -42,12 +45,38 @@ fn in_order(alloc: Global, listed: &[(Region, Region)]) -> Result<Vec<(Region, R
     Ok(pairs)
 }
 
-// Whether the pair stands among pairs in order. A binary search.
-fn has_pair(pairs: &[(Region, Region)], src: Region, dst: Region) -> bool
+// Whether it is the pair of these regions.
+fn is_pair(pair: &(Region, Region), src: Region, dst: Region) -> bool
+    ensures { result ≡ is_pair src dst pair.now }
+{
+    pair.0 == src && pair.1 == dst
+}
+
+// Whether the pair is among these. A walk.
+fn is_listed(pairs: &[(Region, Region)], src: Region, dst: Region) -> bool
+    ensures { result ≡ list_any (is_pair src dst) pairs.now }
+{
+    pairs.iter().any(|pair| is_pair(pair, src, dst))
+}
+
+// Whether the pair is among pairs in order. A binary search.
+fn search_pair(pairs: &[(Region, Region)], src: Region, dst: Region) -> bool
     requires { IsSorted pair_cmp pairs.now }
     ensures { result ≡ list_any (is_pair src dst) pairs.now }
 {
     pairs.binary_search(&(src, dst)).is_ok()
+}
+
+// Whether the pair is among pairs in order.
+fn has_pair(pairs: &[(Region, Region)], src: Region, dst: Region) -> bool
+    requires { IsSorted pair_cmp pairs.now }
+    ensures { result ≡ list_any (is_pair src dst) pairs.now }
+{
+    if pairs.len() <= FEW {
+        is_listed(pairs, src, dst)
+    } else {
+        search_pair(pairs, src, dst)
+    }
 }
 
 impl RefusedPairs {
@@ -59,7 +88,7 @@ impl RefusedPairs {
         RefusedPairs { listed, in_order }
     }
 
-    /// Whether tokens of `src` may be told to `dst`. A binary search.
+    /// Whether tokens of `src` may be told to `dst`. A binary search, or a walk over few pairs.
     pub fn admits(&self, src: Region, dst: Region) -> bool
         ensures { result ≡ admits self.now src dst }
     {

@@ -1,6 +1,6 @@
 use Rattle.std.proofs.Common.{◌∙◌}
 use Rattle.zt_lookups.proofs.Pairs.{pair_found}
-use Rattle.zt_lookups.proofs.admission.has_pair.Goals as goal
+use Rattle.zt_lookups.proofs.admission.search_pair.Goals as goal
 
 pub returns : goal.returns
 returns c =
