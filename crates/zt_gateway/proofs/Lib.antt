@@ -2,5 +2,6 @@ mod Accepted
 mod ByFace
 mod Listed
 mod Making
+mod Next
 mod Oldest
 mod Walks

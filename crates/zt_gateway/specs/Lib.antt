@@ -1,3 +1,4 @@
+pub mod Lookups
 pub mod Running
 pub mod Settings
 pub mod Declarers

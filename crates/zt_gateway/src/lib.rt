@@ -8,6 +8,7 @@ mod carrying;
 mod copies;
 mod gateway;
 mod listing;
+mod lookups;
 mod ordering;
 mod outbox;
 mod prepared;
@@ -16,5 +17,6 @@ mod sourced;
 
 pub use builder::GatewayBuilder;
 pub use gateway::Gateway;
+pub use lookups::Lookups;
 pub use prepared::Prepared;
 pub use sourced::Sources;

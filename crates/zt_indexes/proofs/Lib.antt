@@ -7,6 +7,7 @@ pub mod Hashed
 mod InOrder
 mod Kept
 mod Less
+mod OneEach
 pub mod Ordered
 mod Regrouped
 mod Seeking

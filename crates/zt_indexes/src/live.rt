@@ -7,7 +7,7 @@ ghost use Rattle.zt_keys.specs.declared.anchor.Anchor.TheVariants.{Whole};
 ghost use Rattle.zt_indexes.specs.Counted.{is_shown_in};
 ghost use Rattle.zt_indexes.specs.Grouped.{HasKeyMore, HasSameKeys};
 ghost use Rattle.zt_indexes.specs.Live.{HasOneLess, HasOneMore, HasRowsOrNoKey, IsWith, IsWithout};
-ghost use Rattle.zt_indexes.specs.Live.{counts_at, shown_keys};
+ghost use Rattle.zt_indexes.specs.Live.{count_at, counts_at, shown_keys};
 ghost use Rattle.zt_indexes.specs.Wild.{HasWildChanged};
 
 use crate::anchored::{
@@ -15,7 +15,7 @@ use crate::anchored::{
 };
 use crate::groups::KeySet;
 use crate::regions::RegionCounts;
-use crate::search::{is_shown_at, try_all, try_plain, try_shown};
+use crate::search::{count_at, is_shown_at, try_all, try_plain, try_shown};
 use std::alloc::Global;
 use std::collections::HashMap;
 use std::marker::Model;
@@ -236,6 +236,13 @@ impl<K: Key> LiveCounts<K> {
             drop_anchored(&mut self.anchored, expr);
             drop_wild(&mut self.wilds, expr);
         }
+    }
+
+    /// How many rows of the expression stand in the region. A look-up, which takes no memory.
+    pub fn count(&self, region: Region, expr: &K) -> u64
+        ensures { result ≡ count_at K.cmp expr.now region self.now }
+    {
+        count_at(&self.keys, region, expr)
     }
 
     /// Whether some row of the expression stands in a region that passes.

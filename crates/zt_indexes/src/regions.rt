@@ -3,8 +3,8 @@ ghost use Rattle.std.specs.Prelude.{◌≡◌, ℕ, ◌+◌, ◌-◌, ◌<◌, �
 ghost use Rattle.std.specs.Prelude.{get_or, length, not};
 ghost use Rattle.std.specs.Prelude.{IfNone, IfOk, IfSome, OnErr, OnOk};
 ghost use Rattle.zt_region.specs.declared.region.Region.{Region};
-ghost use Rattle.zt_indexes.specs.Counted.{can_count, count_in, is_counted, is_shown_in, one_in};
-ghost use Rattle.zt_indexes.specs.Counted.{free_place, own_place, place_for};
+ghost use Rattle.zt_indexes.specs.Counted.{HasOneEach, can_count, count_in, is_counted};
+ghost use Rattle.zt_indexes.specs.Counted.{free_place, is_shown_in, one_in, own_place, place_for};
 ghost use Rattle.zt_indexes.specs.Held.{counts_of};
 
 use crate::live::RegionTest;
@@ -88,6 +88,7 @@ fn place_for(rows: &[(Region, u32)], region: Region) -> Option<usize>
 fn add_in(rows: &mut Vec<(Region, u32)>, region: Region) -> Result<(), Memory>
     ensures ok { OnOk result ((r : Region) →
         count_in r rows.new.items ≡ count_in r rows.old.items + one_in r region) }
+    ensures each { HasOneEach rows.old.items → HasOneEach rows.new.items }
     ensures err { OnErr result (rows.new.items ≡ rows.old.items) }
 {
     match place_for(rows.as_slice(), region) {
@@ -104,12 +105,30 @@ fn add_in(rows: &mut Vec<(Region, u32)>, region: Region) -> Result<(), Memory>
 
 // One row less in the region, if any stands there.
 fn remove_in(rows: &mut Vec<(Region, u32)>, region: Region)
-    ensures { (r : Region) → count_in r rows.new.items
+    ensures less { (r : Region) → count_in r rows.new.items
         ≡ count_in r rows.old.items - one_in r region }
+    ensures each { HasOneEach rows.old.items → HasOneEach rows.new.items }
 {
     if let Some(place) = place_of(rows.as_slice(), region) {
         rows[place].1 -= 1;
     }
+}
+
+// How many rows of the region are counted, where no region has two counts.
+fn count_among(rows: &[(Region, u32)], region: Region) -> u32
+    ensures { HasOneEach rows.now → result ≡ count_in region rows.now }
+{
+    match own_place(rows, region) {
+        Some(place) => rows[place].1,
+        None => 0,
+    }
+}
+
+// How many rows of the region the count is of.
+fn count_at_one(row: &(Region, u32), region: Region) -> u32
+    ensures { result ≡ count_in region (row.now ∷ []) }
+{
+    if region == row.0 { row.1 } else { 0 }
 }
 
 // Whether a count is one of rows in a region that passes.
@@ -150,8 +169,9 @@ enum Counts {
 
 // One row more beside those of one region. Numbers that run out count as out of memory.
 fn beside_one(alloc: Global, row: (Region, u32), region: Region) -> Result<Counts, Memory>
-    ensures { IfOk result (λ counts. (r : Region) →
+    ensures more { IfOk result (λ counts. (r : Region) →
         count_in r (counts_of counts) ≡ count_in r (row ∷ []) + one_in r region) }
+    ensures each { IfOk result (λ counts. HasOneEach (counts_of counts)) }
 {
     if can_count(&row, region) {
         return Ok(Counts::One(with_one_more(row, region)?));
@@ -170,12 +190,15 @@ pub struct RegionCounts {
 
 impl Model for RegionCounts {
     ghost use Rattle.std.specs.Prelude.{ℕ, List};
+    ghost use Rattle.zt_indexes.specs.Counted.{HasOneEach};
     ghost use Rattle.zt_indexes.specs.Held.{counts_of};
     ghost use Rattle.zt_region.specs.declared.region.Region.{Region};
 
     ghost Value = { List (Region × ℕ) };
 
     ghost view = { λ c. counts_of c.counts };
+
+    ghost invariant = { λ c. HasOneEach (counts_of c.counts) };
 }
 
 impl RegionCounts {
@@ -217,6 +240,18 @@ impl RegionCounts {
             Counts::One(row) => remove_one(row, region),
             Counts::More(rows) => remove_in(rows, region),
         }
+    }
+
+    /// How many rows stand in the region. It takes no memory.
+    pub fn count(&self, region: Region) -> u64
+        ensures { result ≡ count_in region self.now }
+    {
+        let count = match &self.counts {
+            Counts::Empty => 0,
+            Counts::One(row) => count_at_one(row, region),
+            Counts::More(rows) => count_among(rows, region),
+        };
+        u64::from(count)
     }
 
     /// Whether some rows stand in a region that passes.

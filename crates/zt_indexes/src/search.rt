@@ -8,7 +8,7 @@ ghost use Rattle.std.specs.Map.{keys_of};
 ghost use Rattle.std.specs.Ordering.{eq_by_cmp};
 ghost use Rattle.zt_indexes.specs.Counted.{is_shown_in};
 ghost use Rattle.zt_indexes.specs.Grouped.{as_list, is_grouped, is_in};
-ghost use Rattle.zt_indexes.specs.Live.{counts_at, shown_keys};
+ghost use Rattle.zt_indexes.specs.Live.{count_at, counts_at, shown_keys};
 ghost use Rattle.zt_indexes.specs.Ordered.{ordered_entries};
 ghost use Rattle.zt_indexes.specs.Sought.{AreFound, is_found, is_found_plain, is_sought};
 
@@ -19,6 +19,7 @@ use crate::regions::RegionCounts;
 use std::alloc::Global;
 use std::collections::{HashMap, HashSet};
 use zt_keys::{Key, Memory};
+use zt_region::Region;
 
 /// Whether some row of the expression stands in a region that passes.
 pub fn is_shown_at<K: Key, T: RegionTest>(
@@ -31,6 +32,16 @@ pub fn is_shown_at<K: Key, T: RegionTest>(
     match keys.get(expr) {
         Some(counts) => counts.is_shown(test),
         None => false,
+    }
+}
+
+/// How many rows of the expression stand in the region.
+pub fn count_at<K: Key>(keys: &HashMap<K, RegionCounts>, region: Region, expr: &K) -> u64
+    ensures { result ≡ count_at K.cmp expr.now region keys.now.entries }
+{
+    match keys.get(expr) {
+        Some(counts) => counts.count(region),
+        None => 0,
     }
 }
 

@@ -1,39 +1,21 @@
 // Rows of calls as text: a line has a call and, behind ` = `, what it answers.
 use std::alloc::Global;
 use std::test::Fail;
-use zt_gateway::{Gateway, GatewayBuilder};
+use zt_gateway::GatewayBuilder;
 use zt_keys::{Key, KeyExpr};
 use zt_liveliness::{ApiError, Liveliness, Reply, Sample, Token};
-use zt_protocol::{CallError, Entry, Message, Refusal, Sent};
-use zt_region::{Bound, Region, WhatAmI, Zid};
+use zt_protocol::{Entry, Message, Sent};
+use zt_region::{Bound, WhatAmI, Zid};
 use zt_wire::{print_entry, read_sent};
 
 // Carries out a row of calls over a gateway without faces, and answers the first line whose call
 // answers something else, with that answer; the empty text where there is none.
 pub(crate) fn wrong_in(alloc: Global, mode: WhatAmI, row: &str) -> Result<String, Fail> {
-    let mut gateway = GatewayBuilder::new(alloc, mode, Zid(1))
+    let gateway = GatewayBuilder::new(alloc, mode, Zid(1))
         .timeout(10)
         .build::<KeyExpr>()?;
-    if !has_nothing(alloc, &mut gateway)? {
-        return Ok(String::from_str(alloc, "a new gateway has something")?);
-    }
     let mut engine = Box::new(alloc, Liveliness::new(alloc, gateway))?;
     first_wrong(alloc, &mut engine, row)
-}
-
-// Whether nothing waits in a new gateway, and its regions, which are known, have no declarers.
-fn has_nothing(alloc: Global, gateway: &mut Gateway<KeyExpr>) -> Result<bool, Fail> {
-    let unknown = Region::South {
-        id: 3,
-        mode: WhatAmI::Peer,
-    };
-    let refused = CallError::Refused(Refusal::NoSuchRegion);
-    Ok(
-        gateway.next_outbox(0).is_none()
-            && gateway.take_outbox(1).is_none()
-            && gateway.sourced_tokens(alloc, Region::Local)?.is_empty()
-            && gateway.sourced_tokens(alloc, unknown).err() == Some(refused),
-    )
 }
 
 fn first_wrong(alloc: Global, engine: &mut Liveliness<KeyExpr>, row: &str) -> Result<String, Fail> {

@@ -1,7 +1,7 @@
 // A gateway with its journal.
 ghost use Rattle.std.specs.Prelude.{◌≡◌, ◌+◌, ◌<◌, ◌≤◌, ◌^◌, ◌++◌, [], ◌∷◌, None, Ok, Some, length};
-ghost use Rattle.std.specs.Prelude.{map, option_map, slice_get, vec_capacity, vec_len, IfOk, OnErr};
-ghost use Rattle.std.specs.Prelude.{OnOk};
+ghost use Rattle.std.specs.Prelude.{map, option_map, slice_get, vec_capacity, vec_len, IfOk, IfSome};
+ghost use Rattle.std.specs.Prelude.{OnErr, OnOk};
 ghost use Rattle.zt_gateway.specs.Running.{by_face, planned, sent_alone};
 ghost use Rattle.zt_laws.specs.Sound.{CallHasFirstIds};
 ghost use Rattle.zt_model.specs.Journal.{cause_of, outcome_of};
@@ -14,7 +14,7 @@ use crate::copies::{copy_entry, sent_by};
 use crate::entries::{Journal, JournalEntry, Receipt};
 use std::alloc::Global;
 use std::marker::Model;
-use zt_gateway::{Gateway, Prepared};
+use zt_gateway::{Gateway, Lookups, Prepared};
 use zt_keys::{Key, Memory};
 use zt_protocol::{Call, CallError, Refusal};
 
@@ -164,6 +164,21 @@ impl<K: Key> Journaled<K> {
             Err(CallError::Refused(refusal)) => self.enter_refused(pass, call, refusal),
             Err(CallError::Memory) => Err(Memory),
         }
+    }
+
+    /// What the gateway keeps, to look things up in. `None` after a call that ran out of memory,
+    /// until the next call or `rebuild`.
+    pub fn lookups(&self) -> Option<Lookups<'_, K>>
+        ensures { IfSome result (λ lookups. lookups ≡ self.now.gateway.rows) }
+    {
+        self.gateway.lookups()
+    }
+
+    /// Rebuilds what the gateway keeps, if a call ran out of memory. `lookups` has an answer then.
+    pub fn rebuild(&mut self) -> Result<(), Memory>
+        ensures { self.new ≡ self.old }
+    {
+        self.gateway.rebuild()
     }
 
     /// An equal copy of the entry at the place. None exactly where the journal is no longer than

@@ -4,7 +4,7 @@ ghost use Rattle.std.specs.Prelude.{IfErr};
 ghost use Rattle.std.specs.List.{AllByRecursion, AllZip, Contains};
 ghost use Rattle.zt_gateway.specs.Running.{Running};
 ghost use Rattle.zt_laws.specs.Sound.{CallHasFirstIds};
-ghost use Rattle.zt_shared_value.specs.Account.{IsComplete, IsCounted};
+ghost use Rattle.zt_shared_value.specs.Account.{IsComplete, IsCounted, IsFoundIn};
 ghost use Rattle.zt_shared_value.specs.Passes.{first_pass, made_pass, pass_counted, pass_drawn};
 ghost use Rattle.zt_shared_value.specs.Passes.{pass_looked};
 ghost use Rattle.zt_protocol.specs.Plain.{plain_call};
@@ -44,7 +44,7 @@ impl<K: Key> Model for SharedGateway<K> {
 /// Fewer passes were handed in than were made. All of it comes back.
 #[derive(Drop)]
 pub struct CloseError<K: Key> {
-    /// How many numbers were drawn, as a pass that comes back found it.
+    /// How many numbers were drawn, as a pass found it in this call.
     pub made: u32,
     /// How many passes were handed in.
     pub handed: u32,
@@ -150,6 +150,8 @@ impl<K: Key> SharedGateway<K> {
         ensures fewer { IfErr result (λ error. error.handed < error.made) }
         ensures made { IfErr result (λ error.
             Contains (map (λ pass. pass.known) error.passes.items) error.made) }
+        ensures found { IfErr result (λ error.
+            IsFoundIn error.handed error.made passes.items error.passes.items) }
     {
         match self.shared.close(passes) {
             Ok(journaled) => Ok(journaled.into_journal()),

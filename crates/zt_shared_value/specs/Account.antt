@@ -1,5 +1,5 @@
 -- What the value that comes out of a table says of the passes that were handed in.
-use Rattle.std.specs.Prelude.{◌≡◌, ℕ, ◌<◌, ◌≤◌, List, length, slice_get, Some}
+use Rattle.std.specs.Prelude.{◌≡◌, ℕ, ◌<◌, ◌≤◌, List, ◌∷◌, drop, length, slice_get, take, Some}
 use Rattle.std.specs.List.{sum_by, AllByRecursion}
 use mathlib.Core.List.{IsPrefix}
 use Rattle.zt_shared_value.specs.Owned.{below, owned}
@@ -8,6 +8,17 @@ use Rattle.zt_shared_value.specs.Passes.{Standing, mine, pass_counted}
 -- the pass may have found how many numbers were drawn, and nothing else of it changed
 abbrev pub IsCounted : {S : Type 0} → Standing S → Standing S → Type 0
 IsCounted before after = (after ≡ pass_counted after.known before) × (before.known ≤ after.known)
+
+-- A pass found this count, which is more than `most`: those before it found no more than that, and those behind it are as
+-- they were.
+pub record IsFoundIn {S : Type 0} (most count : ℕ) (before after : List (Standing S)) : Type 0 where
+  pub place : ℕ
+  pub pass : Standing S
+  pub rest : List (Standing S)
+  pub stood : drop place before ≡ pass ∷ rest
+  pub found : drop place after ≡ pass_counted count pass ∷ rest
+  pub fewer : AllByRecursion (λ pass. pass.known ≤ most) (take place after)
+  pub more : most < count
 
 -- no pass is missing: none found more numbers than there are passes, or drew one past theirs
 abbrev pub IsComplete : {S : Type 0} → List (Standing S) → Type 0

@@ -1,7 +1,8 @@
 // The end of a shared value: its passes come together, and the value comes out.
-ghost use Rattle.std.specs.Prelude.{◌≡◌, ◌<◌, ◌≤◌, [], length, map, MatchOption, IfOk, IfErr};
+ghost use Rattle.std.specs.Prelude.{◌≡◌, ◌<◌, ◌≤◌, [], length, map, MatchOption, IfErr};
+ghost use Rattle.std.specs.Prelude.{IfOk, IfSome};
 ghost use Rattle.std.specs.List.{AllByRecursion, AllZip, Contains};
-ghost use Rattle.zt_shared_value.specs.Account.{IsCounted, IsComplete, AccountsForAll};
+ghost use Rattle.zt_shared_value.specs.Account.{AccountsForAll, IsComplete, IsCounted, IsFoundIn};
 ghost use Rattle.zt_shared_value.specs.Handed.{AreAllHanded, IsLeft};
 ghost use Rattle.zt_shared_value.specs.Passes.{pass_counted, part_of};
 ghost use Rattle.zt_shared_value.specs.Seats.{IsTable};
@@ -20,7 +21,7 @@ use std::snapshot::Snapshot;
 /// Fewer passes were handed in than were made. All of it comes back.
 #[derive(Drop)]
 pub struct CloseError<J: Recorder> {
-    /// How many numbers were drawn, as a pass that comes back found it.
+    /// How many numbers were drawn, as a pass found it in this call.
     pub made: u32,
     /// How many passes were handed in.
     pub handed: u32,
@@ -51,6 +52,8 @@ pub(crate) fn missing<J: Recorder>(top: &Top<J>, passes: &mut Vec<Pass<J>>) -> O
         (AllByRecursion (λ pass. pass.known ≤ length passes.new.items) passes.new.items)
         (λ made. (length passes.new.items < made)
         × Contains (map (λ pass. pass.known) passes.new.items) made) }
+    ensures found { IfSome result (λ made.
+        IsFoundIn (length passes.old.items) made passes.old.items passes.new.items) }
 {
     let handed = passes.len();
     for i in 0..handed {
@@ -111,6 +114,8 @@ impl<J: Recorder> SharedRecorder<J> {
         ensures fewer { IfErr result (λ error. error.handed < error.made) }
         ensures made { IfErr result (λ error.
             Contains (map (λ pass. pass.known) error.passes.items) error.made) }
+        ensures found { IfErr result (λ error.
+            IsFoundIn error.handed error.made passes.items error.passes.items) }
     {
         let mut passes = passes;
         match missing(&self.table.shared, &mut passes) {

@@ -1,5 +1,5 @@
 // A gateway with its faces.
-ghost use Rattle.std.specs.Prelude.{◌≡◌, ◌&&◌, [], filter, map, IfNone, IfOk, IfSome};
+ghost use Rattle.std.specs.Prelude.{◌≡◌, ◌&&◌, [], count_by, filter, map, IfNone, IfOk, IfSome};
 ghost use Rattle.std.specs.List.{flat_map};
 ghost use Rattle.std.specs.Option.{option_copied};
 ghost use Rattle.zt_faces.specs.Asked.{IsAskerOf};
@@ -10,7 +10,7 @@ ghost use Rattle.zt_model.specs.Parts.{find_face};
 ghost use Rattle.zt_model.specs.Trees.{counted_table, table_of};
 ghost use Rattle.zt_model.specs.Visible.{live_rows};
 ghost use Rattle.zt_model.specs.Wants.{seeks};
-ghost use Rattle.zt_indexes.specs.Rows.{AreCountsOf};
+ghost use Rattle.zt_indexes.specs.Rows.{AreCountsOf, is_row_at};
 ghost use Rattle.zt_interest_index.specs.Holders.{HasAllIn};
 ghost use Rattle.zt_token_index.specs.Seekers.{token_rows};
 ghost use Rattle.zt_token_index.specs.Retold.{told_id_at};
@@ -199,6 +199,14 @@ impl<K: Key> GatewayState<K> {
         ensures { AreCountsOf K.cmp result.now (live_rows self.now) }
     {
         &self.live
+    }
+
+    /// How many live tokens of the expression stand in the region: how many declare it there. A
+    /// look-up, which takes no memory.
+    pub fn declarers(&self, region: Region, expr: &K) -> u64
+        ensures { result ≡ count_by (is_row_at K.cmp expr.now region) (live_rows self.now) }
+    {
+        self.live.count(region, expr)
     }
 
     /// The live expressions that match the key can be looked for among few from here on, where
