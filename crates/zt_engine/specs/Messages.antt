@@ -1,11 +1,11 @@
 -- Messages as numbers, and the bytes of a key.
-use Rattle.std.specs.Prelude.{◌≡◌, ◌⊎◌, ◌==◌, ℕ, Bool, true, false, not, nat_lt, if◌then◌else◌, List, [], ◌∷◌, Option, Some, None, option_map, option_and_then, Result}
+use Rattle.std.specs.Prelude.{◌≡◌, ◌⊎◌, ◌==◌, ◌≤◌, ℕ, Bool, true, false, not, nat_lt, if◌then◌else◌, List, [], ◌∷◌, Option, Some, None, option_map, option_and_then, Result}
 use Rattle.zt_keys.specs.declared.error.KeyError.{KeyError}
 use Rattle.zt_protocol.specs.declared.interests.InterestMode.{InterestMode}
 use Rattle.zt_protocol.specs.declared.interests.InterestMode.TheVariants.{Current, Future, CurrentFuture}
 use Rattle.zt_protocol.specs.declared.messages.Message.{Message}
 use Rattle.zt_protocol.specs.declared.messages.Message.TheVariants.{DeclareToken, UndeclareToken, DeclareFinal, Interest, InterestFinal, DeclareSubscriber, DeclareQueryable}
-use Rattle.zt_engine.specs.Keys.{IsUnread, key_in}
+use Rattle.zt_engine.specs.Keys.{key_in}
 use Rattle.zt_engine.specs.declared.messages.MessageFields.{MessageFields}
 
 -- the numbers of a message that has none
@@ -44,6 +44,14 @@ key_of (Interest id mode options e) = e
 key_of (InterestFinal id) = None
 key_of (DeclareSubscriber id e interest) = Some e
 key_of (DeclareQueryable id e info interest) = Some e
+
+-- what a message keeps in one byte or two fits
+abbrev pub FitsItsBytes : {K : Type 0} → Message K → Type 0
+FitsItsBytes (DeclareToken id e interest node) = node ≤ 65535
+FitsItsBytes (UndeclareToken id e node) = node ≤ 65535
+FitsItsBytes (Interest id mode options e) = options.0 ≤ 255
+FitsItsBytes (DeclareQueryable id e info interest) = info.distance ≤ 65535
+FitsItsBytes message = Unit {0}
 
 -- ---- the message of numbers and a key
 
@@ -99,6 +107,10 @@ optional_key_in reading bytes = if is_empty bytes then Some None else option_map
 abbrev pub message_in : {K : Type 0} → (List ℕ → Result K KeyError) → MessageFields → List ℕ → Option (Message K)
 message_in reading f bytes = option_and_then (message_of f) (optional_key_in reading bytes)
 
+-- the status of a call with bytes that no key, nor none, was read of: they spell none, or memory ran out
+abbrev pub IsUnreadOptional : {K : Type 0} → (List ℕ → Result K KeyError) → List ℕ → ℕ → Type 0
+IsUnreadOptional reading bytes status = ((status ≡ 9) × (optional_key_in reading bytes ≡ None)) ⊎ (status ≡ 5)
+
 -- the status of a call with numbers and bytes that no message was read of
 abbrev pub IsUnreadMessage : {K : Type 0} → (List ℕ → Result K KeyError) → MessageFields → List ℕ → ℕ → Type 0
-IsUnreadMessage reading f bytes status = ((status ≡ 8) × (message_in reading f bytes ≡ None)) ⊎ IsUnread reading bytes status
+IsUnreadMessage reading f bytes status = ((status ≡ 8) × (message_in reading f bytes ≡ None)) ⊎ IsUnreadOptional reading bytes status

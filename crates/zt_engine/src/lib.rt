@@ -9,6 +9,7 @@
 mod commands;
 mod engine;
 mod keys;
+mod laws;
 mod making;
 mod messages;
 mod numbers;
@@ -19,6 +20,7 @@ pub use commands::{
     close_face, expire, open_session, open_uplink, receive, undeclare_subscriber, undeclare_token,
 };
 pub use engine::{Engine, new_liveliness};
+pub use laws::messages_are_read_back;
 pub use making::{declare_subscriber, declare_token, get};
 pub use messages::MessageFields;
 pub use receiving::{take_reply, take_sample, take_sent};

@@ -1,11 +1,10 @@
 // Messages as numbers, and the bytes of a key.
 ghost use Rattle.std.specs.Prelude.{◌≡◌, IfErr, IfOk, Some};
 ghost use Rattle.std.specs.Option.{option_copied};
-ghost use Rattle.zt_engine.specs.Keys.{IsUnread};
-ghost use Rattle.zt_engine.specs.Messages.{IsUnreadMessage, alone, fields_of, interest_of, key_of};
-ghost use Rattle.zt_engine.specs.Messages.{message_in, message_of, mode_number, mode_of};
-ghost use Rattle.zt_engine.specs.Messages.{optional_key_in, queryable_of, subscriber_of, token_of};
-ghost use Rattle.zt_engine.specs.Messages.{untoken_of};
+ghost use Rattle.zt_engine.specs.Messages.{FitsItsBytes, IsUnreadMessage, IsUnreadOptional};
+ghost use Rattle.zt_engine.specs.Messages.{alone, fields_of, interest_of, key_of, message_in};
+ghost use Rattle.zt_engine.specs.Messages.{message_of, mode_number, mode_of, optional_key_in};
+ghost use Rattle.zt_engine.specs.Messages.{queryable_of, subscriber_of, token_of, untoken_of};
 
 use crate::keys::key_in;
 use crate::status::BAD_ARGUMENT;
@@ -101,7 +100,8 @@ fn mode_of(number: u32) -> Option<InterestMode>
 
 // The numbers of a message.
 pub(crate) fn fields_of<K>(message: &Message<K>) -> MessageFields
-    ensures { result ≡ fields_of message.now }
+    ensures fields { result ≡ fields_of message.now }
+    ensures fits { FitsItsBytes message.now }
 {
     match message {
         Message::DeclareToken {
@@ -304,7 +304,7 @@ fn message_of<K: Key>(fields: &MessageFields, key: Option<K>) -> Option<Message<
 // The key that the bytes spell; where there are none, there is no key.
 fn optional_key_in<K: Key>(alloc: Global, bytes: &[u8]) -> Result<Option<K>, u32>
     ensures read { IfOk result (λ key. optional_key_in K.reading bytes.now ≡ Some key) }
-    ensures unread { IfErr result (IsUnread K.reading bytes.now) }
+    ensures unread { IfErr result (IsUnreadOptional K.reading bytes.now) }
 {
     if bytes.is_empty() {
         return Ok(None);

@@ -1,10 +1,10 @@
 // What sessions and uplinks are given: texts that go into a caller's buffer.
-ghost use Rattle.std.specs.Prelude.{◌≡◌, ◌==◌, if◌then◌else◌, Some, option_map};
+ghost use Rattle.std.specs.Prelude.{◌≡◌, ◌==◌, if◌then◌else◌, IfSome, Some, option_map};
 ghost use Rattle.std.specs.Option.{option_copied};
 ghost use Rattle.zt_engine.specs.Given.{buffer_after, fields_after, has_room, kind_after};
 ghost use Rattle.zt_engine.specs.Given.{length_after, reply_status, reply_text, sample_kind};
 ghost use Rattle.zt_engine.specs.Given.{sample_text, sent_text, waiting_status};
-ghost use Rattle.zt_engine.specs.Messages.{fields_of};
+ghost use Rattle.zt_engine.specs.Messages.{FitsItsBytes, fields_of};
 ghost use Rattle.zt_liveliness.specs.Lively.{TakeReply, TakeSample, TakeSent, left_after};
 ghost use Rattle.zt_liveliness.specs.Lively.{reply_of, sample_of, sent_of};
 
@@ -119,6 +119,7 @@ fn put_message(
 ) -> bool
     ensures room { result ≡ has_room (Some (sent_text message.now)) out.old }
     ensures fields { fields.new ≡ fields_of message.now }
+    ensures fits { FitsItsBytes message.now }
     ensures out { out.new ≡ buffer_after (Some (sent_text message.now)) out.old }
     ensures written { written.new ≡ length_after (Some (sent_text message.now)) written.old }
 {
@@ -145,6 +146,7 @@ pub fn take_sent(
         ≡ (if result == 0 then left_after ⟦<KeyExpr as Ord>⟧.cmp ⟦<KeyExpr as Key>⟧.matching
         (TakeSent uplink) engine.old else engine.old) }
     ensures fields { fields.new ≡ fields_after (sent_of uplink engine.old) fields.old }
+    ensures fits { IfSome (sent_of uplink engine.old) FitsItsBytes }
     ensures key { key.new
         ≡ buffer_after (option_map sent_text (sent_of uplink engine.old)) key.old }
     ensures length { length.new

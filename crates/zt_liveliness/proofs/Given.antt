@@ -26,7 +26,7 @@ use Rattle.zt_liveliness.specs.declared.errors.ApiError.{ApiError}
 use Rattle.zt_liveliness.proofs.Sent.{messages_for-by_face, messages_for-other_closed, messages_for-other_taken}
 
 -- no query is left that ended
-query_ended : (session id : ℕ) (qs : List Query) → has_query session id (without_query session id qs) ≡ false
+pub query_ended : (session id : ℕ) (qs : List Query) → has_query session id (without_query session id qs) ≡ false
 query_ended session id [] = refl
 query_ended session id (q ∷ qs) =
     by_test ((session == q.session) && (id == q.id)) (λ here. rw here (query_ended session id qs)) (λ here. rw (here, here) (query_ended session id qs))
@@ -117,7 +117,7 @@ module _ {K : Type 0} where
   answered_after id (m ∷ ms) xs ys same_ = answered_behind id m (ms ++ xs) (ms ++ ys) (answered_after id ms xs ys same_)
 
   -- what answers no open query doesn't answer this one
-  no_answer_of : (session id : ℕ) (s : ℕ × Message K) (qs : List Query) → has_query session id qs ≡ true → list_any (λ q. is_some (answer_for q.session q.id s)) qs ≡ false → is_some (answer_for session id s) ≡ false
+  pub no_answer_of : (session id : ℕ) (s : ℕ × Message K) (qs : List Query) → has_query session id qs ≡ true → list_any (λ q. is_some (answer_for q.session q.id s)) qs ≡ false → is_some (answer_for session id s) ≡ false
   no_answer_of session id s [] asks none = never asks refl
   no_answer_of session id s (q ∷ qs) asks none =
       by_test (is_some (answer_for q.session q.id s))
@@ -128,7 +128,7 @@ module _ {K : Type 0} where
       subst (λ (n : ℕ). is_some (answer_for n id s) ≡ false) (sym (eqb-true session q.session parts.0)) (subst (λ (i : ℕ). is_some (answer_for q.session i s) ≡ false) (sym (eqb-true id q.id parts.1)) answers))
       (λ own. no_answer_of session id s qs (rw own at asks) (rw answers at none)))
 
-  is_none : (o : Option (Option K)) → is_some o ≡ false → o ≡ None
+  pub is_none : (o : Option (Option K)) → is_some o ≡ false → o ≡ None
   is_none None no_ = refl
   is_none (Some answer) no_ = cc
 

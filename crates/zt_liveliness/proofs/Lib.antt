@@ -1,4 +1,5 @@
 mod Alike
+mod Asked
 mod AtOnce
 mod Counts
 mod Faces
@@ -6,8 +7,10 @@ mod Given
 mod Gone
 mod Hears
 mod Named
+mod Once
 mod Opened
 mod Seeing
 mod Sent
+mod Tidy
 mod Walks
 mod Well

@@ -133,7 +133,7 @@ module _ {K : Type 0} (cmp : K → K → Ordering) (matching : K → K → Bool)
     news_ids = each_weaker (λ one. one.subscriber ≤ made one.session) (λ one. one.subscriber ≤ most one.session) (λ one up. let more_ = more one.session in omega (arith, up, more_)) l.news w.news_ids;
   }
 
-  after_accepted : (c : PlainCall K) (g : Rows K) → cause_of cmp matching c g ≡ None → rows_after cmp matching c g ≡ rows_after_call cmp matching c g
+  pub after_accepted : (c : PlainCall K) (g : Rows K) → cause_of cmp matching c g ≡ None → rows_after cmp matching c g ≡ rows_after_call cmp matching c g
   unfolding rows_after
   after_accepted c g accepted = subst (λ (o : Option Refusal). (elim o [ None ↦ rows_after_call cmp matching c g | Some refusal ↦ g ]) ≡ rows_after_call cmp matching c g) (sym accepted) refl
 

@@ -1,19 +1,21 @@
 //! What holds over every list of calls.
-ghost use Rattle.std.specs.Prelude.{◌≡◌, ◌+◌, ◌&&◌, ◌++◌, ℕ, List, None, Some, false, filter, true};
+ghost use Rattle.std.specs.Prelude.{◌≡◌, ◌+◌, ◌&&◌, ◌++◌, ◌∷◌, [], ℕ, List, None};
+ghost use Rattle.std.specs.Prelude.{Some, false, filter, true};
 ghost use Rattle.zt_liveliness.specs.Lively.{Api, DeclareSubscriber, Get, Lively, error_in};
 ghost use Rattle.zt_liveliness.specs.Lively.{interests_made, left_after, reply_of, said_in};
-ghost use Rattle.zt_liveliness.specs.Replies.{answered, given_in, left_after_all, sent_to};
-ghost use Rattle.zt_liveliness.specs.Replies.{stands_through};
+ghost use Rattle.zt_liveliness.specs.Replies.{ComeOnce, answered, given_in, left_after_all};
+ghost use Rattle.zt_liveliness.specs.Replies.{replies_in, sent_to, stands_through};
 ghost use Rattle.zt_liveliness.specs.Subscribed.{IsReached, samples_sent, samples_so_far};
 ghost use Rattle.zt_liveliness.specs.Subscribed.{subscribed_through};
 ghost use Rattle.zt_liveliness.specs.declared.answers.Reply.TheVariants.{Done};
 ghost use Rattle.zt_model.specs.Hearing.{messages_for};
 ghost use Rattle.zt_model.specs.Parts.{find_face};
-ghost use Rattle.zt_model.specs.Promises.{answers_in};
+ghost use Rattle.zt_model.specs.Promises.{answers_in, are_new};
 ghost use Rattle.zt_model.specs.Rows.{Face};
 ghost use Rattle.zt_model.specs.Visible.{keeps, visible_expressions};
 ghost use Rattle.zt_model.specs.Wants.{is_about};
 ghost use Rattle.zt_samples.specs.Samples.{samples_for};
+ghost use Rattle.zt_theorem_replies.specs.Replies.{NothingFollowsFinal};
 ghost use Rattle.zt_theorem_samples.specs.Replayed.{replayed};
 
 use zt_keys::Key;
@@ -33,6 +35,28 @@ pub fn replies_are_what_is_sent<K: Key>()
         → reply_of session id (left_after_all K.cmp K.matching calls l) ≡ Done
         → given_in K.cmp K.matching session id calls l
         ≡ answered id (messages_for session l.waiting ++ sent_to K.cmp K.matching session calls l) }
+{}
+
+/// From `get` on, a session is sent each expression for its query at most once, even where the
+/// token was undeclared and declared again in between; after the final it is sent nothing more for
+/// the query. So it is given each expression once, and `Done` once: then the query is gone, as it
+/// is where its session was closed.
+pub fn replies_come_once<K: Key>()
+    ensures sent { (session : ℕ) (expr : K) (calls : List (Api K)) (l : Lively K)
+        → IsReached K.cmp K.matching l
+        → error_in K.cmp K.matching (Get session expr) l ≡ None
+        → are_new K.cmp K.matching [] (answers_in (interests_made session l + 1)
+        (sent_to K.cmp K.matching session (Get session expr ∷ calls) l)) ≡ true }
+    ensures last { (session : ℕ) (expr : K) (calls : List (Api K)) (l : Lively K)
+        → IsReached K.cmp K.matching l
+        → error_in K.cmp K.matching (Get session expr) l ≡ None
+        → NothingFollowsFinal (interests_made session l + 1)
+        (sent_to K.cmp K.matching session (Get session expr ∷ calls) l) }
+    ensures given { (session : ℕ) (expr : K) (calls : List (Api K)) (l : Lively K)
+        → IsReached K.cmp K.matching l
+        → error_in K.cmp K.matching (Get session expr) l ≡ None
+        → ComeOnce K.cmp [] (replies_in K.cmp K.matching session (interests_made session l + 1)
+        calls (left_after K.cmp K.matching (Get session expr) l)) }
 {}
 
 /// A query is sent in its own call exactly the matching expressions of tokens that its session may

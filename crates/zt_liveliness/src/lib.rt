@@ -6,7 +6,8 @@
 //! anything out. `specs/Lively.antt` says of each call why it is refused, which call of the gateway
 //! it makes and what it leaves. `replies_are_what_is_sent` says of every list of calls that a query
 //! is given what its session was sent for it, and `queries_are_answered_at_once` what that is in the
-//! query's own call.
+//! query's own call. `replies_come_once` says that each expression comes once, and nothing after the
+//! end.
 //!
 //! A subscriber with history begins with the tokens that are there; one without is given what its
 //! session is told from then on. `samples_are_what_is_sent` says what each is given, and
@@ -31,8 +32,8 @@ mod subscribing;
 pub use answers::{Reply, Token};
 pub use errors::{ApiError, UndeclareError};
 pub use laws::{
-    queries_are_answered_at_once, replies_are_what_is_sent, samples_are_what_is_sent,
-    subscribers_see_what_is_kept,
+    queries_are_answered_at_once, replies_are_what_is_sent, replies_come_once,
+    samples_are_what_is_sent, subscribers_see_what_is_kept,
 };
 pub use liveliness::Liveliness;
 pub use zt_samples::Sample;
