@@ -6,3 +6,5 @@
 mod driven;
 #[cfg(test)]
 mod sharing;
+#[cfg(test)]
+mod watched;
