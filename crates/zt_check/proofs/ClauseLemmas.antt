@@ -7,7 +7,7 @@ use Rattle.zt_model.specs.Parts.{is_routed}
 use Rattle.zt_model.specs.Promises.{turns_from}
 use Rattle.zt_model.specs.Rows.{Face, Rows}
 use Rattle.zt_model.specs.Transcript.{Each, FacesKeepWhatTheyShould, KeepsWhatItShould, fabric_shown}
-use Rattle.zt_check.specs.Clauses.{KeepsNoLess, KeepsNoMore}
+use Rattle.zt_check_keeping.specs.Bounds.{KeepsNoLess, KeepsNoMore}
 use Rattle.zt_check.specs.Laws.{IsFaithfulAndAnswers, MeetsEveryClause}
 
 module _ {K : Type 0} (cmp : K → K → Ordering) (matching : K → K → Bool) where

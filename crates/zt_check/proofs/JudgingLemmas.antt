@@ -13,9 +13,9 @@ use Rattle.zt_model.specs.Promises.{Turn, turns_from}
 use Rattle.zt_model.specs.Transcript.{Each, IsEntry, fabric_shown, messages_in, refusals_in, report_of}
 use Rattle.zt_check_trace.specs.Entries.{BeginsWithEntry, FindsEntry}
 use Rattle.zt_check_trace.proofs.MessageLemmas.{all_more}
-use Rattle.zt_check_fabric.specs.Placed.{IsPlaced}
 use Rattle.zt_check_fabric.proofs.Shown.{shown_placed}
-use Rattle.zt_check.specs.Clauses.{FailsFirst, MeetsAll, Tells, decided, is_decided, turn_of}
+use Rattle.zt_check.specs.Clauses.{FailsFirst, MeetsAll, decided, is_decided}
+use Rattle.zt_check.specs.Turns.{IsKept, Tells, turn_of}
 use Rattle.zt_check.proofs.TurnLemmas.{each_more, no_turns, shown_after, shown_more, turns_more}
 use Rattle.zt_check.specs.Judging.{BeginsWell, BeginsWithEntries, Breaks, Judges, JudgesDecided, JudgesTotals, StopsAt}
 use Rattle.zt_check.specs.Totals.{IsInRange, with_entry}
@@ -101,7 +101,7 @@ module _ {K : Type 0} (cmp : K → K → Ordering) (matching : K → K → Bool)
     pub range : IsInRange report
     pub met : Each (MeetsAll cmp matching decided) (turns_from cmp matching script entries empty_fabric)
     pub shown : shown_after cmp matching script entries empty_fabric ≡ s
-    pub placed : IsPlaced s
+    pub kept : IsKept cmp matching s
 
   pub underway_first : (lines : List (PlainLine K)) (claimed : List ℕ) (s : Fabric K) → s ≡ empty_fabric → IsUnderway lines claimed claimed no_totals 0 s
   underway_first lines claimed s none = record {
@@ -113,7 +113,7 @@ module _ {K : Type 0} (cmp : K → K → Ordering) (matching : K → K → Bool)
     range = record { messages_fit = omega arith; refusals_fit = omega arith };
     met = no_turns cmp matching (MeetsAll cmp matching decided) lines empty_fabric;
     shown = sym none;
-    placed = subst IsPlaced (sym none) (record { one = tt; made = tt });
+    kept = subst (IsKept cmp matching) (sym none) (record { placed = record { one = tt; made = tt }; no_more = tt; no_less = tt });
   }
 
   turn_after : (lines : List (PlainLine K)) (claimed rest : List ℕ) (report : Report) (done : ℕ) (s : Fabric K) (line : PlainLine K) (entry : PlainEntry K) → (under : IsUnderway lines claimed rest report done s)
@@ -143,7 +143,7 @@ module _ {K : Type 0} (cmp : K → K → Ordering) (matching : K → K → Bool)
         shown =
             shown_more cmp matching lines under.entries empty_fabric line entry (omega (arith, within, under.is_done)) here
             ∙ (ap (fabric_shown cmp matching line entry) under.shown ∙ sym shows);
-        placed = subst IsPlaced (sym shows) (shown_placed cmp matching line entry s under.placed);
+        kept = subst (IsKept cmp matching) (sym shows) (record { placed = shown_placed cmp matching line entry s under.kept.placed; no_more = meets.1.1.0; no_less = meets.1.1.1.0 });
       }
 
   begins_well : (lines : List (PlainLine K)) (claimed rest : List ℕ) (report : Report) (done : ℕ) (s : Fabric K) → (under : IsUnderway lines claimed rest report done s) → BeginsWell cmp matching printed decided lines claimed under.entries rest

@@ -1,18 +1,34 @@
 -- Turns, one after another, and the fabric that they show.
 use Rattle.std.proofs.Common.{◌≡◌, inl, inr, ℕ, zero, suc, ◌<◌, Bool, true, false, List, [], ◌∷◌, ◌++◌, length, get_or, map, None, Some, Ok, Err, refl, sym, ap, subst, ◌∙◌, arith}
 use Rattle.std.specs.Bool.{Decides}
-use Rattle.std.specs.Prelude.{Option}
+use Rattle.std.specs.Prelude.{Option, nat_lt, if◌then◌else◌}
 use Rattle.std.specs.declared.cmp.Ordering.{Ordering}
 use Rattle.std.proofs.lemmas.Bool.Decides.{not_from_Decides}
-use Rattle.zt_protocol.specs.Plain.{PlainEntry, PlainLine}
+use Rattle.std.proofs.lemmas.Cmp.{tied_itself}
+use Rattle.std.specs.Cmp.{IsTotalOrder}
+use Rattle.std.specs.Ordering.{is_eq}
+use Rattle.std.specs.declared.cmp.Ordering.TheVariants.{Less, Equal, Greater}
+use Rattle.zt_protocol.specs.Plain.{PlainEntry, PlainLine, Gateway, Session, Face as FaceLine, Link as LinkLine, Unlink, Step, Speak, Moment, SetTreesAt}
+use Rattle.zt_protocol.specs.Refusal.{number_of}
 use Rattle.zt_protocol.specs.declared.entries.Sent.{Sent}
 use Rattle.zt_protocol.specs.declared.errors.Refusal.{Refusal}
-use Rattle.zt_model.specs.Fabric.{Fabric, after_hearing, after_refusal, with_waiting}
+use Rattle.zt_model.specs.Fabric.{CallAt, Fabric, Link, after_hearing, after_refusal, call_of, with_waiting, without_message}
+use Rattle.zt_model.specs.Linking.{sending_end, with_taken}
+use Rattle.zt_model.specs.Lists.{nth, same}
 use Rattle.zt_model.specs.Promises.{Turn, turns_from}
+use Rattle.zt_model.specs.Rows.{Face, Rows}
 use Rattle.zt_model.specs.Transcript.{Each, IsEntry, IsRefusedByCause, fabric_shown, fabric_with}
 use Rattle.zt_check_fabric.specs.Placed.{IsPlaced}
 use Rattle.zt_check_fabric.proofs.Shown.{with_line_placed}
-use Rattle.zt_check.specs.Clauses.{IsLater, Tells, turn_of}
+use Rattle.zt_check_keeping.specs.Bounds.{EachPlainFace, KeepsNoLess, KeepsNoMore}
+use Rattle.zt_check_keeping.specs.Changed.{held_at, opened_by, tokens_by, unheld_at}
+use Rattle.zt_check_keeping.specs.Heard.{heard_by}
+use Rattle.zt_check_keeping.specs.Keeping.{are_no_less, are_no_more}
+use Rattle.zt_check_keeping.proofs.Bounded.{less_passes, more_passes}
+use Rattle.zt_check_keeping.proofs.Nodes.{Lists}
+use Rattle.zt_check_keeping.proofs.Turns.{Touches, turn_no_less, turn_no_more}
+use Rattle.zt_check.specs.Clauses.{Meets}
+use Rattle.zt_check.specs.Turns.{IsKept, Tells, TellsOf, bounds, first_failed, turn_of}
 use Rattle.zt_check.specs.declared.verdict.Clause.{Clause}
 use Rattle.zt_check.specs.declared.verdict.Clause.TheVariants.{Text, Cause, Upper, Lower, Answers, Finals}
 
@@ -65,15 +81,15 @@ module _ {K : Type 0} (cmp : K → K → Ordering) (matching : K → K → Bool)
   pub tells_cause : (t : Turn K) (b : Bool) → Decides b (IsRefusedByCause cmp matching t.line t.entry t.before) → b ≡ false → IsEntry t.entry → Tells cmp matching t (Some Cause)
   tells_cause t b decides fails text = inr (text, inl (refl, not_from_Decides b decides fails))
 
-  -- one that is meets both, whatever of the others is said to fail
-  pub tells_later : (t : Turn K) (failed : Option Clause) → IsRefusedByCause cmp matching t.line t.entry t.before → IsLater failed → IsEntry t.entry → Tells cmp matching t failed
-  tells_later t None cause later text = (text, (cause, tt))
-  tells_later t (Some Text) cause later text = absurd (yes_is_not_no later)
-  tells_later t (Some Cause) cause later text = absurd (yes_is_not_no later)
-  tells_later t (Some Upper) cause later text = (text, (cause, tt))
-  tells_later t (Some Lower) cause later text = (text, (cause, tt))
-  tells_later t (Some Answers) cause later text = (text, (cause, tt))
-  tells_later t (Some Finals) cause later text = (text, (cause, tt))
+  -- one that is meets both, and the others are told by themselves
+  pub tells_later : (t : Turn K) (failed : Option Clause) → IsRefusedByCause cmp matching t.line t.entry t.before → IsEntry t.entry → TellsOf cmp matching bounds t failed → Tells cmp matching t failed
+  tells_later t None cause text told = (text, (cause, told))
+  tells_later t (Some Text) cause text told = inr (text, inr (cause, told))
+  tells_later t (Some Cause) cause text told = inr (text, inr (cause, told))
+  tells_later t (Some Upper) cause text told = inr (text, inr (cause, told))
+  tells_later t (Some Lower) cause text told = inr (text, inr (cause, told))
+  tells_later t (Some Answers) cause text told = (text, (cause, told))
+  tells_later t (Some Finals) cause text told = (text, (cause, told))
 
   -- ---- the fabric after one turn
 
@@ -88,3 +104,78 @@ module _ {K : Type 0} (cmp : K → K → Ordering) (matching : K → K → Bool)
   pub refused_shown : (line : PlainLine K) (refusal : Refusal) (s : Fabric K) → after_refusal cmp matching line refusal s ≡ fabric_shown cmp matching line (Err refusal) s
   unfolding fabric_shown
   refused_shown line refusal s = refl
+
+  -- ---- what faces keep after one turn
+
+  -- a refused line changes nothing of it
+  pub refused_keeps : (P : Rows K → Face K → Type 0) (line : PlainLine K) (refusal : Refusal) (s : Fabric K) → EachPlainFace P s → EachPlainFace P (fabric_shown cmp matching line (Err refusal) s)
+  unfolding fabric_shown
+  refused_keeps P (Gateway mode zid regions south name timeout refused) refusal s each = each
+  refused_keeps P (Session gateway first) refusal s each = each
+  refused_keeps P (FaceLine gateway mode zid region bound first) refusal s each = each
+  refused_keeps P (LinkLine one two first back) refusal s each = each
+  refused_keeps P (Unlink link) refusal s each = each
+  refused_keeps P (Step link back) refusal s each = go (nat_lt 3 (number_of refusal))
+    where
+      taken : (found : Option Link) → EachPlainFace P (elim found [ None ↦ s | Some l ↦ with_taken (sending_end l back) s ])
+      taken None = each
+      taken (Some l) = each
+
+      go : (b : Bool) → EachPlainFace P (if b then without_message link back s else s)
+      go true = taken (nth link s.links)
+      go false = each
+  refused_keeps P (Speak call) refusal s each = each
+  refused_keeps P (Moment gateway now) refusal s each = each
+  refused_keeps P (SetTreesAt gateway region table) refusal s each = each
+
+  pub refused_bounds : (line : PlainLine K) (refusal : Refusal) (s : Fabric K) → IsKept cmp matching s → TellsOf cmp matching bounds (turn_of cmp matching line (Err refusal) s) None
+  refused_bounds line refusal s kept = (
+    refused_keeps (KeepsNoMore cmp matching) line refusal s kept.no_more,
+    (refused_keeps (KeepsNoLess cmp matching) line refusal s kept.no_less, tt),
+  )
+
+  -- the tests of both bounds say what they are to
+  bounds_tell : (t : Turn K) (more less answers finals : Bool) → (more ≡ true → Meets cmp matching t Upper) → (Meets cmp matching t Upper → more ≡ true) → (less ≡ true → Meets cmp matching t Lower)
+      → (Meets cmp matching t Lower → less ≡ true) → TellsOf cmp matching bounds t (first_failed more less answers finals)
+  bounds_tell t false less answers finals upper from_upper lower from_lower = inl (refl, λ meets. yes_is_not_no (sym (from_upper meets)))
+  bounds_tell t true false answers finals upper from_upper lower from_lower = inr (upper refl, inl (refl, λ meets. yes_is_not_no (sym (from_lower meets))))
+  bounds_tell t true true false finals upper from_upper lower from_lower = (upper refl, (lower refl, tt))
+  bounds_tell t true true true false upper from_upper lower from_lower = (upper refl, (lower refl, tt))
+  bounds_tell t true true true true upper from_upper lower from_lower = (upper refl, (lower refl, tt))
+
+  module _ (total : IsTotalOrder cmp) (equal_is_same : (a b : K) → cmp a b ≡ Equal → a ≡ b) where
+    itself : (e : K) → same cmp e e ≡ true
+    itself e = ap is_eq (tied_itself total e)
+
+    is_equal : (o : Ordering) → is_eq o ≡ true → o ≡ Equal
+    is_equal Less h = cc
+    is_equal Equal h = refl
+    is_equal Greater h = cc
+
+    exact : (a b : K) → same cmp a b ≡ true → a ≡ b
+    exact a b h = equal_is_same a b (is_equal (cmp a b) h)
+
+    -- an accepted line, by the lists of what it touches
+    pub accepted_bounds : (line : PlainLine K) (ms : List (Sent K)) (s carried after : Fabric K) (found : Option (CallAt K)) (tokens : List (ℕ × K)) (opened : List (ℕ × ℕ)) (held : List (ℕ × ℕ × ℕ)) (unheld : List (ℕ × ℕ)) (heard : List (ℕ × ℕ × K)) (more less answers finals : Bool)
+        → found ≡ call_of line s → tokens ≡ tokens_by line found s → opened ≡ opened_by line found s → held ≡ held_at found → unheld ≡ unheld_at found
+        → carried ≡ fabric_with cmp matching line ms s → heard ≡ heard_by carried ms → after ≡ fabric_shown cmp matching line (Ok ms) s
+        → more ≡ are_no_more cmp matching after tokens heard unheld → less ≡ are_no_less cmp matching after tokens heard opened held → IsKept cmp matching s
+        → TellsOf cmp matching bounds (turn_of cmp matching line (Ok ms) s) (first_failed more less answers finals)
+    accepted_bounds line ms s carried after found tokens opened held unheld heard more less answers finals found_is tokens_is opened_is held_is unheld_is carries heard_is shows more_is less_is kept =
+        let shown = fabric_shown cmp matching line (Ok ms) s in
+        let lists : Lists K = record { tokens = tokens; unheld = unheld; opened = opened; held = held } in
+        let placed = with_line_placed cmp matching line ms s kept.placed in
+        let touches : Touches cmp matching itself exact line ms s lists heard = record {
+          tokens = tokens_is ∙ ap (λ at. tokens_by line at s) found_is;
+          opened = opened_is ∙ ap (λ at. opened_by line at s) found_is;
+          held = held_is ∙ ap held_at found_is;
+          unheld = unheld_is ∙ ap unheld_at found_is;
+          heard_is = heard_is ∙ ap (λ (x : Fabric K). heard_by x ms) carries;
+        } in
+        let more_now : more ≡ are_no_more cmp matching shown tokens heard unheld = more_is ∙ ap (λ (x : Fabric K). are_no_more cmp matching x tokens heard unheld) shows in
+        let less_now : less ≡ are_no_less cmp matching shown tokens heard opened held = less_is ∙ ap (λ (x : Fabric K). are_no_less cmp matching x tokens heard opened held) shows in
+        bounds_tell (turn_of cmp matching line (Ok ms) s) more less answers finals
+        (λ passes. turn_no_more cmp matching itself exact line ms s lists heard touches placed (sym more_now ∙ passes) kept.no_more)
+        (λ meets. more_now ∙ more_passes cmp matching itself exact shown tokens heard unheld meets)
+        (λ passes. turn_no_less cmp matching itself exact line ms s lists heard touches placed (sym less_now ∙ passes) kept.no_less)
+        (λ meets. less_now ∙ less_passes cmp matching itself exact shown tokens heard opened held meets)

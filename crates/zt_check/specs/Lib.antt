@@ -4,3 +4,4 @@ pub mod Clauses
 pub mod Judging
 pub mod Checking
 pub mod Laws
+pub mod Turns

@@ -3,7 +3,7 @@ ghost use Rattle.std.specs.Prelude.{◌≡◌, IfOk, None, Ok};
 ghost use Rattle.zt_protocol.specs.Plain.{plain_entry, plain_line};
 ghost use Rattle.zt_model.specs.Transcript.{IsEntry, fabric_shown};
 ghost use Rattle.zt_check_fabric.specs.Placed.{IsPlaced};
-ghost use Rattle.zt_check.specs.Clauses.{IsLater, Tells, turn_of};
+ghost use Rattle.zt_check.specs.Turns.{IsKept, Tells, TellsOf, bounds, first_failed, turn_of};
 
 use crate::verdict::Clause;
 use std::alloc::Global;
@@ -16,7 +16,7 @@ use zt_protocol::{Entry, Line, Sent};
 
 // The first of these clauses, in their order, that a turn fails.
 fn first_failed(more: bool, less: bool, answers: bool, finals: bool) -> Option<Clause>
-    ensures { IsLater result }
+    ensures { result ≡ first_failed more less answers finals }
 {
     if !more {
         return Some(Clause::Upper);
@@ -40,7 +40,10 @@ fn judge_accepted<'a, K: Key>(
     line: &'a Line<K>,
     sents: &[Sent<K>],
 ) -> Result<Option<Clause>, Memory>
-    ensures later { IfOk result (λ failed. IsLater failed) }
+    ensures tells { IfOk result (λ failed. IsKept K.cmp K.matching fabric.old
+        → TellsOf K.cmp K.matching bounds
+        (turn_of K.cmp K.matching (plain_line line.now) (Ok sents.now) fabric.old)
+        failed) }
     ensures shown { IfOk result (λ failed. IsPlaced fabric.old → fabric.new
         ≡ fabric_shown K.cmp K.matching (plain_line line.now) (Ok sents.now) fabric.old) }
 {
@@ -67,7 +70,7 @@ pub(crate) fn judge_turn<'a, K: Key>(
     entry: &Entry<K>,
 ) -> Result<Option<Clause>, Memory>
     ensures tells { IfOk result (λ failed. IsEntry (plain_entry entry.now)
-        → Tells K.cmp K.matching
+        → IsKept K.cmp K.matching fabric.old → Tells K.cmp K.matching
         (turn_of K.cmp K.matching (plain_line line.now) (plain_entry entry.now) fabric.old)
         failed) }
     ensures shown { IfOk result (λ failed. failed ≡ None → IsPlaced fabric.old → fabric.new

@@ -1,1 +1,14 @@
 pub mod Asked
+pub mod Bounded
+pub mod Called
+pub mod Checked
+pub mod Gathering
+pub mod Going
+pub mod Hearing
+pub mod Kept
+pub mod Lines
+pub mod Members
+pub mod Nodes
+pub mod Standing
+pub mod Touched
+pub mod Turns

@@ -1,10 +1,10 @@
 -- What is looked at after a turn: pairs of a face and an expression, by the number of the gateway.
-use Rattle.std.specs.Prelude.{ℕ, Bool, true, ◌&&◌, ◌||◌, not, List, None, Some}
+use Rattle.std.specs.Prelude.{ℕ, Bool, true, ◌==◌, ◌&&◌, ◌||◌, not, List, None, Some}
 use Rattle.std.specs.List.{list_all}
 use Rattle.std.specs.declared.cmp.Ordering.{Ordering}
 use Rattle.zt_model.specs.Fabric.{Fabric}
 use Rattle.zt_model.specs.Lists.{nth}
-use Rattle.zt_model.specs.Parts.{find_face, is_routed}
+use Rattle.zt_model.specs.Parts.{is_routed}
 use Rattle.zt_model.specs.Rows.{Face, Rows}
 use Rattle.zt_model.specs.Seen.{is_owed, is_seen, is_seen_and_admitted, may_hear}
 use Rattle.zt_model.specs.Visible.{keeps}
@@ -16,9 +16,9 @@ use Rattle.zt_check_keeping.specs.declared.keeping.Bound.TheVariants.{Upper, Low
 abbrev pub at_gateway : {K : Type 0} → Fabric K → ℕ → (Rows K → Bool) → Bool
 at_gateway s n test = elim (nth n s.gateways) [ None ↦ true | Some node ↦ test node.rows ]
 
--- a test of a face outside router regions, where there is one
+-- a test of each face of a number outside router regions
 abbrev pub at_face : {K : Type 0} → ℕ → (Rows K → Face K → Bool) → Rows K → Bool
-at_face n test g = elim (find_face n g) [ None ↦ true | Some f ↦ is_routed g f || test g f ]
+at_face n test g = list_all (λ f. (not (n == f.number) || is_routed g f) || test g f) g.faces
 
 module _ {K : Type 0} (cmp : K → K → Ordering) (matching : K → K → Bool) where
   -- the face keeps the expression only if it is visible to it and it may hear of it

@@ -1,2 +1,5 @@
+pub mod Bounds
+pub mod Changed
+pub mod Heard
 pub mod Keeping
 pub mod Owing

@@ -1,18 +1,26 @@
 // What an accepted line itself changes, as far as it matters to what faces keep: read before it.
+ghost use Rattle.std.specs.Prelude.{◌≡◌, ◌∷◌, ◌++◌, [], IfOk, OnOk};
+ghost use Rattle.zt_protocol.specs.Plain.{plain_line};
+ghost use Rattle.zt_model.specs.Fabric.{closing_call};
+ghost use Rattle.zt_model.specs.Lists.{nth};
+ghost use Rattle.zt_check_fabric.specs.Made.{made_at};
+ghost use Rattle.zt_check_keeping.specs.Changed.{held_at, next_one, next_two, opened_at};
+ghost use Rattle.zt_check_keeping.specs.Changed.{opened_by, tokens_at, tokens_between, tokens_by};
+ghost use Rattle.zt_check_keeping.specs.Changed.{unheld_at};
+
+use crate::seeking::{add_held, add_opened, add_unheld, next_number};
+use crate::tokens::add_tokens;
 use std::alloc::Global;
 use zt_check_fabric::ShownFabric;
-use zt_check_faces::{ShownFace, ShownInterest};
-use zt_check_rows::ShownRows;
 use zt_keys::{Key, Memory};
 use zt_protocol::{Call, Line};
-use zt_region::Region;
 
 /// What a line changes, each under the number of its gateway.
 #[derive(Drop)]
 pub struct Changed<K: Key> {
     /// Expressions whose tokens may be there now and weren't, or were and aren't.
     pub tokens: Vec<(u32, K)>,
-    /// Faces that are new.
+    /// Faces that are new, and perhaps numbers of faces that aren't there.
     pub opened: Vec<(u32, u32)>,
     /// Faces that begin to hold an interest, with its id.
     pub held: Vec<(u32, u32, u32)>,
@@ -20,206 +28,224 @@ pub struct Changed<K: Key> {
     pub unheld: Vec<(u32, u32)>,
 }
 
-fn add_key<K: Key>(
+// Adds the tokens of a call that was found.
+fn add_tokens_at<'a, K: Key>(
     alloc: Global,
     tokens: &mut Vec<(u32, K)>,
+    fabric: &ShownFabric<'a, K>,
+    found: &Option<(u32, Call<K>)>,
+) -> Result<(), Memory>
+    ensures { OnOk result (tokens.new.items
+        ≡ tokens.old.items ++ tokens_at (made_at fabric.now found.now)) }
+{
+    let Some((gateway, call)) = found else {
+        return Ok(());
+    };
+    let Some(node) = fabric.node(*gateway) else {
+        return Ok(());
+    };
+    add_tokens(alloc, tokens, *gateway, node.rows(), call)
+}
+
+// The tokens of both faces of a link that closes.
+fn tokens_between<'a, K: Key>(
+    alloc: Global,
+    fabric: &ShownFabric<'a, K>,
+    link: u32,
+) -> Result<Vec<(u32, K)>, Memory>
+    ensures { IfOk result
+        (λ tokens. tokens.items ≡ tokens_between fabric.now (nth link fabric.now.links)) }
+{
+    let mut tokens = Vec::new(alloc);
+    let Some(link) = fabric.link(link) else {
+        return Ok(tokens);
+    };
+    let one = fabric.closing_call(alloc, link.one())?;
+    add_tokens_at(alloc, &mut tokens, fabric, &one)?;
+    let two = fabric.closing_call(alloc, link.two())?;
+    add_tokens_at(alloc, &mut tokens, fabric, &two)?;
+    Ok(tokens)
+}
+
+// The tokens of the one call of a line.
+fn tokens_at<'a, K: Key>(
+    alloc: Global,
+    fabric: &ShownFabric<'a, K>,
+    found: &Option<(u32, Call<K>)>,
+) -> Result<Vec<(u32, K)>, Memory>
+    ensures { IfOk result (λ tokens. tokens.items ≡ tokens_at (made_at fabric.now found.now)) }
+{
+    let mut tokens = Vec::new(alloc);
+    add_tokens_at(alloc, &mut tokens, fabric, found)?;
+    Ok(tokens)
+}
+
+// The expressions whose tokens a line may change.
+fn tokens_by<'a, K: Key>(
+    alloc: Global,
+    fabric: &ShownFabric<'a, K>,
+    line: &Line<K>,
+    found: &Option<(u32, Call<K>)>,
+) -> Result<Vec<(u32, K)>, Memory>
+    ensures { IfOk result (λ tokens. tokens.items
+        ≡ tokens_by (plain_line line.now) (made_at fabric.now found.now) fabric.now) }
+{
+    match line {
+        Line::Unlink { link } => tokens_between(alloc, fabric, *link),
+        _ => tokens_at(alloc, fabric, found),
+    }
+}
+
+// The face that the one call of a line opens.
+fn opened_at<'a, K: Key>(
+    alloc: Global,
+    fabric: &ShownFabric<'a, K>,
+    found: &Option<(u32, Call<K>)>,
+) -> Result<Vec<(u32, u32)>, Memory>
+    ensures { IfOk result (λ opened. opened.items ≡ opened_at (made_at fabric.now found.now)) }
+{
+    let mut opened = Vec::new(alloc);
+    let Some((gateway, call)) = found else {
+        return Ok(opened);
+    };
+    let Some(node) = fabric.node(*gateway) else {
+        return Ok(opened);
+    };
+    add_opened(&mut opened, *gateway, node.rows(), call)?;
+    Ok(opened)
+}
+
+// The face that a gateway makes next.
+fn add_next<'a, K: Key>(
+    opened: &mut Vec<(u32, u32)>,
+    fabric: &ShownFabric<'a, K>,
     gateway: u32,
-    expr: &K,
-) -> Result<(), Memory> {
-    tokens.push((gateway, expr.copy(alloc)?))?;
+) -> Result<(), Memory>
+    ensures { OnOk result (opened.new.items
+        ≡ opened.old.items ++ next_one gateway (nth gateway fabric.now.gateways)) }
+{
+    let Some(node) = fabric.node(gateway) else {
+        return Ok(());
+    };
+    let number = next_number(node.rows(), 1)?;
+    opened.push((gateway, number))?;
     Ok(())
 }
 
-// The token of an id.
-fn add_live<K: Key>(
-    alloc: Global,
-    tokens: &mut Vec<(u32, K)>,
+// The two faces that a gateway makes next.
+fn add_next_two<'a, K: Key>(
+    opened: &mut Vec<(u32, u32)>,
+    fabric: &ShownFabric<'a, K>,
     gateway: u32,
-    face: &ShownFace<K>,
-    id: u32,
-) -> Result<(), Memory> {
-    for row in face.live() {
-        if row.0 == id {
-            add_key(alloc, tokens, gateway, &row.1)?;
-        }
-    }
+) -> Result<(), Memory>
+    ensures { OnOk result (opened.new.items
+        ≡ opened.old.items ++ next_two gateway (nth gateway fabric.now.gateways)) }
+{
+    let Some(node) = fabric.node(gateway) else {
+        return Ok(());
+    };
+    let number = next_number(node.rows(), 1)?;
+    let after = next_number(node.rows(), 2)?;
+    opened.push((gateway, number))?;
+    opened.push((gateway, after))?;
     Ok(())
 }
 
-// All tokens of a face.
-fn add_all_live<K: Key>(
+// The faces that a link opens at its gateways.
+fn opened_between<'a, K: Key>(
     alloc: Global,
-    tokens: &mut Vec<(u32, K)>,
-    gateway: u32,
-    face: &ShownFace<K>,
-) -> Result<(), Memory> {
-    for row in face.live() {
-        add_key(alloc, tokens, gateway, &row.1)?;
-    }
-    Ok(())
+    fabric: &ShownFabric<'a, K>,
+    one: u32,
+    two: u32,
+) -> Result<Vec<(u32, u32)>, Memory>
+    ensures { IfOk result (λ opened. opened.items ≡ next_one one (nth one fabric.now.gateways)
+        ++ next_two two (nth two fabric.now.gateways)) }
+{
+    let mut opened = Vec::new(alloc);
+    add_next(&mut opened, fabric, one)?;
+    add_next_two(&mut opened, fabric, two)?;
+    Ok(opened)
 }
 
-// All tokens of a router region.
-fn add_routed<K: Key>(
+// The faces that a line opens.
+fn opened_by<'a, K: Key>(
     alloc: Global,
-    tokens: &mut Vec<(u32, K)>,
-    gateway: u32,
-    rows: &ShownRows<K>,
-    region: Region,
-) -> Result<(), Memory> {
-    for row in rows.routed() {
-        if region == row.region() {
-            add_key(alloc, tokens, gateway, row.expr())?;
-        }
+    fabric: &ShownFabric<'a, K>,
+    line: &Line<K>,
+    found: &Option<(u32, Call<K>)>,
+) -> Result<Vec<(u32, u32)>, Memory>
+    ensures { IfOk result (λ opened. opened.items
+        ≡ opened_by (plain_line line.now) (made_at fabric.now found.now) fabric.now) }
+{
+    match line {
+        Line::Link { one, two, .. } => opened_between(alloc, fabric, *one, *two),
+        _ => opened_at(alloc, fabric, found),
     }
-    Ok(())
 }
 
-// The tokens of a face that a call may change.
-fn add_of_face<K: Key>(
+// The face that begins to hold an interest by the one call of a line.
+fn held_at<'a, K: Key>(
     alloc: Global,
-    tokens: &mut Vec<(u32, K)>,
-    gateway: u32,
-    face: &ShownFace<K>,
-    call: &Call<K>,
-) -> Result<(), Memory> {
-    match call {
-        Call::DeclareToken { id, expr, .. } => {
-            add_key(alloc, tokens, gateway, expr)?;
-            add_live(alloc, tokens, gateway, face, *id)
-        }
-        Call::UndeclareToken { id, expr, .. } => {
-            if let Some(expr) = expr {
-                add_key(alloc, tokens, gateway, expr)?;
-            }
-            add_live(alloc, tokens, gateway, face, *id)
-        }
-        Call::CloseFace { .. } => add_all_live(alloc, tokens, gateway, face),
-        _ => Ok(()),
-    }
+    fabric: &ShownFabric<'a, K>,
+    found: &Option<(u32, Call<K>)>,
+) -> Result<Vec<(u32, u32, u32)>, Memory>
+    ensures { IfOk result (λ held. held.items ≡ held_at (made_at fabric.now found.now)) }
+{
+    let mut held = Vec::new(alloc);
+    let Some((gateway, call)) = found else {
+        return Ok(held);
+    };
+    let Some(_) = fabric.node(*gateway) else {
+        return Ok(held);
+    };
+    add_held(&mut held, *gateway, call)?;
+    Ok(held)
 }
 
-// The tokens that a call may change.
-fn add_tokens<K: Key>(
+// The face that holds an interest no more by it.
+fn unheld_at<'a, K: Key>(
     alloc: Global,
-    tokens: &mut Vec<(u32, K)>,
-    gateway: u32,
-    rows: &ShownRows<K>,
-    call: &Call<K>,
-) -> Result<(), Memory> {
-    match call {
-        Call::SetTrees { region, .. } => add_routed(alloc, tokens, gateway, rows, *region),
-        Call::DeclareToken { face, .. }
-        | Call::UndeclareToken { face, .. }
-        | Call::CloseFace { face } => match rows.face(*face) {
-            None => Ok(()),
-            Some(found) => add_of_face(alloc, tokens, gateway, found, call),
-        },
-        _ => Ok(()),
-    }
+    fabric: &ShownFabric<'a, K>,
+    found: &Option<(u32, Call<K>)>,
+) -> Result<Vec<(u32, u32)>, Memory>
+    ensures { IfOk result (λ unheld. unheld.items ≡ unheld_at (made_at fabric.now found.now)) }
+{
+    let mut unheld = Vec::new(alloc);
+    let Some((gateway, call)) = found else {
+        return Ok(unheld);
+    };
+    let Some(node) = fabric.node(*gateway) else {
+        return Ok(unheld);
+    };
+    add_unheld(&mut unheld, *gateway, node.rows(), call)?;
+    Ok(unheld)
 }
 
-impl<K: Key> Changed<K> {
-    // What a call changes at its gateway.
-    fn add_call(
-        &mut self,
-        alloc: Global,
-        gateway: u32,
-        rows: &ShownRows<K>,
-        call: &Call<K>,
-    ) -> Result<(), Memory> {
-        add_tokens(alloc, &mut self.tokens, gateway, rows, call)?;
-        match call {
-            Call::Interest { face, id, mode, .. } => {
-                if mode.is_future() {
-                    self.held.push((gateway, *face, *id))?;
-                }
-            }
-            Call::InterestFinal { face, .. } => self.unheld.push((gateway, *face))?,
-            Call::NewSession { .. } | Call::NewTransport { .. } => {
-                self.add_opened(gateway, rows, 1)?;
-            }
-            _ => {}
-        }
-        Ok(())
-    }
-
-    // The face that a gateway makes next but so many.
-    fn add_opened(&mut self, gateway: u32, rows: &ShownRows<K>, more: u32) -> Result<(), Memory> {
-        let Some(number) = rows.made().checked_add(more) else {
-            return Err(Memory);
-        };
-        self.opened.push((gateway, number))?;
-        Ok(())
-    }
-
-    // What the call of a line changes.
-    fn add_found<'a>(
-        &mut self,
-        alloc: Global,
-        fabric: &ShownFabric<'a, K>,
-        found: &Option<(u32, Call<K>)>,
-    ) -> Result<(), Memory> {
-        let Some((gateway, call)) = found else {
-            return Ok(());
-        };
-        let Some(node) = fabric.node(*gateway) else {
-            return Ok(());
-        };
-        self.add_call(alloc, *gateway, node.rows(), call)
-    }
-
-    // The faces that a link opens.
-    fn add_link<'a>(
-        &mut self,
-        fabric: &ShownFabric<'a, K>,
-        one: u32,
-        two: u32,
-    ) -> Result<(), Memory> {
-        if let Some(node) = fabric.node(one) {
-            self.add_opened(one, node.rows(), 1)?;
-        }
-        if let Some(node) = fabric.node(two) {
-            let more = if one == two { 2 } else { 1 };
-            self.add_opened(two, node.rows(), more)?;
-        }
-        Ok(())
-    }
-
-    // The tokens of the faces that a link closes.
-    fn add_unlink<'a>(
-        &mut self,
-        alloc: Global,
-        fabric: &ShownFabric<'a, K>,
-        link: u32,
-    ) -> Result<(), Memory> {
-        let Some(link) = fabric.link(link) else {
-            return Ok(());
-        };
-        let one = fabric.closing_call(alloc, link.one())?;
-        self.add_found(alloc, fabric, &one)?;
-        let two = fabric.closing_call(alloc, link.two())?;
-        self.add_found(alloc, fabric, &two)
-    }
-}
-
-/// What an accepted line changes of a fabric, whose call is `found`.
+/// What an accepted line changes of a fabric, whose call is `found`. The only error is an allocation
+/// that fails, as which counts that the numbers of faces are given out.
 pub fn changed_by<'a, K: Key>(
     alloc: Global,
     fabric: &ShownFabric<'a, K>,
     line: &Line<K>,
     found: &Option<(u32, Call<K>)>,
-) -> Result<Changed<K>, Memory> {
-    let mut changed = Changed {
-        tokens: Vec::new(alloc),
-        opened: Vec::new(alloc),
-        held: Vec::new(alloc),
-        unheld: Vec::new(alloc),
-    };
-    match line {
-        Line::Link { one, two, .. } => changed.add_link(fabric, *one, *two)?,
-        Line::Unlink { link } => changed.add_unlink(alloc, fabric, *link)?,
-        _ => changed.add_found(alloc, fabric, found)?,
-    }
-    Ok(changed)
+) -> Result<Changed<K>, Memory>
+    ensures tokens { IfOk result (λ changed. changed.tokens.items
+        ≡ tokens_by (plain_line line.now) (made_at fabric.now found.now) fabric.now) }
+    ensures opened { IfOk result (λ changed. changed.opened.items
+        ≡ opened_by (plain_line line.now) (made_at fabric.now found.now) fabric.now) }
+    ensures held { IfOk result
+        (λ changed. changed.held.items ≡ held_at (made_at fabric.now found.now)) }
+    ensures unheld { IfOk result
+        (λ changed. changed.unheld.items ≡ unheld_at (made_at fabric.now found.now)) }
+{
+    let tokens = tokens_by(alloc, fabric, line, found)?;
+    let opened = opened_by(alloc, fabric, line, found)?;
+    let held = held_at(alloc, fabric, found)?;
+    let unheld = unheld_at(alloc, fabric, found)?;
+    Ok(Changed {
+        tokens,
+        opened,
+        held,
+        unheld,
+    })
 }

@@ -1,6 +1,11 @@
 // What printed messages change of what faces keep: read before they are heard.
+ghost use Rattle.std.specs.Prelude.{◌≡◌, ◌∷◌, ◌++◌, [], IfOk, OnOk};
+ghost use Rattle.zt_model.specs.Lists.{nth};
+ghost use Rattle.zt_check_keeping.specs.Heard.{heard_among, heard_at, heard_by, heard_of};
+ghost use Rattle.zt_check_keeping.specs.Heard.{heard_there, told_under};
+
 use std::alloc::Global;
-use zt_check_fabric::ShownFabric;
+use zt_check_fabric::{ShownFabric, ShownPlace};
 use zt_check_faces::ShownFace;
 use zt_keys::{Key, Memory};
 use zt_protocol::{Message, Sent};
@@ -18,68 +23,167 @@ fn add_key<K: Key>(
     gateway: u32,
     face: u32,
     expr: &K,
-) -> Result<(), Memory> {
-    tokens.push((gateway, face, expr.copy(alloc)?))?;
+) -> Result<(), Memory>
+    ensures { OnOk result
+        (tokens.new.items ≡ tokens.old.items ++ (gateway, face, expr.now) ∷ []) }
+{
+    let copy = expr.copy(alloc)?;
+    tokens.push((gateway, face, copy))?;
     Ok(())
 }
 
-// What the face was told under an id.
+fn add_told_row<K: Key>(
+    alloc: Global,
+    tokens: &mut Vec<(u32, u32, K)>,
+    gateway: u32,
+    face: u32,
+    id: u32,
+    row: &(u32, K),
+) -> Result<(), Memory>
+    ensures { OnOk result
+        (tokens.new.items ≡ tokens.old.items ++ told_under gateway face id (row.now ∷ [])) }
+{
+    if id != row.0 {
+        return Ok(());
+    }
+    add_key(alloc, tokens, gateway, face, &row.1)
+}
+
+// What a face was told under an id.
 fn add_told<K: Key>(
     alloc: Global,
     tokens: &mut Vec<(u32, u32, K)>,
     gateway: u32,
-    face: &ShownFace<K>,
+    face: u32,
     id: u32,
-) -> Result<(), Memory> {
-    for row in face.told() {
-        if row.0 == id {
-            add_key(alloc, tokens, gateway, face.number(), &row.1)?;
-        }
+    told: &[(u32, K)],
+) -> Result<(), Memory>
+    ensures { OnOk result
+        (tokens.new.items ≡ tokens.old.items ++ told_under gateway face id told.now) }
+{
+    for row in told {
+        add_told_row(alloc, tokens, gateway, face, id, row)?;
     }
     Ok(())
 }
 
-// What a message says of tokens.
+// What a message says of tokens to a face that was told these.
 fn add_message<K: Key>(
     alloc: Global,
     tokens: &mut Vec<(u32, u32, K)>,
     gateway: u32,
-    face: &ShownFace<K>,
+    face: u32,
+    told: &[(u32, K)],
     message: &Message<K>,
-) -> Result<(), Memory> {
+) -> Result<(), Memory>
+    ensures { OnOk result (tokens.new.items
+        ≡ tokens.old.items ++ heard_of gateway face told.now message.now) }
+{
     match message {
         Message::DeclareToken { id, expr, .. } => {
             if *id == 0 {
                 return Ok(());
             }
-            add_key(alloc, tokens, gateway, face.number(), expr)
+            add_key(alloc, tokens, gateway, face, expr)
         }
         Message::UndeclareToken {
             expr: Some(expr),
             ..
-        } => add_key(alloc, tokens, gateway, face.number(), expr),
+        } => add_key(alloc, tokens, gateway, face, expr),
         Message::UndeclareToken { id, expr: None, .. } => {
-            add_told(alloc, tokens, gateway, face, *id)
+            add_told(alloc, tokens, gateway, face, *id, told)
         }
-        _ => Ok(()),
+        Message::DeclareFinal { .. }
+        | Message::Interest { .. }
+        | Message::InterestFinal { .. }
+        | Message::DeclareSubscriber { .. }
+        | Message::DeclareQueryable { .. } => Ok(()),
     }
 }
 
-/// What messages change of what faces keep, over the fabric that doesn't hear them yet.
+fn add_face<K: Key>(
+    alloc: Global,
+    tokens: &mut Vec<(u32, u32, K)>,
+    gateway: u32,
+    number: u32,
+    message: &Message<K>,
+    face: &ShownFace<K>,
+) -> Result<(), Memory>
+    ensures { OnOk result (tokens.new.items
+        ≡ tokens.old.items ++ heard_among gateway number message.now (face.now ∷ [])) }
+{
+    if number != face.number() {
+        return Ok(());
+    }
+    add_message(alloc, tokens, gateway, number, face.told(), message)
+}
+
+// By the faces of a number.
+fn add_faces<K: Key>(
+    alloc: Global,
+    tokens: &mut Vec<(u32, u32, K)>,
+    gateway: u32,
+    number: u32,
+    message: &Message<K>,
+    faces: &[ShownFace<K>],
+) -> Result<(), Memory>
+    ensures { OnOk result (tokens.new.items
+        ≡ tokens.old.items ++ heard_among gateway number message.now faces.now) }
+{
+    for face in faces {
+        add_face(alloc, tokens, gateway, number, message, face)?;
+    }
+    Ok(())
+}
+
+// By the place of a face.
+fn add_place<'a, K: Key>(
+    alloc: Global,
+    tokens: &mut Vec<(u32, u32, K)>,
+    fabric: &ShownFabric<'a, K>,
+    message: &Message<K>,
+    place: &ShownPlace,
+) -> Result<(), Memory>
+    ensures { OnOk result (tokens.new.items
+        ≡ tokens.old.items ++ heard_at place.now.gateway place.now.face message.now
+        (nth place.now.gateway fabric.now.gateways)) }
+{
+    match fabric.node(place.gateway()) {
+        None => Ok(()),
+        Some(node) => {
+            let faces = node.rows().faces();
+            add_faces(alloc, tokens, place.gateway(), place.face(), message, faces)
+        }
+    }
+}
+
+fn add_sent<'a, K: Key>(
+    alloc: Global,
+    tokens: &mut Vec<(u32, u32, K)>,
+    fabric: &ShownFabric<'a, K>,
+    sent: &Sent<K>,
+) -> Result<(), Memory>
+    ensures { OnOk result (tokens.new.items ≡ tokens.old.items
+        ++ heard_there fabric.now sent.now.message (nth sent.now.face fabric.now.faces)) }
+{
+    match fabric.place(sent.face) {
+        None => Ok(()),
+        Some(place) => add_place(alloc, tokens, fabric, &sent.message, place),
+    }
+}
+
+/// What messages change of what faces keep, over the fabric that doesn't hear them yet. The only
+/// error is an allocation that fails.
 pub fn heard_by<'a, K: Key>(
     alloc: Global,
     fabric: &ShownFabric<'a, K>,
     sents: &[Sent<K>],
-) -> Result<Heard<K>, Memory> {
+) -> Result<Heard<K>, Memory>
+    ensures { IfOk result (λ heard. heard.tokens.items ≡ heard_by fabric.now sents.now) }
+{
     let mut tokens = Vec::new(alloc);
     for sent in sents {
-        if let Some(place) = fabric.place(sent.face) {
-            if let Some(node) = fabric.node(place.gateway()) {
-                if let Some(face) = node.rows().face(place.face()) {
-                    add_message(alloc, &mut tokens, place.gateway(), face, &sent.message)?;
-                }
-            }
-        }
+        add_sent(alloc, &mut tokens, fabric, sent)?;
     }
     Ok(Heard { tokens })
 }

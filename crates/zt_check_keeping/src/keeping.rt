@@ -1,6 +1,7 @@
 // What faces keep after a turn.
-ghost use Rattle.std.specs.Prelude.{◌≡◌, ◌&&◌, None, Some};
+ghost use Rattle.std.specs.Prelude.{◌≡◌, ◌==◌, ◌&&◌, ◌||◌, not, None, Some};
 ghost use Rattle.std.specs.List.{list_all};
+ghost use Rattle.zt_model.specs.Parts.{is_routed};
 ghost use Rattle.zt_model.specs.Seen.{may_hear};
 ghost use Rattle.zt_check_keeping.specs.Keeping.{are_no_less, are_no_more, at_face, at_gateway};
 ghost use Rattle.zt_check_keeping.specs.Keeping.{changed_are_kept, faces_keep_rightly};
@@ -12,7 +13,7 @@ ghost use Rattle.zt_check_keeping.specs.Owing.{keeps_all};
 
 use crate::changed::Changed;
 use crate::heard::Heard;
-use crate::owing::{keeps_asked, keeps_everything};
+use crate::owing::keeps_all;
 use crate::seen::{has_expression, is_owed, is_seen, is_seen_and_admitted, may_hear};
 use zt_check_fabric::ShownFabric;
 use zt_check_faces::ShownFace;
@@ -110,15 +111,31 @@ fn changed_are_kept<'a, K: Key>(
     true
 }
 
-// Of a token of which it heard a face of the number keeps what it should.
-fn face_keeps_bound<K: Key>(bound: Bound, rows: &ShownRows<K>, face: u32, expr: &K) -> bool
-    ensures { result ≡ at_face face
+// Of a token of which it heard the face keeps what it should, if it is of the number.
+fn is_kept<K: Key>(
+    bound: Bound,
+    rows: &ShownRows<K>,
+    face: &ShownFace<K>,
+    number: u32,
+    expr: &K,
+) -> bool
+    ensures { result ≡ ((not (number == face.now.number) || is_routed rows.now face.now)
+        || keeps_bound K.cmp K.matching bound rows.now face.now expr.now) }
+{
+    number != face.number() || rows.is_routed(face) || keeps_bound(bound, rows, face, expr)
+}
+
+// Of a token of which they heard faces of the number keep what they should.
+fn face_keeps_bound<K: Key>(bound: Bound, rows: &ShownRows<K>, number: u32, expr: &K) -> bool
+    ensures { result ≡ at_face number
         (λ g f. keeps_bound K.cmp K.matching bound g f expr.now) rows.now }
 {
-    match rows.face(face) {
-        None => true,
-        Some(found) => rows.is_routed(found) || keeps_bound(bound, rows, found, expr),
+    for face in rows.faces() {
+        if !is_kept(bound, rows, face, number, expr) {
+            return false;
+        }
     }
+    true
 }
 
 // Of a token of which it heard a face keeps what it should.
@@ -163,14 +180,24 @@ fn may_hear_all<K: Key>(face: &ShownFace<K>, told: &[(u32, K)]) -> bool
     true
 }
 
-// A face of the number may hear of all that it keeps.
-fn face_may_hear_all<K: Key>(rows: &ShownRows<K>, face: u32) -> bool
-    ensures { result ≡ at_face face (λ g f. may_hear_all K.cmp K.matching f) rows.now }
+// The face may hear of all that it keeps, if it is of the number.
+fn is_hearing<K: Key>(rows: &ShownRows<K>, face: &ShownFace<K>, number: u32) -> bool
+    ensures { result ≡ ((not (number == face.now.number) || is_routed rows.now face.now)
+        || may_hear_all K.cmp K.matching face.now) }
 {
-    match rows.face(face) {
-        None => true,
-        Some(found) => rows.is_routed(found) || may_hear_all(found, found.told()),
+    number != face.number() || rows.is_routed(face) || may_hear_all(face, face.told())
+}
+
+// Faces of the number may hear of all that they keep.
+fn face_may_hear_all<K: Key>(rows: &ShownRows<K>, number: u32) -> bool
+    ensures { result ≡ at_face number (λ g f. may_hear_all K.cmp K.matching f) rows.now }
+{
+    for face in rows.faces() {
+        if !is_hearing(rows, face, number) {
+            return false;
+        }
     }
+    true
 }
 
 // A face that holds an interest no more may hear of all that it keeps.
@@ -183,14 +210,30 @@ fn unheld_may_hear<'a, K: Key>(fabric: &ShownFabric<'a, K>, at: &(u32, u32)) -> 
     }
 }
 
-// A face of the number keeps all that is owed to it.
-fn face_keeps_all<K: Key>(rows: &ShownRows<K>, face: u32) -> bool
-    ensures { result ≡ at_face face (λ g f. keeps_all K.cmp K.matching g f None) rows.now }
+// The face keeps all that is owed to it, of what the interest of an id concerns where one is given,
+// if it is of the number.
+fn is_keeping<K: Key>(
+    rows: &ShownRows<K>,
+    face: &ShownFace<K>,
+    number: u32,
+    id: Option<u32>,
+) -> bool
+    ensures { result ≡ ((not (number == face.now.number) || is_routed rows.now face.now)
+        || keeps_all K.cmp K.matching rows.now face.now id) }
 {
-    match rows.face(face) {
-        None => true,
-        Some(found) => rows.is_routed(found) || keeps_everything(rows, found),
+    number != face.number() || rows.is_routed(face) || keeps_all(rows, face, id)
+}
+
+// Faces of the number do.
+fn face_keeps_all<K: Key>(rows: &ShownRows<K>, number: u32, id: Option<u32>) -> bool
+    ensures { result ≡ at_face number (λ g f. keeps_all K.cmp K.matching g f id) rows.now }
+{
+    for face in rows.faces() {
+        if !is_keeping(rows, face, number, id) {
+            return false;
+        }
     }
+    true
 }
 
 // A new face keeps all that is owed to it.
@@ -199,17 +242,7 @@ fn opened_keeps_all<'a, K: Key>(fabric: &ShownFabric<'a, K>, at: &(u32, u32)) ->
 {
     match fabric.node(at.0) {
         None => true,
-        Some(node) => face_keeps_all(node.rows(), at.1),
-    }
-}
-
-// A face of the number keeps what its interest of the id concerns.
-fn face_keeps_asked<K: Key>(rows: &ShownRows<K>, face: u32, id: u32) -> bool
-    ensures { result ≡ at_face face (λ g f. keeps_all K.cmp K.matching g f (Some id)) rows.now }
-{
-    match rows.face(face) {
-        None => true,
-        Some(found) => rows.is_routed(found) || keeps_asked(rows, found, id),
+        Some(node) => face_keeps_all(node.rows(), at.1, None),
     }
 }
 
@@ -219,7 +252,7 @@ fn holder_keeps<'a, K: Key>(fabric: &ShownFabric<'a, K>, at: &(u32, u32, u32)) -
 {
     match fabric.node(at.0) {
         None => true,
-        Some(node) => face_keeps_asked(node.rows(), at.1, at.2),
+        Some(node) => face_keeps_all(node.rows(), at.1, Some(at.2)),
     }
 }
 

@@ -9,7 +9,9 @@ mod changed;
 mod heard;
 mod keeping;
 mod owing;
+mod seeking;
 mod seen;
+mod tokens;
 
 pub use changed::{Changed, changed_by};
 pub use heard::{Heard, heard_by};

@@ -1,5 +1,5 @@
 // Whether a face keeps all that is owed to it.
-ghost use Rattle.std.specs.Prelude.{◌≡◌, None, Some};
+ghost use Rattle.std.specs.Prelude.{◌≡◌};
 ghost use Rattle.std.specs.List.{list_all};
 ghost use Rattle.zt_check_keeping.specs.Owing.{is_asked, is_concerned, keeps_all};
 ghost use Rattle.zt_check_keeping.specs.Owing.{keeps_concerned, keeps_declared, keeps_of_faces};
@@ -104,25 +104,11 @@ fn keeps_of_routers<K: Key>(
     true
 }
 
-// Whether a face keeps all tokens that are admitted and owed to it, of those that the
-// interest of an id concerns, where one is given.
-fn keeps_all<K: Key>(rows: &ShownRows<K>, face: &ShownFace<K>, id: Option<u32>) -> bool
+/// Whether a face keeps all tokens that are admitted and owed to it, of those that the
+/// interest of an id concerns, where one is given.
+pub(crate) fn keeps_all<K: Key>(rows: &ShownRows<K>, face: &ShownFace<K>, id: Option<u32>) -> bool
     ensures { result ≡ keeps_all K.cmp K.matching rows.now face.now id }
 {
     keeps_of_faces(rows.refused(), face, id, rows.faces())
         && keeps_of_routers(rows, face, id, rows.routed())
-}
-
-/// Whether a face keeps all tokens that are admitted and owed to it.
-pub(crate) fn keeps_everything<K: Key>(rows: &ShownRows<K>, face: &ShownFace<K>) -> bool
-    ensures { result ≡ keeps_all K.cmp K.matching rows.now face.now None }
-{
-    keeps_all(rows, face, None)
-}
-
-/// Whether a face keeps what the interest of an id concerns.
-pub(crate) fn keeps_asked<K: Key>(rows: &ShownRows<K>, face: &ShownFace<K>, id: u32) -> bool
-    ensures { result ≡ keeps_all K.cmp K.matching rows.now face.now (Some id) }
-{
-    keeps_all(rows, face, Some(id))
 }

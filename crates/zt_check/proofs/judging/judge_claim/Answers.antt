@@ -25,7 +25,7 @@ loop-line-preserved g c =
     let next : BeginsWithEntry g.K.Key.printed (c.loop-line.report.lines + 1) c.loop-line.rest.now (plain_entry c.in-Some.entry) c.in-Some.behind.now = rw c.in-Some.is at c.in_ok-entry.ensures in
     underway_next g.K.Ord.cmp g.K.Key.matching g.K.Key.printed (map plain_line lines) c.args.claimed.now c.loop-line.rest.now c.loop-line.report c.count.new.report i (c.loop-line.report.lines + 1)
     c.loop-line.fabric c.judge_turn.new.fabric (plain_line c.line-item.result) (plain_entry c.in-Some.entry) c.in-Some.behind.now c.loop-line.invariant within at refl next c.count.ensures.counted c.count.ensures.range
-    ((rw c.in_default-failed.is at c.in_ok-failed.ensures.tells) next.is_entry) (c.in_ok-failed.ensures.shown c.in_default-failed.is c.loop-line.invariant.placed)
+    ((rw c.in_default-failed.is at c.in_ok-failed.ensures.tells) next.is_entry c.loop-line.invariant.kept) (c.in_ok-failed.ensures.shown c.in_default-failed.is c.loop-line.invariant.kept.placed)
 
 pub returns : goal.returns
 returns g c =
@@ -45,4 +45,4 @@ returns-in-Some-failed g c =
     let next : BeginsWithEntry g.K.Key.printed (c.loop-line.report.lines + 1) c.loop-line.rest.now (plain_entry c.in-Some.entry) c.in-Some.behind.now = rw c.in-Some.is at c.in_ok-entry.ensures in
     underway_stops g.K.Ord.cmp g.K.Key.matching g.K.Key.printed (map plain_line lines) c.args.claimed.now c.loop-line.rest.now c.loop-line.report i (c.loop-line.report.lines + 1)
     c.loop-line.fabric (plain_line c.line-item.result) (plain_entry c.in-Some.entry) c.in-Some.behind.now c.in-Some-failed.clause c.loop-line.invariant within at refl next
-    ((rw c.in-Some-failed.is at c.in_ok-failed.ensures.tells) next.is_entry)
+    ((rw c.in-Some-failed.is at c.in_ok-failed.ensures.tells) next.is_entry c.loop-line.invariant.kept)

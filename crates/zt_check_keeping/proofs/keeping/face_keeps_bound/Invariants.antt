@@ -1,0 +1,11 @@
+use Rattle.std.proofs.Common.{◌≡◌, ◌==◌, ◌||◌, not, drop}
+use Rattle.std.specs.List.{list_all}
+use Rattle.zt_model.specs.Parts.{is_routed}
+use Rattle.zt_check_keeping.specs.Keeping.{at_face, keeps_bound}
+use Rattle.zt_check_keeping.proofs.keeping.face_keeps_bound.Given as goal
+
+-- all so far do
+abbrev pub invariant-loop-face : goal.invariant-loop-face
+invariant-loop-face g l =
+    list_all (λ f. (not (l.number == f.number) || is_routed l.rows f) || keeps_bound g.K.Ord.cmp g.K.Key.matching l.bound l.rows f l.expr) (drop l.face-index l.face-items)
+    ≡ at_face l.number (λ h f. keeps_bound g.K.Ord.cmp g.K.Key.matching l.bound h f l.expr) l.rows

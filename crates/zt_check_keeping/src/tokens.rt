@@ -1,0 +1,187 @@
+// The expressions whose tokens a call may add or take away: read before it.
+ghost use Rattle.std.specs.Prelude.{◌≡◌, ◌∷◌, ◌++◌, [], OnOk};
+ghost use Rattle.zt_protocol.specs.Plain.{plain_call};
+ghost use Rattle.zt_check_keeping.specs.Changed.{declared, expressions, is_sought, named};
+ghost use Rattle.zt_check_keeping.specs.Changed.{routed_in, tokens_of};
+
+use std::alloc::Global;
+use zt_check_faces::ShownFace;
+use zt_check_rows::{ShownRouted, ShownRows};
+use zt_keys::{Key, Memory};
+use zt_protocol::Call;
+use zt_region::Region;
+
+fn add_key<K: Key>(
+    alloc: Global,
+    tokens: &mut Vec<(u32, K)>,
+    gateway: u32,
+    expr: &K,
+) -> Result<(), Memory>
+    ensures { OnOk result (tokens.new.items ≡ tokens.old.items ++ (gateway, expr.now) ∷ []) }
+{
+    let copy = expr.copy(alloc)?;
+    tokens.push((gateway, copy))?;
+    Ok(())
+}
+
+// Whether an id is the one that is sought, where one is.
+fn is_sought(sought: Option<u32>, id: u32) -> bool
+    ensures { result ≡ is_sought sought id }
+{
+    match sought {
+        None => true,
+        Some(sought) => sought == id,
+    }
+}
+
+fn add_row<K: Key>(
+    alloc: Global,
+    tokens: &mut Vec<(u32, K)>,
+    gateway: u32,
+    sought: Option<u32>,
+    row: &(u32, K),
+) -> Result<(), Memory>
+    ensures { OnOk result
+        (tokens.new.items ≡ tokens.old.items ++ expressions gateway sought (row.now ∷ [])) }
+{
+    if !is_sought(sought, row.0) {
+        return Ok(());
+    }
+    add_key(alloc, tokens, gateway, &row.1)
+}
+
+// The expressions of rows: all of them, or those under an id.
+fn add_rows<K: Key>(
+    alloc: Global,
+    tokens: &mut Vec<(u32, K)>,
+    gateway: u32,
+    sought: Option<u32>,
+    rows: &[(u32, K)],
+) -> Result<(), Memory>
+    ensures { OnOk result
+        (tokens.new.items ≡ tokens.old.items ++ expressions gateway sought rows.now) }
+{
+    for row in rows {
+        add_row(alloc, tokens, gateway, sought, row)?;
+    }
+    Ok(())
+}
+
+fn add_face<K: Key>(
+    alloc: Global,
+    tokens: &mut Vec<(u32, K)>,
+    gateway: u32,
+    number: u32,
+    sought: Option<u32>,
+    face: &ShownFace<K>,
+) -> Result<(), Memory>
+    ensures { OnOk result
+        (tokens.new.items ≡ tokens.old.items ++ declared gateway number sought (face.now ∷ [])) }
+{
+    if number != face.number() {
+        return Ok(());
+    }
+    add_rows(alloc, tokens, gateway, sought, face.live())
+}
+
+// Those that faces of a number declare.
+fn add_declared<K: Key>(
+    alloc: Global,
+    tokens: &mut Vec<(u32, K)>,
+    gateway: u32,
+    number: u32,
+    sought: Option<u32>,
+    faces: &[ShownFace<K>],
+) -> Result<(), Memory>
+    ensures { OnOk result
+        (tokens.new.items ≡ tokens.old.items ++ declared gateway number sought faces.now) }
+{
+    for face in faces {
+        add_face(alloc, tokens, gateway, number, sought, face)?;
+    }
+    Ok(())
+}
+
+fn add_routed_row<K: Key>(
+    alloc: Global,
+    tokens: &mut Vec<(u32, K)>,
+    gateway: u32,
+    region: Region,
+    row: &ShownRouted<K>,
+) -> Result<(), Memory>
+    ensures { OnOk result
+        (tokens.new.items ≡ tokens.old.items ++ routed_in gateway region (row.now ∷ [])) }
+{
+    if region != row.region() {
+        return Ok(());
+    }
+    add_key(alloc, tokens, gateway, row.expr())
+}
+
+// Those of a router region.
+fn add_routed<K: Key>(
+    alloc: Global,
+    tokens: &mut Vec<(u32, K)>,
+    gateway: u32,
+    region: Region,
+    rows: &[ShownRouted<K>],
+) -> Result<(), Memory>
+    ensures { OnOk result
+        (tokens.new.items ≡ tokens.old.items ++ routed_in gateway region rows.now) }
+{
+    for row in rows {
+        add_routed_row(alloc, tokens, gateway, region, row)?;
+    }
+    Ok(())
+}
+
+// The expression that an undeclaration names, where it does.
+fn add_named<K: Key>(
+    alloc: Global,
+    tokens: &mut Vec<(u32, K)>,
+    gateway: u32,
+    expr: &Option<K>,
+) -> Result<(), Memory>
+    ensures { OnOk result (tokens.new.items ≡ tokens.old.items ++ named gateway expr.now) }
+{
+    match expr {
+        None => Ok(()),
+        Some(expr) => add_key(alloc, tokens, gateway, expr),
+    }
+}
+
+/// Adds the expressions whose tokens a call may change at the rows of its gateway.
+pub(crate) fn add_tokens<K: Key>(
+    alloc: Global,
+    tokens: &mut Vec<(u32, K)>,
+    gateway: u32,
+    rows: &ShownRows<K>,
+    call: &Call<K>,
+) -> Result<(), Memory>
+    ensures { OnOk result (tokens.new.items
+        ≡ tokens.old.items ++ tokens_of gateway rows.now (plain_call call.now)) }
+{
+    match call {
+        Call::DeclareToken { face, id, expr, .. } => {
+            add_key(alloc, tokens, gateway, expr)?;
+            add_declared(alloc, tokens, gateway, *face, Some(*id), rows.faces())
+        }
+        Call::UndeclareToken { face, id, expr, .. } => {
+            add_named(alloc, tokens, gateway, expr)?;
+            add_declared(alloc, tokens, gateway, *face, Some(*id), rows.faces())
+        }
+        Call::CloseFace { face } => {
+            add_declared(alloc, tokens, gateway, *face, None, rows.faces())
+        }
+        Call::SetTrees { region, .. } => {
+            add_routed(alloc, tokens, gateway, *region, rows.routed())
+        }
+        Call::NewSession { .. }
+        | Call::NewTransport { .. }
+        | Call::Interest { .. }
+        | Call::InterestFinal { .. }
+        | Call::DeclareFinal { .. }
+        | Call::Expire { .. }
+        | Call::SetEntities { .. } => Ok(()),
+    }
+}
