@@ -121,15 +121,17 @@ fn is_answered_later<K: Key>(
             || is_among(expr, answers))
 }
 
-// What of a turn its asks are judged by.
+/// What of a turn its asks are judged by.
 #[derive(Drop)]
-struct Told<'b, K: Key> {
-    gateway: u32,
-    // The face and id of the ask that the turn makes.
-    asking: Option<(u32, u32)>,
-    // The pending that the turn's token answers, and its expression.
-    declared: Option<(u32, u32, &'b K)>,
-    sents: &'b [Sent<K>],
+pub struct Told<'b, K: Key> {
+    /// The gateway of the line's call; 0 where it makes none.
+    pub gateway: u32,
+    /// The face and id of the ask that the turn makes.
+    pub asking: Option<(u32, u32)>,
+    /// The pending that the turn's token answers, and its expression.
+    pub declared: Option<(u32, u32, &'b K)>,
+    /// What is printed.
+    pub sents: &'b [Sent<K>],
 }
 
 // Whether an ask is answered what it asks for.
@@ -291,8 +293,9 @@ fn declared<K: Key>(call: &Call<K>, pending: Option<(u32, u32)>) -> Option<(u32,
     }
 }
 
-// What of a turn its asks are judged by.
-fn told_of<'b, K: Key>(
+/// What of a turn its asks are judged by, where `found` is its call, and `pending` the pending that
+/// stood before it and that its token answers.
+pub fn told_of<'b, K: Key>(
     found: &'b Option<(u32, Call<K>)>,
     pending: Option<(u32, u32)>,
     sents: &'b [Sent<K>],

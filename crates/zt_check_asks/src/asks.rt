@@ -25,7 +25,7 @@ fn has_id(pendings: &[(u32, ShownPending)], id: u32) -> bool {
 }
 
 /// Whether the ask was sent upstream so.
-pub(crate) fn was_sent_as<K: Key>(ask: &ShownAsk<K>, face: u32, id: u32) -> bool {
+pub fn was_sent_as<K: Key>(ask: &ShownAsk<K>, face: u32, id: u32) -> bool {
     for pending in ask.pendings() {
         if face == pending.0 && id == pending.1 {
             return true;
@@ -70,7 +70,7 @@ fn answered_interest<K: Key>(message: &Message<K>) -> Option<u32> {
 }
 
 /// Whether a message answers the interest of an id.
-pub(crate) fn answers_interest<K: Key>(message: &Message<K>, id: u32) -> bool {
+pub fn answers_interest<K: Key>(message: &Message<K>, id: u32) -> bool {
     answered_interest(message) == Some(id)
 }
 
@@ -85,7 +85,7 @@ fn asks_now<K: Key>(sent: &Sent<K>, number: u64, pending: u32) -> bool {
 }
 
 /// Whether a pending stands once the messages are heard.
-pub(crate) fn stands_after<'a, K: Key>(
+pub fn stands_after<'a, K: Key>(
     fabric: &ShownFabric<'a, K>,
     gateway: u32,
     rows: &ShownRows<K>,
@@ -108,7 +108,7 @@ pub(crate) fn stands_after<'a, K: Key>(
 }
 
 /// The expressions that an ask of an id is answered by what is printed for a face, in order.
-pub(crate) fn answers_in<K: Key>(
+pub fn answers_in<K: Key>(
     alloc: Global,
     sents: &[Sent<K>],
     number: u64,

@@ -15,8 +15,8 @@ fn is_final<K: Key>(sent: &Sent<K>, number: u64, id: u32) -> bool {
     }
 }
 
-// How many finals of an id are printed for a face, where it isn't more than two.
-fn finals_in<K: Key>(sents: &[Sent<K>], number: u64, id: u32) -> u8 {
+/// How many finals of an id are printed for a face, where it isn't more than two.
+pub fn finals_in<K: Key>(sents: &[Sent<K>], number: u64, id: u32) -> u8 {
     let mut count = 0u8;
     for sent in sents {
         if is_final(sent, number, id) && count < 2 {
@@ -42,8 +42,8 @@ fn has_no_pending<'a, K: Key>(
     true
 }
 
-// Whether a call ends the interest of an id of a gateway's face.
-fn is_finalising<K: Key>(
+/// Whether a call ends the interest of an id of a gateway's face.
+pub fn is_finalising<K: Key>(
     found: &Option<(u32, Call<K>)>,
     gateway: u32,
     number: u32,
@@ -219,8 +219,9 @@ fn may_be_final<K: Key>(face: &ShownFace<K>, id: u32, is_new: bool) -> bool {
     id == 0 && is_new && face.initial().is_some()
 }
 
-// Whether a final is that of an ask, or that of a new mutual peer.
-fn is_final_of_some<'a, K: Key>(
+/// Whether a final is that of an ask, or that of a new mutual peer; other messages are no final of
+/// nobody. `opened` are the faces that the line opens.
+pub fn is_final_of_some<'a, K: Key>(
     fabric: &ShownFabric<'a, K>,
     opened: &[(u32, u32)],
     sent: &Sent<K>,
@@ -261,8 +262,8 @@ fn is_open<'a, K: Key>(fabric: &ShownFabric<'a, K>, number: u32) -> bool {
     }
 }
 
-// No later message for the face answers what a message finishes.
-fn nothing_follows<'a, K: Key>(
+/// Whether no later message for the face answers what a message finishes.
+pub fn nothing_follows<'a, K: Key>(
     fabric: &ShownFabric<'a, K>,
     sent: &Sent<K>,
     later: &[Sent<K>],

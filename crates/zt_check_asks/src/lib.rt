@@ -9,6 +9,6 @@ mod answers;
 mod asks;
 mod finals;
 
-pub use answers::answers_asks;
-pub use asks::pending_answered;
-pub use finals::sends_finals;
+pub use answers::{Told, answers_asks, told_of};
+pub use asks::{answers_in, pending_answered, stands_after, was_sent_as};
+pub use finals::{finals_in, is_final_of_some, is_finalising, nothing_follows, sends_finals};
