@@ -1,6 +1,7 @@
 pub mod Agree
 pub mod Alone
 pub mod Common
+pub mod Ends
 pub mod Folds
 pub mod Listed
 pub mod Passing

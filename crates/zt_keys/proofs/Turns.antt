@@ -46,7 +46,7 @@ stopped (x ∷ xs) (y ∷ ys) rest e h g =
 abbrev pub Says : Option (Bor (List ℕ) × Bor (List ℕ)) → Bool → Type 0
 Says answer whole = MatchOption answer (whole ≡ false) (λ rest. whole ≡ parts_match (walked rest.0.now) (walked rest.1.now))
 
-front-some : (xs ys : List Part) (rest : List Part × List Part) → Some rest ≡ strip xs ys → parts_match xs ys ≡ parts_match rest.0 rest.1
+pub front-some : (xs ys : List Part) (rest : List Part × List Part) → Some rest ≡ strip xs ys → parts_match xs ys ≡ parts_match rest.0 rest.1
 front-some xs ys rest e = rw (← e) at (past_front xs ys)
 
 pub front-none : (xs ys : List Part) (whole : Bool) → parts_match xs ys ≡ whole → None ≡ strip xs ys → false ≡ whole

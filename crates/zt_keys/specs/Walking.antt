@@ -5,6 +5,9 @@ use Rattle.std.specs.List.{onto_first}
 use Rattle.std.specs.Borrow.{Bor}
 use Rattle.zt_keys.specs.Parts.{Part, part_of, is_many, is_free, meets, parts_match}
 
+abbrev pub is_slash : ℕ → Bool
+is_slash b = b == 47
+
 -- what follows the last `**` before the first chunk that begins with `@`
 abbrev pub last_many : List Part → Option (List Part)
 last_many [] = None

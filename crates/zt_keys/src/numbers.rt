@@ -7,6 +7,7 @@ ghost use Rattle.zt_keys.specs.Anchors.{first_chunk, first_two, last_chunk};
 ghost use Rattle.zt_keys.specs.Kinds.{kinds_of};
 
 use crate::kinds::kinds_of;
+use crate::walk::last_start;
 use std::hash::{DefaultHasher, Hasher};
 
 // SipHash, which keeps 256 bits while it reads: to find many texts of one hash, one has to try texts
@@ -98,9 +99,5 @@ pub(crate) fn first_two(text: &[u8]) -> &[u8]
 pub(crate) fn last_chunk(text: &[u8]) -> &[u8]
     ensures { result.now ≡ last_chunk (chunks text.now) }
 {
-    let mut start = text.len();
-    while start > 0 && text[start - 1] != b'/' {
-        start -= 1;
-    }
-    &text[start..]
+    &text[last_start(text)..]
 }

@@ -7,13 +7,15 @@
 // for, a walk begins at most once at each chunk of one text and goes along the other up to its next
 // `**`. Each pass but the last leaves a chunk of both texts behind. So the chunks looked at are at
 // most a fixed multiple of the product of the two numbers of chunks.
-ghost use Rattle.std.specs.Prelude.{◌≡◌, [], ◌∷◌, ◌+◌, ◌-◌, ◌<◌, ◌≤◌, ◌==◌, length, drop, false};
-ghost use Rattle.std.specs.Prelude.{position, IfSome};
+ghost use Rattle.std.specs.Prelude.{◌≡◌, [], ◌∷◌, ◌++◌, ◌+◌, ◌-◌, ◌<◌, ◌≤◌, ◌==◌, length, drop};
+ghost use Rattle.std.specs.Prelude.{position, get_or, IfSome, false};
+ghost use Rattle.std.specs.List.{list_any};
 ghost use Rattle.std.specs.Option.{option_map};
 ghost use Rattle.zt_keys.specs.Chunks.{is_double, is_single};
 ghost use Rattle.zt_keys.specs.Parts.{many, part_of, meets, is_marked, parts_match};
 ghost use Rattle.zt_keys.specs.Walking.{walked, walked_one, walked_two, width, last_many};
-ghost use Rattle.zt_keys.specs.Walking.{after_many, stops, strip, find_place, NoLonger, GoesOn};
+ghost use Rattle.zt_keys.specs.Walking.{GoesOn};
+ghost use Rattle.zt_keys.specs.Walking.{after_many, stops, strip, find_place, is_slash, NoLonger};
 
 // Where the first `/` stands.
 fn find_slash(rest: &[u8]) -> Option<usize>
@@ -297,6 +299,54 @@ fn walk_all(first: &[u8], second: &[u8]) -> bool
     false
 }
 
+// Where the last chunk begins. Nothing before it is read.
+pub(crate) fn last_start(text: &[u8]) -> usize
+    ensures within { result ≤ length text.now }
+    ensures slashless { list_any is_slash (drop result text.now) ≡ false }
+    ensures slash { 0 < result → get_or text.now (result - 1) 0 ≡ 47 }
+{
+    let mut start = text.len();
+    while start > 0 && text[start - 1] != b'/' {
+        start -= 1;
+    }
+    start
+}
+
+// The last chunk, and what stands before the `/` in front of it. None where that isn't plain to
+// see: the text is one chunk, or an empty chunk is the last or the last but one.
+fn split_last(text: &[u8]) -> Option<(&[u8], &[u8])>
+    ensures last { IfSome result
+        (λ last. walked text.now ≡ walked last.0.now ++ part_of last.1.now ∷ []) }
+    ensures shorter { IfSome result (λ last. length last.0.now < length text.now) }
+{
+    let start = last_start(text);
+    if start < 2 || start == text.len() || text[start - 2] == b'/' {
+        return None;
+    }
+    Some((&text[..start - 1], &text[start..]))
+}
+
+// Whether the chunks at the ends of both texts meet one by one, back to the last `**` of either or as
+// far as they are plain to see. Where they don't, the texts don't match: most that don't are told
+// apart so, by a few chunks.
+fn do_ends_meet(first: &[u8], second: &[u8]) -> bool
+    ensures { result ≡ false → parts_match (walked first.now) (walked second.now) ≡ false }
+{
+    let mut a = first;
+    let mut b = second;
+    while let (Some((before_a, x)), Some((before_b, y))) = (split_last(a), split_last(b)) {
+        if is_double(x) || is_double(y) {
+            return true;
+        }
+        if !meets(x, y) {
+            return false;
+        }
+        a = before_a;
+        b = before_b;
+    }
+    true
+}
+
 // Whether `**` alone matches the text: so it does unless a chunk begins with `@`.
 fn is_free(text: &[u8]) -> bool
     ensures { result ≡ parts_match (many ∷ []) (walked text.now) }
@@ -314,5 +364,8 @@ pub(crate) fn texts_match(first: &[u8], second: &[u8]) -> bool
     if is_double(second) {
         return is_free(first);
     }
-    walk_all(first, second)
+    let Some((a, b)) = walk(first, second) else {
+        return false;
+    };
+    do_ends_meet(a, b) && walk_all(a, b)
 }

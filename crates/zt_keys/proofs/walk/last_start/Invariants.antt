@@ -1,7 +1,7 @@
 use Rattle.std.proofs.Common.{◌≡◌, ◌≤◌, length, drop, false}
 use Rattle.std.specs.List.{list_any}
 use Rattle.zt_keys.proofs.Folds.{is_slash}
-use Rattle.zt_keys.proofs.numbers.last_chunk.Given as goal
+use Rattle.zt_keys.proofs.walk.last_start.Given as goal
 
 abbrev pub invariant-loop-start : goal.invariant-loop-start
 invariant-loop-start l = record {
