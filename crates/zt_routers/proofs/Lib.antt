@@ -3,5 +3,6 @@ mod Greetings
 mod InOrder
 mod Loops
 mod Noted
+mod Only
 mod Origins
 mod Passed

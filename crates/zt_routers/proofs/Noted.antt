@@ -151,7 +151,7 @@ module _ {K : Type 0} (g : Rows K) (region : Region) where
       (λ t. or_second (is_at_child g region c f) (are_at_children g region cs f) (at_one cs f here stands (rw t at h)))
 
   -- a region that was handed no table has no children
-  childless : (source : Zid) (f : Face K) (t : Trees) → t ≡ record { routers = []; links = []; children = [] } → is_child g t source f ≡ false
+  pub childless : (source : Zid) (f : Face K) (t : Trees) → t ≡ record { routers = []; links = []; children = [] } → is_child g t source f ≡ false
   unfolding is_child
   childless source f t is = ap (λ (u : Trees). list_any (λ c. zid_eq source c.0 && zid_eq f.zid c.1) u.children && is_face_of_router g f) is
 

@@ -6,8 +6,9 @@
 --     is_at_child g region c f       the face stands for the router of an entry, in a region; are_at_children: of one of these
 --     is_at_new_child                and the entry wasn't in the table that counted before
 --     is_own_child t f               the gateway's own tokens go on to the face by this table of a region
+--     HasOnlyTable                   one region alone was handed a table
 --     is_shown_by, is_hidden_by      and the region is newly shown the token, or can't see it any more
-use Rattle.std.specs.Prelude.{◌≡◌, ℕ, Bool, true, ◌==◌, ◌&&◌, not, List}
+use Rattle.std.specs.Prelude.{◌≡◌, ℕ, Bool, true, ◌==◌, ◌&&◌, not, List, [], ◌∷◌}
 use Rattle.std.specs.List.{list_any}
 use Rattle.std.specs.List.Sorted.{IsStrictlySortedBy}
 use Rattle.std.specs.Ordering.{nat_cmp}
@@ -45,6 +46,9 @@ module _ {K : Type 0} (g : Rows K) (region : Region) where
 
   abbrev pub are_at_new_children : Trees → List (Zid × Zid) → Face K → Bool
   are_at_new_children before cs f = list_any (λ c. is_at_new_child before c f) cs
+
+abbrev pub HasOnlyTable : {K : Type 0} → Region → Rows K → Type 0
+HasOnlyTable region g = (t : Trees) × (g.trees ≡ (region, t) ∷ [])
 
 abbrev pub is_own_child : {K : Type 0} → Rows K → Region × Trees → Face K → Bool
 is_own_child g t f = region_eq f.region t.0 && is_child g (counted_table t.1) g.zid f

@@ -1,5 +1,5 @@
 // What the gateway itself shows in router regions.
-ghost use Rattle.std.specs.Prelude.{◌≡◌, ◌&&◌, ◌++◌, [], ◌∷◌, IfOk, OnOk, filter};
+ghost use Rattle.std.specs.Prelude.{◌≡◌, ◌&&◌, ◌++◌, [], ◌∷◌, IfOk, IfSome, OnOk, filter};
 ghost use Rattle.std.specs.List.Sorted.{IsStrictlySortedBy};
 ghost use Rattle.zt_region.specs.Region.{zid_eq};
 ghost use Rattle.zt_model.specs.Hat.{hat_of};
@@ -7,11 +7,11 @@ ghost use Rattle.zt_model.specs.Lists.{is_among};
 ghost use Rattle.zt_model.specs.Parts.{to_each};
 ghost use Rattle.zt_link_state.specs.Routed.{rows_of};
 ghost use Rattle.zt_routers.specs.Hiding.{hidden_among};
-ghost use Rattle.zt_routers.specs.Reached.{Notes, is_hidden_by, is_shown_by};
+ghost use Rattle.zt_routers.specs.Reached.{HasOnlyTable, Notes, is_hidden_by, is_shown_by};
 ghost use Rattle.zt_model.specs.Trees.{hide_to, is_hidden, is_newly_shown, is_own_row};
 ghost use Rattle.zt_model.specs.Trees.{router_regions, show_to};
 
-use crate::passing::{own_branch, pass_to, unpass_to};
+use crate::passing::{own_branch, pass_on, pass_to, unpass, unpass_to};
 use crate::reaching::{note_children, say_among};
 use std::alloc::Global;
 use std::collections::BTreeSet;
@@ -70,6 +70,18 @@ fn has_many_children<K: Key>(g: &GatewayState<K>) -> bool {
     false
 }
 
+// The region that alone was handed a table.
+fn only_table<K: Key>(g: &GatewayState<K>) -> Option<Region>
+    ensures { IfSome result (λ region. HasOnlyTable region g.now) }
+{
+    let mut tables = g.trees().iter();
+    let (region, _table) = tables.next()?;
+    if tables.next().is_some() {
+        return None;
+    }
+    Some(*region)
+}
+
 // What a face is sent where its region is newly shown a token of the region `source`.
 #[derive(Drop)]
 struct Shows<'a, K: Key> {
@@ -118,6 +130,25 @@ fn note_shown<K: Key>(
     Ok(())
 }
 
+// What faces are sent where one region alone was handed a table.
+fn show_in<K: Key>(
+    alloc: Global,
+    g: &GatewayState<K>,
+    source: Region,
+    expr: &K,
+    region: Region,
+) -> Result<Vec<(u32, Message<K>)>, Memory>
+    requires { HasOnlyTable region g.now }
+    ensures { IfOk result (λ sends. sends.items
+        ≡ to_each (show_to K.cmp g.now source expr.now) g.now.faces) }
+{
+    if is_newly_shown(g, source, expr, region) {
+        pass_on(alloc, g, region, g.zid(), expr)
+    } else {
+        Ok(Vec::new(alloc))
+    }
+}
+
 /// The gateway shows a token of the region `source` in its router regions that are newly shown it.
 /// Where it was handed no table there is nobody to tell.
 pub fn show<K: Key>(
@@ -129,6 +160,9 @@ pub fn show<K: Key>(
     ensures { IfOk result (λ sends. sends.items
         ≡ to_each (show_to K.cmp g.now source expr.now) g.now.faces) }
 {
+    if let Some(region) = only_table(g) {
+        return show_in(alloc, g, source, expr, region);
+    }
     let rule = Shows { source, expr };
     if has_many_children(g) {
         return say_each(alloc, g, &rule);
@@ -279,6 +313,25 @@ fn note_hidden<K: Key>(
     Ok(())
 }
 
+// What faces are sent where one region alone was handed a table.
+fn hide_in<K: Key>(
+    alloc: Global,
+    g: &GatewayState<K>,
+    source: Region,
+    expr: &K,
+    region: Region,
+) -> Result<Vec<(u32, Message<K>)>, Memory>
+    requires { HasOnlyTable region g.now }
+    ensures { IfOk result (λ sends. sends.items
+        ≡ to_each (hide_to K.cmp g.now source expr.now) g.now.faces) }
+{
+    if is_hidden(g, source, expr, region) {
+        unpass(alloc, g, region, g.zid(), expr)
+    } else {
+        Ok(Vec::new(alloc))
+    }
+}
+
 /// The gateway hides an expression that is gone from the region `source` in its router regions that
 /// can't see it now. Where it was handed no table there is nobody to tell.
 pub fn hide<K: Key>(
@@ -290,6 +343,9 @@ pub fn hide<K: Key>(
     ensures { IfOk result (λ sends. sends.items
         ≡ to_each (hide_to K.cmp g.now source expr.now) g.now.faces) }
 {
+    if let Some(region) = only_table(g) {
+        return hide_in(alloc, g, source, expr, region);
+    }
     let rule = Hides { source, expr };
     if has_many_children(g) {
         return say_each(alloc, g, &rule);

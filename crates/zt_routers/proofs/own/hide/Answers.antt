@@ -12,8 +12,8 @@ loop-region-init g c =
 
 pub loop-region-preserved : goal.loop-region-preserved
 loop-region-preserved g c =
-    let x : Region × Trees = (c.in-Some.region.now, c.in-Some.table.now) in
-    notes_more (is_hidden_by g.K.Ord.cmp c.args.g.now c.args.source c.args.expr.now) c.args.g.now.trees x _ _ _ _ _ c.in-Some.ensures.steps c.loop-region.invariant c.in_ok-note_hidden.ensures
+    let x : Region × Trees = (c.in-Some-2.region.now, c.in-Some-2.table.now) in
+    notes_more (is_hidden_by g.K.Ord.cmp c.args.g.now c.args.source c.args.expr.now) c.args.g.now.trees x _ _ _ _ _ c.in-Some-2.ensures.steps c.loop-region.invariant c.in_ok-note_hidden.ensures
 
 pub say_among-requires : goal.say_among-requires
 say_among-requires g c =
