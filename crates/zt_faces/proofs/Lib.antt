@@ -1,3 +1,4 @@
+mod Gaps
 mod Highest
 mod Known
 pub mod Rising

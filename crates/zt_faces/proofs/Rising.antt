@@ -27,13 +27,13 @@ apart-above a n h = grind (arith, nat_tests)
 tied : (a n : ℕ) → nat_cmp a n ≡ Equal → a ≡ n
 tied a n h = grind (arith, nat_tests)
 
-unequal : (n a : ℕ) → a < n → (n == a) ≡ false
+pub unequal : (n a : ℕ) → a < n → (n == a) ≡ false
 unequal n a h = grind (arith, nat_tests)
 
 unequal-above : (n a : ℕ) → n < a → (n == a) ≡ false
 unequal-above n a h = grind (arith, nat_tests)
 
-equal : (n a : ℕ) → a ≡ n → (n == a) ≡ true
+pub equal : (n a : ℕ) → a ≡ n → (n == a) ≡ true
 equal n a h = grind (arith, nat_tests)
 
 -- what follows from either result
@@ -57,7 +57,7 @@ module _ {A : Type 0} (P Q : A → Type 0) (weaker : (x : A) → P x → Q x) wh
   all-at (x ∷ xs) (suc i) d h lt = all-at xs i d h.1 (omega arith)
 
 module _ {A : Type 0} (number : A → ℕ) where
-  above-at : (m : ℕ) (xs : List A) (i : ℕ) (d : A) → AllByRecursion (λ y. m < number y) xs → i < length xs → m < number (get_or xs i d)
+  pub above-at : (m : ℕ) (xs : List A) (i : ℕ) (d : A) → AllByRecursion (λ y. m < number y) xs → i < length xs → m < number (get_or xs i d)
   above-at m xs i d h lt = all-at (λ y. m < number y) (λ y. m < number y) (λ y k. k) xs i d h lt
 
   -- one above another has another number

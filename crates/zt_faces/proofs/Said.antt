@@ -13,7 +13,6 @@ use Rattle.zt_keys.specs.Test.{by_test}
 use Rattle.zt_protocol.specs.declared.messages.Message.{Message}
 use Rattle.zt_faces.specs.Asked.{IsAskerOf, knows}
 use Rattle.zt_faces.specs.Rising.{HasNone, IsRising}
-use Rattle.zt_faces.specs.declared.asked.Asker.{Asker}
 use Rattle.zt_faces.specs.declared.asked.Asker.TheVariants.{Nobody, One}
 use Rattle.zt_faces.proofs.Rising.{none-above}
 use Rattle.zt_model.specs.Lists.{at_id, first_where}

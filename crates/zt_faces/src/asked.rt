@@ -2,6 +2,7 @@
 ghost use Rattle.std.specs.Prelude.{◌≡◌, ℕ, true, IfOk, OnOk};
 ghost use Rattle.zt_faces.specs.Asked.{AreAsked, AreKnown, IsKnown, KnowsMore, asked_in, knows};
 
+use crate::walk::OpenFaces;
 use std::alloc::Global;
 use std::collections::HashMap;
 use zt_face::{AskState, FaceState};
@@ -158,8 +159,8 @@ impl Askers {
     }
 
     // The asks of these faces were sent upstream.
-    fn note_faces<K: Key>(&mut self, faces: &[FaceState<K>]) -> Result<(), Memory>
-        ensures { OnOk result (AreAsked (asked_in self.new.rows) faces.now) }
+    fn note_faces<K: Key>(&mut self, faces: OpenFaces<'_, K>) -> Result<(), Memory>
+        ensures { OnOk result (AreAsked (asked_in self.new.rows) faces.entry) }
     {
         for f in faces {
             self.note_face(f)?;
@@ -167,14 +168,18 @@ impl Askers {
         Ok(())
     }
 
-    // Those of the asks of these faces, and of none that is gone.
-    pub(crate) fn of_faces<K: Key>(alloc: Global, faces: &[FaceState<K>]) -> Result<Self, Memory>
-        ensures { IfOk result (λ askers. AreAsked (asked_in askers.rows) faces.now) }
+    // Those of the asks of these faces, `count` in all, and of none that is gone.
+    pub(crate) fn of_faces<K: Key>(
+        alloc: Global,
+        faces: OpenFaces<'_, K>,
+        count: usize,
+    ) -> Result<Self, Memory>
+        ensures { IfOk result (λ askers. AreAsked (asked_in askers.rows) faces.entry) }
     {
         let mut askers = Askers::new(alloc);
         askers.note_faces(faces)?;
         let twice = askers.entries.saturating_mul(2);
-        askers.many = twice.saturating_add(faces.len()).saturating_add(FEW);
+        askers.many = twice.saturating_add(count).saturating_add(FEW);
         Ok(askers)
     }
 

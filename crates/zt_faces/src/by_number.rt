@@ -8,14 +8,19 @@ ghost use Rattle.zt_model.specs.Routing.{asked_as};
 ghost use Rattle.zt_protocol.specs.Interest.{is_current};
 ghost use Rattle.zt_region.specs.Region.{region_eq, zid_eq};
 ghost use Rattle.zt_faces.specs.Asked.{AreAsked, IsAskerOf, IsKnown, asked_in};
-ghost use Rattle.zt_faces.specs.Rising.{AreUpTo, HasNone, IsPlace, IsRising};
+ghost use Rattle.zt_faces.specs.Rising.{AreBelow, AreUpTo, HasNone, IsPlace, IsRising};
 ghost use Rattle.zt_faces.specs.Routers.{AreStandings, HasMore, is_kept, standing_of};
+ghost use Rattle.zt_faces.specs.Slots.{IsFoundIn, LosesStanding, faces_in, number_of, with_face, without_face};
+ghost use Rattle.zt_faces.specs.declared.slots.Slot.{Slot};
+ghost use Rattle.zt_faces.specs.declared.slots.Slot.TheVariants.{Open};
 
 use crate::asked::{Asker, Askers};
 use crate::by_router::{
     Standing, add_standing, copy_standings, drop_standing, first_of_router, is_kept, standing_of,
 };
 use crate::changes::{FaceAddition, FaceChange};
+use crate::slots::{Slot, close_gaps};
+use crate::walk::OpenFaces;
 use std::alloc::Global;
 use std::collections::BTreeSet;
 use std::marker::Model;
@@ -24,150 +29,179 @@ use zt_keys::{Key, Memory};
 use zt_protocol::InterestId;
 use zt_region::{Region, Zid};
 
-// Where the face of a number stands. A binary search.
-fn search_place<K: Key>(faces: &[FaceState<K>], number: u32) -> Option<usize>
-    requires { IsRising (λ f. f.number) faces.now }
-    ensures found { IfSome result (λ place. IsPlace (λ f. f.number) number faces.now place) }
-    ensures none { IfNone result (HasNone (λ f. f.number) number faces.now) }
+// Where the place of a number is. A binary search.
+fn search_place<K: Key>(slots: &[Slot<K>], number: u32) -> Option<usize>
+    requires { IsRising number_of slots.now }
+    ensures found { IfSome result (λ place. IsPlace number_of number slots.now place) }
+    ensures none { IfNone result (HasNone number_of number slots.now) }
 {
-    match faces.binary_search_by(|f| f.number().cmp(&number)) {
+    match slots.binary_search_by(|slot| slot.number().cmp(&number)) {
         Ok(place) => Some(place),
         Err(_) => None,
     }
 }
 
 // Whether the face of a number stands at a place.
-fn is_place<K: Key>(faces: &[FaceState<K>], number: u32, place: usize) -> bool
-    ensures { result ≡ true → IsPlace (λ f. f.number) number faces.now place }
+fn is_place<K: Key>(slots: &[Slot<K>], number: u32, place: usize) -> bool
+    ensures { result ≡ true → IsPlace number_of number slots.now place }
 {
-    match faces.get(place) {
-        Some(f) => number == f.number(),
-        None => false,
+    match slots.get(place) {
+        Some(Slot::Open(f)) => number == f.number(),
+        Some(Slot::Closed(_)) | None => false,
     }
 }
 
-// Where the face of a number stands, if it is found among those that may have it. Numbers count up
+// Where the place of a number is, if it is found among those that may have it. Numbers count up
 // from 1 and faces never come back, so before it as many numbers are missing as are among all at
 // most. A binary search among these few.
-fn search_near<K: Key>(faces: &[FaceState<K>], number: u32) -> Option<usize>
-    ensures { IfSome result (λ place. IsPlace (λ f. f.number) number faces.now place) }
+fn search_near<K: Key>(slots: &[Slot<K>], number: u32) -> Option<usize>
+    ensures { IfSome result (λ place. IsPlace number_of number slots.now place) }
 {
-    let last = faces.last()?;
-    let missing = (last.number() as usize).saturating_sub(faces.len());
-    let end = (number as usize).min(faces.len());
+    let last = slots.last()?;
+    let missing = (last.number() as usize).saturating_sub(slots.len());
+    let end = (number as usize).min(slots.len());
     let start = (number as usize).saturating_sub(missing + 1).min(end);
-    let found = faces[start..end].binary_search_by(|f| f.number().cmp(&number));
+    let found = slots[start..end].binary_search_by(|slot| slot.number().cmp(&number));
     let place = start + found.ok()?;
-    if is_place(faces, number, place) {
+    if is_place(slots, number, place) {
         Some(place)
     } else {
         None
     }
 }
 
-// Where the face of a number stands, where some below it were closed.
+// Where the place of a number is, where gaps below it were closed.
 #[inline(never)]
-fn search<K: Key>(faces: &[FaceState<K>], number: u32) -> Option<usize>
-    requires { IsRising (λ f. f.number) faces.now }
-    ensures found { IfSome result (λ place. IsPlace (λ f. f.number) number faces.now place) }
-    ensures none { IfNone result (HasNone (λ f. f.number) number faces.now) }
+fn search<K: Key>(slots: &[Slot<K>], number: u32) -> Option<usize>
+    requires { IsRising number_of slots.now }
+    ensures found { IfSome result (λ place. IsPlace number_of number slots.now place) }
+    ensures none { IfNone result (HasNone number_of number slots.now) }
 {
-    match search_near(faces, number) {
+    match search_near(slots, number) {
         Some(place) => Some(place),
-        None => search_place(faces, number),
+        None => search_place(slots, number),
     }
 }
 
-// Where the face of a number stands. Numbers count up from 1, so where none below it was closed it
-// stands at its own; otherwise it is found by binary search.
+// Where the place of a number is. Numbers count up from 1, so where no gap below it was closed it
+// is at its own; otherwise it is found by binary search.
 #[inline(always)]
-fn place_of<K: Key>(faces: &[FaceState<K>], number: u32) -> Option<usize>
-    requires { IsRising (λ f. f.number) faces.now }
-    ensures found { IfSome result (λ place. IsPlace (λ f. f.number) number faces.now place) }
-    ensures none { IfNone result (HasNone (λ f. f.number) number faces.now) }
+fn place_of<K: Key>(slots: &[Slot<K>], number: u32) -> Option<usize>
+    requires { IsRising number_of slots.now }
+    ensures found { IfSome result (λ place. IsPlace number_of number slots.now place) }
+    ensures none { IfNone result (HasNone number_of number slots.now) }
 {
     let place = number.saturating_sub(1) as usize;
-    if is_place(faces, number, place) {
+    if is_place(slots, number, place) {
         return Some(place);
     }
-    search(faces, number)
+    search(slots, number)
 }
 
-// The face of a number.
-fn find_in<K: Key>(faces: &[FaceState<K>], number: u32) -> Option<&FaceState<K>>
-    requires { IsRising (λ f. f.number) faces.now }
-    ensures { option_copied result ≡ first_where (λ f. number == f.number) faces.now }
+// The face of a number, if it stands at a place.
+#[inline(always)]
+fn face_at<K: Key>(slots: &[Slot<K>], number: u32, place: usize) -> Option<&FaceState<K>>
+    requires { IsRising number_of slots.now }
+    ensures { IfSome result (λ f. IsFoundIn number slots.now f.now) }
 {
-    match place_of(faces, number) {
-        Some(place) => Some(&faces[place]),
+    match slots.get(place)?.face() {
+        Some(f) if f.number() == number => Some(f),
+        Some(_) | None => None,
+    }
+}
+
+// The face of a number, where gaps below it were closed.
+fn search_face<K: Key>(slots: &[Slot<K>], number: u32) -> Option<&FaceState<K>>
+    requires { IsRising number_of slots.now }
+    ensures { option_copied result ≡ first_where (λ f. number == f.number) (faces_in slots.now) }
+{
+    match search(slots, number) {
+        Some(place) => slots[place].face(),
         None => None,
     }
 }
 
-// Changes the face at a place.
-fn change_at<K: Key, C: FaceChange<K>>(faces: &mut Vec<FaceState<K>>, place: usize, change: &C)
-    requires { place < length faces.old.items }
-    ensures { (f : Face K) → faces.new.items
-        ≡ set faces.old.items place (C.changed change.now (get_or faces.old.items place f)) }
+// The face of a number. It stands at its own place where no gap below it was closed.
+fn find_in<K: Key>(slots: &[Slot<K>], number: u32) -> Option<&FaceState<K>>
+    requires { IsRising number_of slots.now }
+    ensures { option_copied result ≡ first_where (λ f. number == f.number) (faces_in slots.now) }
 {
-    change.change(&mut faces[place]);
+    match face_at(slots, number, number.saturating_sub(1) as usize) {
+        Some(f) => Some(f),
+        None => search_face(slots, number),
+    }
+}
+
+// Changes the face at a place.
+fn change_at<K: Key, C: FaceChange<K>>(slots: &mut Vec<Slot<K>>, place: usize, change: &C)
+    requires { place < length slots.old.items }
+    ensures { (s : Slot K) → slots.new.items
+        ≡ set slots.old.items place (with_face (C.changed change.now)
+        (get_or slots.old.items place s)) }
+{
+    slots[place].change(change);
 }
 
 // Changes the face at a place, whose next id may be higher then. After an error no face is left.
 fn add_at<K: Key, C: FaceAddition<K>>(
     alloc: Global,
-    faces: &mut Vec<FaceState<K>>,
+    slots: &mut Vec<Slot<K>>,
     highest_next: &mut u32,
     place: usize,
     addition: &C,
 ) -> Result<(), Memory>
-    requires place { place < length faces.old.items }
-    requires up_to { AreUpTo (λ f. f.next) highest_next.old faces.old.items }
-    ensures ok { OnOk result ((f : Face K) → faces.new.items
-        ≡ set faces.old.items place (C.added addition.now (get_or faces.old.items place f))) }
-    ensures up_to { AreUpTo (λ f. f.next) highest_next.new faces.new.items }
-    ensures err { OnErr result (faces.new.items ≡ []) }
+    requires place { place < length slots.old.items }
+    requires up_to { AreUpTo (λ f. f.next) highest_next.old (faces_in slots.old.items) }
+    ensures ok { OnOk result ((s : Slot K) → slots.new.items
+        ≡ set slots.old.items place (with_face (C.added addition.now)
+        (get_or slots.old.items place s))) }
+    ensures up_to { AreUpTo (λ f. f.next) highest_next.new (faces_in slots.new.items) }
+    ensures err { OnErr result (slots.new.items ≡ []) }
 {
-    match addition.add(alloc, &mut faces[place]) {
-        Ok(()) => {
-            *highest_next = (*highest_next).max(faces[place].next());
+    match slots[place].add(alloc, addition) {
+        Ok(next) => {
+            *highest_next = (*highest_next).max(next);
             Ok(())
         }
         Err(error) => {
-            faces.clear();
+            slots.clear();
             Err(error)
         }
     }
 }
 
 // Changes the face of a number.
-fn change_in<K: Key, C: FaceChange<K>>(faces: &mut Vec<FaceState<K>>, number: u32, change: &C)
-    requires { IsRising (λ f. f.number) faces.old.items }
-    ensures { faces.new.items
-        ≡ map (λ f. if number == f.number then C.changed change.now f else f) faces.old.items }
+fn change_in<K: Key, C: FaceChange<K>>(slots: &mut Vec<Slot<K>>, number: u32, change: &C)
+    requires { IsRising number_of slots.old.items }
+    ensures faces { faces_in slots.new.items
+        ≡ map (λ f. if number == f.number then C.changed change.now f else f)
+        (faces_in slots.old.items) }
+    ensures rising { IsRising number_of slots.new.items }
 {
-    if let Some(place) = place_of(faces.as_slice(), number) {
-        change_at(faces, place, change);
+    if let Some(place) = place_of(slots.as_slice(), number) {
+        change_at(slots, place, change);
     }
 }
 
 // Changes the face of a number, whose next id may be higher then. After an error no face is left.
 fn add_in<K: Key, C: FaceAddition<K>>(
     alloc: Global,
-    faces: &mut Vec<FaceState<K>>,
+    slots: &mut Vec<Slot<K>>,
     highest_next: &mut u32,
     number: u32,
     addition: &C,
 ) -> Result<(), Memory>
-    requires rising { IsRising (λ f. f.number) faces.old.items }
-    requires up_to { AreUpTo (λ f. f.next) highest_next.old faces.old.items }
-    ensures ok { OnOk result (faces.new.items
-        ≡ map (λ f. if number == f.number then C.added addition.now f else f) faces.old.items) }
-    ensures up_to { AreUpTo (λ f. f.next) highest_next.new faces.new.items }
-    ensures err { OnErr result (faces.new.items ≡ []) }
+    requires rising { IsRising number_of slots.old.items }
+    requires up_to { AreUpTo (λ f. f.next) highest_next.old (faces_in slots.old.items) }
+    ensures ok { OnOk result (faces_in slots.new.items
+        ≡ map (λ f. if number == f.number then C.added addition.now f else f)
+        (faces_in slots.old.items)) }
+    ensures rising { OnOk result (IsRising number_of slots.new.items) }
+    ensures up_to { AreUpTo (λ f. f.next) highest_next.new (faces_in slots.new.items) }
+    ensures err { OnErr result (slots.new.items ≡ []) }
 {
-    match place_of(faces.as_slice(), number) {
-        Some(place) => add_at(alloc, faces, highest_next, place, addition),
+    match place_of(slots.as_slice(), number) {
+        Some(place) => add_at(alloc, slots, highest_next, place, addition),
         None => Ok(()),
     }
 }
@@ -175,85 +209,86 @@ fn add_in<K: Key, C: FaceAddition<K>>(
 // The face at a place asks.
 fn ask_at<K: Key>(
     alloc: Global,
-    faces: &mut Vec<FaceState<K>>,
+    slots: &mut Vec<Slot<K>>,
     place: usize,
     id: InterestId,
     interest: &RemoteInterest<K>,
     pendings: &[(u32, u32)],
 ) -> Result<(), Memory>
-    requires { place < length faces.old.items }
-    ensures { OnOk result ((f : Face K) → faces.new.items ≡ set faces.old.items place
-        (asked_as pendings.now id interest.now (get_or faces.old.items place f))) }
+    requires { place < length slots.old.items }
+    ensures { OnOk result ((s : Slot K) → slots.new.items ≡ set slots.old.items place
+        (with_face (asked_as pendings.now id interest.now) (get_or slots.old.items place s))) }
 {
-    faces[place].ask(alloc, id, interest, pendings)
+    slots[place].ask(alloc, id, interest, pendings)
 }
 
 // The face of a number asks.
 fn ask_in<K: Key>(
     alloc: Global,
-    faces: &mut Vec<FaceState<K>>,
+    slots: &mut Vec<Slot<K>>,
     number: u32,
     id: InterestId,
     interest: &RemoteInterest<K>,
     pendings: &[(u32, u32)],
 ) -> Result<(), Memory>
-    requires { IsRising (λ f. f.number) faces.old.items }
-    ensures { OnOk result (faces.new.items ≡ map (λ f. if number == f.number
-        then asked_as pendings.now id interest.now f else f) faces.old.items) }
+    requires { IsRising number_of slots.old.items }
+    ensures faces { OnOk result (faces_in slots.new.items ≡ map (λ f. if number == f.number
+        then asked_as pendings.now id interest.now f else f) (faces_in slots.old.items)) }
+    ensures rising { OnOk result (IsRising number_of slots.new.items) }
 {
-    match place_of(faces.as_slice(), number) {
-        Some(place) => ask_at(alloc, faces, place, id, interest, pendings),
+    match place_of(slots.as_slice(), number) {
+        Some(place) => ask_at(alloc, slots, place, id, interest, pendings),
         None => Ok(()),
     }
 }
 
 // What is known of asks that are gone is dropped, where that is much.
-fn tidy<K: Key>(alloc: Global, faces: &[FaceState<K>], askers: &mut Askers) -> Result<(), Memory>
-    requires { AreAsked (asked_in askers.old.rows) faces.now }
-    ensures { OnOk result (AreAsked (asked_in askers.new.rows) faces.now) }
+fn tidy<K: Key>(alloc: Global, slots: &[Slot<K>], askers: &mut Askers) -> Result<(), Memory>
+    requires { AreAsked (asked_in askers.old.rows) (faces_in slots.now) }
+    ensures { OnOk result (AreAsked (asked_in askers.new.rows) (faces_in slots.now)) }
 {
     if !askers.are_many() {
         return Ok(());
     }
     *askers = Askers::new(alloc);
-    *askers = Askers::of_faces(alloc, faces)?;
+    *askers = Askers::of_faces(alloc, OpenFaces::new(slots), slots.len())?;
     Ok(())
 }
 
 // The ask of a face is known from here on by what it was sent as.
 fn know<K: Key>(
     alloc: Global,
-    faces: &[FaceState<K>],
+    slots: &[Slot<K>],
     askers: &mut Askers,
     number: u32,
     id: InterestId,
     pendings: &[(u32, u32)],
 ) -> Result<(), Memory>
-    requires { AreAsked (asked_in askers.old.rows) faces.now }
+    requires { AreAsked (asked_in askers.old.rows) (faces_in slots.now) }
     ensures here { OnOk result (IsKnown (asked_in askers.new.rows) number id pendings.now) }
-    ensures asked { OnOk result (AreAsked (asked_in askers.new.rows) faces.now) }
+    ensures asked { OnOk result (AreAsked (asked_in askers.new.rows) (faces_in slots.now)) }
 {
-    tidy(alloc, faces, askers)?;
+    tidy(alloc, slots, askers)?;
     askers.note_ask(number, id, pendings)
 }
 
 // What a face asks for now is known from here on by what it was sent as, if anything.
 fn know_current<K: Key>(
     alloc: Global,
-    faces: &[FaceState<K>],
+    slots: &[Slot<K>],
     askers: &mut Askers,
     number: u32,
     id: InterestId,
     interest: &RemoteInterest<K>,
     pendings: &[(u32, u32)],
 ) -> Result<(), Memory>
-    requires { AreAsked (asked_in askers.old.rows) faces.now }
+    requires { AreAsked (asked_in askers.old.rows) (faces_in slots.now) }
     ensures here { OnOk result (is_current interest.now.mode ≡ true
         → IsKnown (asked_in askers.new.rows) number id pendings.now) }
-    ensures asked { OnOk result (AreAsked (asked_in askers.new.rows) faces.now) }
+    ensures asked { OnOk result (AreAsked (asked_in askers.new.rows) (faces_in slots.now)) }
 {
     if interest.mode().is_current() {
-        know(alloc, faces, askers, number, id, pendings)
+        know(alloc, slots, askers, number, id, pendings)
     } else {
         Ok(())
     }
@@ -262,72 +297,133 @@ fn know_current<K: Key>(
 // The face of a number asks, and its ask is known by what it was sent as.
 fn ask_known<K: Key>(
     alloc: Global,
-    faces: &mut Vec<FaceState<K>>,
+    slots: &mut Vec<Slot<K>>,
     askers: &mut Askers,
     number: u32,
     id: InterestId,
     interest: &RemoteInterest<K>,
     pendings: &[(u32, u32)],
 ) -> Result<(), Memory>
-    requires rising { IsRising (λ f. f.number) faces.old.items }
-    requires asked { AreAsked (asked_in askers.old.rows) faces.old.items }
-    ensures faces { OnOk result (faces.new.items ≡ map (λ f. if number == f.number
-        then asked_as pendings.now id interest.now f else f) faces.old.items) }
-    ensures asked { OnOk result (AreAsked (asked_in askers.new.rows) faces.new.items) }
+    requires rising { IsRising number_of slots.old.items }
+    requires asked { AreAsked (asked_in askers.old.rows) (faces_in slots.old.items) }
+    ensures faces { OnOk result (faces_in slots.new.items ≡ map (λ f. if number == f.number
+        then asked_as pendings.now id interest.now f else f) (faces_in slots.old.items)) }
+    ensures rising { OnOk result (IsRising number_of slots.new.items) }
+    ensures asked { OnOk result (AreAsked (asked_in askers.new.rows) (faces_in slots.new.items)) }
 {
     know_current(
         alloc,
-        faces.as_slice(),
+        slots.as_slice(),
         askers,
         number,
         id,
         interest,
         pendings,
     )?;
-    ask_in(alloc, faces, number, id, interest, pendings)
+    ask_in(alloc, slots, number, id, interest, pendings)
 }
 
-// The face of a number goes.
-fn remove_in<K: Key>(faces: &mut Vec<FaceState<K>>, routers: &mut BTreeSet<Standing>, number: u32)
-    requires rising { IsRising (λ f. f.number) faces.old.items }
-    requires standings { AreStandings routers.old.keys faces.old.items }
-    ensures faces { faces.new.items ≡ filter (λ f. not (number == f.number)) faces.old.items }
-    ensures standings { AreStandings routers.new.keys faces.new.items }
+// The face at a place goes, and leaves a gap. Answers whether one stood there.
+fn close_at<K: Key>(
+    slots: &mut Vec<Slot<K>>,
+    routers: &mut BTreeSet<Standing>,
+    place: usize,
+) -> bool
+    requires { place < length slots.old.items }
+    ensures slots { (s : Slot K) → slots.new.items
+        ≡ set slots.old.items place (without_face (get_or slots.old.items place s)) }
+    ensures standings { (s : Slot K) → LosesStanding (get_or slots.old.items place s)
+        routers.old.keys routers.new.keys }
 {
-    if let Some(place) = place_of(faces.as_slice(), number) {
-        drop_standing(routers, standing_of(&faces[place]));
-        drop(faces.remove(place));
+    let Some(f) = slots[place].face() else {
+        return false;
+    };
+    let standing = standing_of(f);
+    drop_standing(routers, standing);
+    slots[place] = Slot::Closed(standing.number);
+    true
+}
+
+// The face of a number goes, and leaves a gap. Answers whether there was one.
+fn close_in<K: Key>(slots: &mut Vec<Slot<K>>, routers: &mut BTreeSet<Standing>, number: u32) -> bool
+    requires rising { IsRising number_of slots.old.items }
+    requires standings { AreStandings routers.old.keys (faces_in slots.old.items) }
+    ensures faces { faces_in slots.new.items
+        ≡ filter (λ f. not (number == f.number)) (faces_in slots.old.items) }
+    ensures rising { IsRising number_of slots.new.items }
+    ensures standings { AreStandings routers.new.keys (faces_in slots.new.items) }
+{
+    match place_of(slots.as_slice(), number) {
+        Some(place) => close_at(slots, routers, place),
+        None => false,
     }
 }
 
-// A face more. After an error nothing changes.
+// The face of a number goes, and gaps are closed once they are most.
+fn remove_in<K: Key>(
+    slots: &mut Vec<Slot<K>>,
+    routers: &mut BTreeSet<Standing>,
+    open: &mut usize,
+    number: u32,
+)
+    requires rising { IsRising number_of slots.old.items }
+    requires standings { AreStandings routers.old.keys (faces_in slots.old.items) }
+    ensures faces { faces_in slots.new.items
+        ≡ filter (λ f. not (number == f.number)) (faces_in slots.old.items) }
+    ensures rising { IsRising number_of slots.new.items }
+    ensures standings { AreStandings routers.new.keys (faces_in slots.new.items) }
+{
+    if close_in(slots, routers, number) {
+        *open = (*open).saturating_sub(1);
+        close_gaps(slots, *open);
+    }
+}
+
+// Whether the number is above those of all places, also of gaps.
+fn is_above<K: Key>(slots: &[Slot<K>], number: u32) -> bool
+    requires { IsRising number_of slots.now }
+    ensures { result ≡ true → AreBelow number_of number slots.now }
+{
+    match slots.last() {
+        None => true,
+        Some(slot) => slot.number() < number,
+    }
+}
+
+// A face more. One whose number isn't above those of all places counts as out of memory. After an
+// error nothing changes.
 fn push_in<K: Key>(
-    faces: &mut Vec<FaceState<K>>,
+    slots: &mut Vec<Slot<K>>,
     routers: &mut BTreeSet<Standing>,
     face: FaceState<K>,
 ) -> Result<(), Memory>
-    ensures faces { OnOk result (faces.new.items ≡ faces.old.items ++ face ∷ []) }
+    requires { IsRising number_of slots.old.items }
+    ensures slots { OnOk result (slots.new.items ≡ slots.old.items ++ Open face ∷ []) }
+    ensures below { OnOk result (AreBelow number_of face.number slots.old.items) }
     ensures more { OnOk result (HasMore (standing_of face) routers.old.keys routers.new.keys) }
-    ensures err { OnErr result (faces.new.items ≡ faces.old.items) }
+    ensures err { OnErr result (slots.new.items ≡ slots.old.items) }
     ensures unchanged { OnErr result (routers.new.keys ≡ routers.old.keys) }
 {
+    if !is_above(slots.as_slice(), face.number()) {
+        return Err(Memory);
+    }
     let standing = standing_of(&face);
-    faces.push(face)?;
+    slots.push(Slot::Open(face))?;
     match add_standing(routers, standing) {
         Ok(()) => Ok(()),
         Err(error) => {
-            drop(faces.pop());
+            drop(slots.pop());
             Err(error)
         }
     }
 }
 
 // The first face of a region behind which the router stands. A walk.
-fn walk_to_router<K: Key>(faces: &[FaceState<K>], region: Region, zid: Zid) -> Option<&FaceState<K>>
+fn walk_to_router<K: Key>(slots: &[Slot<K>], region: Region, zid: Zid) -> Option<&FaceState<K>>
     ensures { option_copied result
-        ≡ first_where (λ f. region_eq f.region region && zid_eq f.zid zid) faces.now }
+        ≡ first_where (λ f. region_eq f.region region && zid_eq f.zid zid) (faces_in slots.now) }
 {
-    for f in faces {
+    for f in OpenFaces::new(slots) {
         if f.region() == region && f.zid() == zid {
             return Some(f);
         }
@@ -337,46 +433,49 @@ fn walk_to_router<K: Key>(faces: &[FaceState<K>], region: Region, zid: Zid) -> O
 
 // The first face of a region that may be a router region behind which the router stands.
 fn look_up_router<'a, K: Key>(
-    faces: &'a [FaceState<K>],
+    slots: &'a [Slot<K>],
     routers: &BTreeSet<Standing>,
     region: Region,
     zid: Zid,
 ) -> Option<&'a FaceState<K>>
     requires kept { is_kept region ≡ true }
-    requires rising { IsRising (λ f. f.number) faces.now }
-    requires standings { AreStandings routers.now.keys faces.now }
+    requires rising { IsRising number_of slots.now }
+    requires standings { AreStandings routers.now.keys (faces_in slots.now) }
     ensures { option_copied result
-        ≡ first_where (λ f. region_eq f.region region && zid_eq f.zid zid) faces.now }
+        ≡ first_where (λ f. region_eq f.region region && zid_eq f.zid zid) (faces_in slots.now) }
 {
     match first_of_router(routers, region, zid) {
-        Some(number) => find_in(faces, number),
+        Some(number) => find_in(slots, number),
         None => None,
     }
 }
 
 // The first face of a region behind which the router stands.
 fn find_of_router_in<'a, K: Key>(
-    faces: &'a [FaceState<K>],
+    slots: &'a [Slot<K>],
     routers: &BTreeSet<Standing>,
     region: Region,
     zid: Zid,
 ) -> Option<&'a FaceState<K>>
-    requires rising { IsRising (λ f. f.number) faces.now }
-    requires standings { AreStandings routers.now.keys faces.now }
+    requires rising { IsRising number_of slots.now }
+    requires standings { AreStandings routers.now.keys (faces_in slots.now) }
     ensures { option_copied result
-        ≡ first_where (λ f. region_eq f.region region && zid_eq f.zid zid) faces.now }
+        ≡ first_where (λ f. region_eq f.region region && zid_eq f.zid zid) (faces_in slots.now) }
 {
     if is_kept(region) {
-        look_up_router(faces, routers, region, zid)
+        look_up_router(slots, routers, region, zid)
     } else {
-        walk_to_router(faces, region, zid)
+        walk_to_router(slots, region, zid)
     }
 }
 
 /// The open faces of a gateway, in order of number, each found by its number.
 #[derive(Drop)]
 pub struct Faces<K: Key> {
-    faces: Vec<FaceState<K>>,
+    // Each face, or the gap that it left.
+    slots: Vec<Slot<K>>,
+    // How many are open.
+    open: usize,
     // No face's next id is above it. It stays when faces go.
     highest_next: u32,
     // The faces by the routers behind them.
@@ -389,13 +488,14 @@ impl<K: Key> Model for Faces<K> {
     ghost use Rattle.zt_model.specs.Rows.{Face};
     ghost use Rattle.zt_faces.specs.Asked.{asked_in};
     ghost use Rattle.zt_faces.specs.Indexed.{AreFound};
+    ghost use Rattle.zt_faces.specs.Slots.{faces_in};
 
     ghost Value = { List (Face K) };
 
-    ghost view = { λ a. a.faces.items };
+    ghost view = { λ a. faces_in a.slots.items };
 
     ghost invariant = { λ a. AreFound a.highest_next a.routers.keys (asked_in a.askers.rows)
-        a.faces.items };
+        a.slots.items };
 }
 
 impl<K: Key> Faces<K> {
@@ -404,7 +504,8 @@ impl<K: Key> Faces<K> {
         ensures { result ≡ [] }
     {
         Faces {
-            faces: Vec::new(alloc),
+            slots: Vec::new(alloc),
+            open: 0,
             highest_next: 0,
             routers: BTreeSet::new(alloc),
             askers: Askers::new(alloc),
@@ -419,10 +520,10 @@ impl<K: Key> Faces<K> {
     }
 
     /// The faces, in order of number.
-    pub fn as_slice(&self) -> &[FaceState<K>]
-        ensures { result.now ≡ self.now }
+    pub fn iter(&self) -> OpenFaces<'_, K>
+        ensures { result ≡ self.now }
     {
-        &self.faces
+        OpenFaces::new(&self.slots)
     }
 
     /// The face of a number. Found at once where none below it was closed, else by binary search.
@@ -430,7 +531,7 @@ impl<K: Key> Faces<K> {
         ensures found { option_copied result ≡ first_where (λ f. number == f.number) self.now }
         ensures rising { IsRising (λ f. f.number) self.now }
     {
-        find_in(&self.faces, number)
+        find_in(&self.slots, number)
     }
 
     /// The first face of a region behind which the router stands. Found by binary search in regions
@@ -439,7 +540,7 @@ impl<K: Key> Faces<K> {
         ensures { option_copied result
             ≡ first_where (λ f. region_eq f.region region && zid_eq f.zid zid) self.now }
     {
-        find_of_router_in(&self.faces, &self.routers, region, zid)
+        find_of_router_in(&self.slots, &self.routers, region, zid)
     }
 
     /// Changes the face of a number.
@@ -447,7 +548,7 @@ impl<K: Key> Faces<K> {
         ensures { self.new
             ≡ map (λ f. if number == f.number then C.changed change.now f else f) self.old }
     {
-        change_in(&mut self.faces, number, change);
+        change_in(&mut self.slots, number, change);
     }
 
     /// Changes the face of a number. After an error no face is left.
@@ -463,13 +564,14 @@ impl<K: Key> Faces<K> {
     {
         match add_in(
             alloc,
-            &mut self.faces,
+            &mut self.slots,
             &mut self.highest_next,
             number,
             addition,
         ) {
             Ok(()) => Ok(()),
             Err(error) => {
+                self.open = 0;
                 self.routers.clear();
                 Err(error)
             }
@@ -500,7 +602,7 @@ impl<K: Key> Faces<K> {
     {
         match ask_known(
             alloc,
-            &mut self.faces,
+            &mut self.slots,
             &mut self.askers,
             number,
             id,
@@ -509,7 +611,8 @@ impl<K: Key> Faces<K> {
         ) {
             Ok(()) => Ok(()),
             Err(error) => {
-                self.faces.clear();
+                self.slots.clear();
+                self.open = 0;
                 self.routers.clear();
                 Err(error)
             }
@@ -525,16 +628,18 @@ impl<K: Key> Faces<K> {
     {
         let next = face.next();
         self.askers.note_face(&face)?;
-        push_in(&mut self.faces, &mut self.routers, face)?;
+        push_in(&mut self.slots, &mut self.routers, face)?;
+        self.open = self.open.saturating_add(1);
         self.highest_next = self.highest_next.max(next);
         Ok(())
     }
 
-    /// The face of a number goes.
+    /// The face of a number goes. The others stay where they are: no more than a few are moved for
+    /// each that goes.
     pub fn remove(&mut self, number: u32)
         ensures { self.new ≡ filter (λ f. not (number == f.number)) self.old }
     {
-        remove_in(&mut self.faces, &mut self.routers, number);
+        remove_in(&mut self.slots, &mut self.routers, &mut self.open, number);
     }
 
     /// Equal faces.
@@ -542,10 +647,11 @@ impl<K: Key> Faces<K> {
         ensures { IfOk result (λ copy. copy ≡ self.now) }
     {
         Ok(Faces {
-            faces: copy_all(alloc, self.faces.as_slice())?,
+            slots: copy_all(alloc, self.slots.as_slice())?,
+            open: self.open,
             highest_next: self.highest_next,
             routers: copy_standings(&self.routers)?,
-            askers: Askers::of_faces(alloc, self.faces.as_slice())?,
+            askers: Askers::of_faces(alloc, self.iter(), self.open)?,
         })
     }
 }

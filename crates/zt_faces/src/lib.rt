@@ -8,7 +8,10 @@ mod asked;
 mod by_number;
 mod by_router;
 mod changes;
+mod slots;
+mod walk;
 
 pub use asked::Asker;
 pub use by_number::Faces;
 pub use changes::{FaceAddition, FaceChange};
+pub use walk::OpenFaces;

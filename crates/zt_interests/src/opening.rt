@@ -15,7 +15,7 @@ use crate::routing::{is_north, leads_up};
 use std::alloc::Global;
 use zt_keys::{Key, Memory};
 use zt_protocol::{InterestMode, Message, copy_expression};
-use zt_state::{FaceState, GatewayState, RemoteInterest, RowsById};
+use zt_state::{FaceState, GatewayState, OpenFaces, RemoteInterest, RowsById};
 use zt_tokens::{find_face, hat_of_face, visible_expressions};
 
 // Whether the new face is told of what is there: where it is told unasked, and not by trees.
@@ -74,17 +74,15 @@ fn insert_held_by<K: Key>(
 // Puts what these faces hold in its places.
 fn insert_faces<K: Key>(
     alloc: Global,
-    faces: &[FaceState<K>],
+    faces: OpenFaces<'_, K>,
     interests: &mut Vec<RemoteInterest<K>>,
 ) -> Result<(), Memory>
     ensures { OnOk result (interests.new.items
-        ≡ with_keys (interest_order K.cmp K.matching) (flat_map held_by faces.now)
+        ≡ with_keys (interest_order K.cmp K.matching) (flat_map held_by faces.entry)
         interests.old.items) }
 {
-    let mut left = faces.len();
-    while left > 0 {
-        left -= 1;
-        insert_held_by(alloc, &faces[left], interests)?;
+    for f in faces.rev() {
+        insert_held_by(alloc, f, interests)?;
     }
     Ok(())
 }

@@ -43,7 +43,7 @@ fn holds_south<K: Key>(f: &FaceState<K>, interest: &RemoteInterest<K>) -> bool
 fn does_any_hold_south<K: Key>(g: &GatewayState<K>, interest: &RemoteInterest<K>) -> bool
     ensures { result ≡ is_held_south K.cmp K.matching g.now interest.now }
 {
-    g.faces().iter().any(|f| holds_south(f, interest))
+    g.faces().any(|f| holds_south(f, interest))
 }
 
 // Whether the face holds such an interest under the id.

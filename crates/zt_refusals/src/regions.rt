@@ -47,7 +47,7 @@ fn has_face<K: Key>(g: &GatewayState<K>, region: Region) -> bool
 {
     match region {
         Region::North => has_north(g),
-        Region::Local | Region::South { .. } => g.faces().iter().any(|f| is_in(f, region)),
+        Region::Local | Region::South { .. } => g.faces().any(|f| is_in(f, region)),
     }
 }
 

@@ -166,7 +166,6 @@ fn do_faces_lack<K: Key>(
         (lacks_among K.cmp K.matching face interest expr.now g.now told.now) g.now.faces }
 {
     g.faces()
-        .iter()
         .any(|f| lacks_token_id(g, face, interest, expr, from, told, f))
 }
 

@@ -59,7 +59,7 @@ fn is_hidden<K: Key>(g: &GatewayState<K>, source: Region, expr: &K, region: Regi
 // Whether the tables list more children of the gateway's own than there are faces, so that a walk
 // over the faces is shorter than one over the children.
 fn has_many_children<K: Key>(g: &GatewayState<K>) -> bool {
-    let mut left = g.faces().len();
+    let mut left = g.faces().places();
     for (_region, table) in g.trees() {
         let count = table.children_of(g.zid()).len();
         if count > left {

@@ -84,7 +84,7 @@ pub(crate) fn say_to_children<K: Key, R: FaceRule<K>>(
         ≡ to_each (R.given rule.now g.now) g.now.faces) }
 {
     // With more children than faces a walk over the faces is shorter.
-    if children.len() > g.faces().len() {
+    if children.len() > g.faces().places() {
         return say_each(alloc, g, rule);
     }
     let mut numbers = Vec::new(alloc);

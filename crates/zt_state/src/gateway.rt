@@ -23,7 +23,7 @@ use std::alloc::Global;
 use std::collections::BTreeMap;
 use std::marker::Model;
 use zt_face::FaceState;
-use zt_faces::{Asker, Faces};
+use zt_faces::{Asker, Faces, OpenFaces};
 use zt_indexes::LiveCounts;
 use zt_keys::{Key, Memory};
 use zt_link_state::{KeptTable, RoutedTokens};
@@ -289,9 +289,9 @@ impl<K: Key> GatewayState<K> {
     }
 
     /// The open faces, in order of number.
-    pub fn faces(&self) -> &[FaceState<K>]
-        ensures { result.now ≡ self.now.faces }
+    pub fn faces(&self) -> OpenFaces<'_, K>
+        ensures { result ≡ self.now.faces }
     {
-        self.faces.as_slice()
+        self.faces.iter()
     }
 }

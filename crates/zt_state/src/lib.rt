@@ -17,4 +17,4 @@ pub use gateway::GatewayState;
 pub use zt_face::{
     AskState, FaceState, LocalInterests, LocalTokens, PendingInterest, RemoteInterest, RowsById,
 };
-pub use zt_faces::Asker;
+pub use zt_faces::{Asker, OpenFaces};

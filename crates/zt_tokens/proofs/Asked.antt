@@ -1,5 +1,5 @@
 -- What is answered, where it is known whose asks were sent so.
-use Rattle.std.proofs.Common.{◌≡◌, ℕ, ◌==◌, Bool, false, if◌then◌else◌, List, [], ◌∷◌, ◌++◌, Some, None, ap, map, refl, sym, ◌∙◌}
+use Rattle.std.proofs.Common.{◌≡◌, ℕ, ◌==◌, Bool, if◌then◌else◌, List, [], ◌∷◌, ◌++◌, Some, None, ap, map, refl, sym, ◌∙◌}
 use Rattle.std.specs.List.{AllByRecursion}
 use Rattle.std.specs.List.Sorted.{IsStrictlySortedBy}
 use Rattle.std.specs.Map.{keys_of}
@@ -13,7 +13,7 @@ use Rattle.zt_faces.proofs.Said.{closed-said, nobody-said, one-said, said_at}
 use Rattle.zt_model.specs.Lists.{at_id, first_where}
 use Rattle.zt_model.specs.Parts.{Sends, to_each, told_id}
 use Rattle.zt_model.specs.Rows.{Ask, Face}
-use Rattle.zt_model.specs.Telling.{answer_to, answers_from, is_answered_by, was_sent_as}
+use Rattle.zt_model.specs.Telling.{answer_to, answers_from, is_answered_by}
 use Rattle.zt_token_index.specs.Told.{id_of}
 use Rattle.zt_tokens.specs.Answered.{answer_of, answer_told}
 use Rattle.zt_tokens.proofs.Answers.{answers-by}

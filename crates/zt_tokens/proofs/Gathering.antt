@@ -1,7 +1,6 @@
 -- Keys put in their places, from behind.
-use Rattle.std.proofs.Common.{◌≡◌, ℕ, zero, suc, ◌-◌, ◌<◌, ◌≤◌, List, [], ◌∷◌, ◌++◌, flat_map, map, length, get_or, drop, refl, ap, sym, ◌∙◌, arith}
-use Rattle.std.proofs.Math.Seq.{drop-cons}
-use Rattle.std.proofs.lemmas.List.{map-append}
+use Rattle.std.proofs.Common.{◌≡◌, List, [], ◌∷◌, ◌++◌, append_assoc, flat_map, map, refl, ap, sym, ◌∙◌}
+use Rattle.std.proofs.lemmas.List.{append-nil, map-append}
 use Rattle.std.specs.BTreeSet.{insert_key}
 use Rattle.std.specs.FinMap.Entries.{by_order}
 use Rattle.std.specs.Ordering.{match_ordering}
@@ -20,17 +19,16 @@ pub in_key_order_is : {K : Type 0} (cmp : K → K → Ordering) (xs : List K) �
 in_key_order_is cmp [] = refl
 in_key_order_is cmp (x ∷ xs) = ap (with_key cmp x) (in_key_order_is cmp xs)
 
-drop_one_more : {A : Type 0} (xs : List A) (i : ℕ) (x : A) → 0 < i → i ≤ length xs → x ≡ get_or xs (i - 1) x → drop (i - 1) xs ≡ x ∷ drop i xs
-drop_one_more xs zero x pos le is = absurd (omega arith)
-drop_one_more xs (suc i) x pos le is =
-    let e : suc i - 1 ≡ i = omega arith in
-    rw e (drop-cons xs i x (omega arith) ∙ ap (λ y. y ∷ drop (suc i) xs) (sym (rw e at is)))
+flat_map-last : {K X : Type 0} (keys_of : X → List K) (xs : List X) (x : X) → flat_map keys_of (xs ++ x ∷ []) ≡ flat_map keys_of xs ++ keys_of x
+flat_map-last keys_of [] x = append-nil (keys_of x)
+flat_map-last keys_of (y ∷ xs) x = ap (λ ks. keys_of y ++ ks) (flat_map-last keys_of xs x) ∙ sym (append_assoc (keys_of y) (flat_map keys_of xs) (keys_of x))
 
--- one row more, from behind
-pub with_keys-one_more : {K X : Type 0} (cmp : K → K → Ordering) (keys_of : X → List K) (xs : List X) (i : ℕ) (x : X) (keys : List K) → 0 < i → i ≤ length xs → x ≡ get_or xs (i - 1) x
-    → with_keys cmp (flat_map keys_of (drop (i - 1) xs)) keys ≡ with_keys cmp (keys_of x) (with_keys cmp (flat_map keys_of (drop i xs)) keys)
-with_keys-one_more cmp keys_of xs i x keys pos le is =
-    ap (λ ys. with_keys cmp (flat_map keys_of ys) keys) (drop_one_more xs i x pos le is) ∙ with_keys-append cmp (keys_of x) (flat_map keys_of (drop i xs)) keys
+-- the last one's keys first, then those of the ones before it
+pub with_keys-last_of : {K X : Type 0} (cmp : K → K → Ordering) (keys_of : X → List K) (rest left : List X) (x : X) (keys : List K) → rest ≡ left ++ x ∷ []
+    → with_keys cmp (flat_map keys_of left) (with_keys cmp (keys_of x) keys) ≡ with_keys cmp (flat_map keys_of rest) keys
+with_keys-last_of cmp keys_of rest left x keys last =
+    sym (with_keys-append cmp (flat_map keys_of left) (keys_of x) keys)
+    ∙ ap (λ ks. with_keys cmp ks keys) (sym (flat_map-last keys_of left x) ∙ ap (flat_map keys_of) (sym last))
 
 pub insert_key_is : {K : Type 0} (cmp : K → K → Ordering) (e : K) (keys : List K) → insert_key cmp keys e ≡ with_key cmp e keys
 insert_key_is cmp e [] = refl

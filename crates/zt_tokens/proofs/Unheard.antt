@@ -3,7 +3,6 @@ use Rattle.std.proofs.Common.{◌≡◌, ◌≤◌, ℕ, ◌==◌, Bool, true, f
 use Rattle.std.specs.List.{AllByRecursion, list_any}
 use Rattle.std.specs.declared.cmp.Ordering.{Ordering}
 use Rattle.zt_keys.specs.Test.{by_test}
-use Rattle.zt_region.specs.Region.{is_north}
 use Rattle.zt_region.specs.declared.region.Region.{Region}
 use Rattle.zt_model.specs.Lists.{first_where, is_some_and, same}
 use Rattle.zt_model.specs.Hat.{hat_of_face}

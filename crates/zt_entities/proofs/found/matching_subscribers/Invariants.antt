@@ -1,4 +1,4 @@
-use Rattle.std.proofs.Common.{◌≡◌, ◌++◌, drop}
+use Rattle.std.proofs.Common.{◌≡◌, ◌++◌}
 use Rattle.std.specs.List.{flat_map}
 use Rattle.zt_model.specs.Wants.{is_about}
 use Rattle.zt_entities.specs.Found.{found_at}
@@ -7,5 +7,5 @@ use Rattle.zt_entities.proofs.found.matching_subscribers.Given as goal
 -- what is found so far, and at the faces left, is all
 abbrev pub invariant-loop-other : goal.invariant-loop-other
 invariant-loop-other g l =
-    l.found.items ++ flat_map (found_at l.g l.f (is_about g.K.Key.matching l.interest.expr) (λ x. x.subscribers)) (drop l.other-index l.other-items)
-    ≡ flat_map (found_at l.g l.f (is_about g.K.Key.matching l.interest.expr) (λ x. x.subscribers)) l.other-items
+    l.found.items ++ flat_map (found_at l.g l.f (is_about g.K.Key.matching l.interest.expr) (λ x. x.subscribers)) l.other-iterator
+    ≡ flat_map (found_at l.g l.f (is_about g.K.Key.matching l.interest.expr) (λ x. x.subscribers)) l.g.faces

@@ -4,6 +4,7 @@ use Rattle.std.proofs.lemmas.Result.{on_ok_weaker}
 use Rattle.zt_model.specs.Routing.{asked_as}
 use Rattle.zt_protocol.specs.Interest.{is_current}
 use Rattle.zt_faces.specs.Asked.{AreAsked, IsKnown, asked_in}
+use Rattle.zt_faces.specs.Slots.{faces_in}
 use Rattle.zt_faces.proofs.Known.{asked-changed, asks-put}
 use Rattle.zt_faces.proofs.by_number.ask_known.Goals as goal
 
@@ -18,5 +19,5 @@ returns-clause-asked g c =
     (asked-changed askers c.args.number (asked_as pendings c.args.id interest) (λ f. refl)
     (λ f t asks. asks-put askers (is_current interest.mode) f.number c.args.id (record { interest = interest; pendings = pendings; answered = [] }) f.asks
     (λ current. subst (λ n. IsKnown askers n c.args.id pendings) (eqb-true c.args.number f.number t) (known.here current)) asks)
-    c.args.faces.now.items (rw c.as_slice.ensures.value at known.asked)))
-    c.ask_in.ensures
+    (faces_in c.args.slots.now.items) (rw c.as_slice.ensures.value at known.asked)))
+    c.ask_in.ensures.faces

@@ -1,14 +1,10 @@
-use Rattle.std.proofs.Common.{◌<◌, ◌≤◌, length, arith}
-use Rattle.zt_model.specs.Routing.{interest_order}
+use Rattle.std.proofs.Common.{◌∙◌}
 use Rattle.zt_interests.specs.Held.{held_by}
-use Rattle.zt_tokens.proofs.Gathering.{with_keys-one_more}
+use Rattle.zt_model.specs.Routing.{interest_order}
+use Rattle.zt_tokens.proofs.Gathering.{with_keys-last_of}
 use Rattle.zt_interests.proofs.opening.insert_faces.Goals as goal
 
-pub loop-left-preserved : goal.loop-left-preserved
-loop-left-preserved g c =
-    let within : c.loop-left.left ≤ length c.args.faces.now = c.loop-left.invariant.within in
-    let pos : 0 < c.loop-left.left = c.loop-left-test.true in
-    record {
-      within = omega arith;
-      placed = rw (with_keys-one_more (interest_order g.K.Ord.cmp g.K.Key.matching) held_by c.args.faces.now c.loop-left.left c.index-faces-left.result c.args.interests.now.items pos within c.index-faces-left.is, ← c.loop-left.invariant.placed) c.in_ok-insert_held_by.ensures;
-    }
+pub loop-f-preserved : goal.loop-f-preserved
+loop-f-preserved g c =
+    rw c.in_ok-insert_held_by.ensures
+    (with_keys-last_of (interest_order g.K.Ord.cmp g.K.Key.matching) held_by c.loop-f.f-iterator.iter c.next.new.self.iter c.in-Some.f.now c.loop-f.interests.items c.in-Some.ensures.steps ∙ c.loop-f.invariant)

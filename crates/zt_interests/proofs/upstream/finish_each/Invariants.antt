@@ -1,4 +1,4 @@
-use Rattle.std.proofs.Common.{◌≡◌, ◌++◌, drop}
+use Rattle.std.proofs.Common.{◌≡◌, ◌++◌}
 use Rattle.zt_model.specs.Parts.{to_each}
 use Rattle.zt_model.specs.Routing.{finish_to}
 use Rattle.zt_interests.proofs.upstream.finish_each.Given as goal
@@ -7,4 +7,4 @@ use Rattle.zt_interests.proofs.upstream.finish_each.Given as goal
 abbrev pub invariant-loop-f : goal.invariant-loop-f
 invariant-loop-f g l =
     let rule = finish_to l.g l.face l.id in
-    l.sends.items ++ to_each rule (drop l.f-index l.f-items) ≡ to_each rule l.f-items
+    l.sends.items ++ to_each rule l.f-iterator ≡ to_each rule l.g.faces

@@ -1,6 +1,6 @@
-use Rattle.std.proofs.Common.{◌≡◌, ◌≤◌, ◌<◌, ap, length, arith, ◌∙◌}
+use Rattle.std.proofs.Common.{◌≡◌, ◌∙◌}
 use Rattle.zt_token_index.specs.Told.{id_of}
-use Rattle.zt_model.specs.Parts.{to_each, told_id}
+use Rattle.zt_model.specs.Parts.{told_id}
 use Rattle.zt_model.specs.Telling.{answer_to}
 use Rattle.zt_state.proofs.Walks.{to_each_done, to_each_more}
 use Rattle.zt_tokens.specs.Answered.{answer_told}
@@ -11,9 +11,7 @@ use Rattle.zt_tokens.proofs.answering.answer_each.Goals as goal
 pub loop-f-preserved : goal.loop-f-preserved
 loop-f-preserved g c =
     let rule = answer_told g.K.Ord.cmp g.K.Key.matching c.args.face c.args.id c.args.expr.now c.told_at-told.result.now in
-    let faces = c.faces-f-items.result.now in
-    let within : c.loop-f.f-index < length faces = omega arith in
-    to_each_more rule faces c.loop-f.f-index c.f-item.result c.loop-f.sends.items _ _ within c.f-item.is c.loop-f.invariant c.in_ok-answer_to.ensures
+    to_each_more rule _ _ c.in-Some.f.now c.loop-f.sends.items _ _ c.in-Some.ensures.steps c.loop-f.invariant c.in_ok-answer_to.ensures
 
 pub returns : goal.returns
 returns g c =
@@ -23,9 +21,6 @@ returns g c =
     let pairs = c.told_at-told.result.now in
     let by = answer_told cmp matching c.args.face c.args.id e pairs in
     let rule = answer_to cmp matching c.args.face c.args.id e in
-    let faces = c.faces-f-items.result.now in
-    let past : length faces ≤ c.loop-f.f-index = omega arith in
-    to_each_done by faces c.loop-f.f-index c.loop-f.sends.items _ past c.loop-f.invariant
-    ∙ ap (to_each by) c.faces-f-items.ensures
+    to_each_done by _ c.loop-f.sends.items _ c.in-None.ensures.steps.0 c.loop-f.invariant
     ∙ each_alike rule by c.args.g.now.faces
     (each-then (λ f. id_of f.number pairs ≡ told_id cmp e f.told) (λ f. by f ≡ rule f) (answers-by cmp matching c.args.face c.args.id e pairs) c.args.g.now.faces c.told_at-told.ensures.told.ids)

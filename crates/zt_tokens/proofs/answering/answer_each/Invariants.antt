@@ -1,4 +1,4 @@
-use Rattle.std.proofs.Common.{◌≡◌, ◌++◌, drop}
+use Rattle.std.proofs.Common.{◌≡◌, ◌++◌}
 use Rattle.zt_model.specs.Parts.{to_each}
 use Rattle.zt_tokens.specs.Answered.{answer_told}
 use Rattle.zt_tokens.proofs.answering.answer_each.Given as goal
@@ -7,4 +7,4 @@ use Rattle.zt_tokens.proofs.answering.answer_each.Given as goal
 abbrev pub invariant-loop-f : goal.invariant-loop-f
 invariant-loop-f g l =
     let rule = answer_told g.K.Ord.cmp g.K.Key.matching l.face l.id l.expr l.told in
-    l.sends.items ++ to_each rule (drop l.f-index l.f-items) ≡ to_each rule l.f-items
+    l.sends.items ++ to_each rule l.f-iterator ≡ to_each rule l.g.faces

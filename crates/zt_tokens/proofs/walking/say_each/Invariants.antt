@@ -1,4 +1,4 @@
-use Rattle.std.proofs.Common.{◌≡◌, ◌++◌, drop}
+use Rattle.std.proofs.Common.{◌≡◌, ◌++◌}
 use Rattle.zt_model.specs.Parts.{to_each}
 use Rattle.zt_tokens.proofs.walking.say_each.Given as goal
 
@@ -6,4 +6,4 @@ use Rattle.zt_tokens.proofs.walking.say_each.Given as goal
 abbrev pub invariant-loop-f : goal.invariant-loop-f
 invariant-loop-f g l =
     let rule = g.R.FaceRule.given l.rule l.g in
-    l.sends.items ++ to_each rule (drop l.f-index l.f-items) ≡ to_each rule l.f-items
+    l.sends.items ++ to_each rule l.f-iterator ≡ to_each rule l.g.faces

@@ -1,8 +1,8 @@
 use Rattle.std.proofs.Common.{refl}
 use Rattle.zt_model.specs.Routing.{asked_as}
 use Rattle.zt_model.specs.Rows.{Face}
+use Rattle.zt_faces.specs.Slots.{faces_in}
 use Rattle.zt_faces.proofs.Highest.{up-to-changed}
-use Rattle.zt_faces.proofs.Rising.{changed-rising}
 use Rattle.zt_faces.proofs.Routers.{changed}
 use Rattle.zt_faces.proofs.by_number.Faces.ask.Goals as goal
 
@@ -12,10 +12,11 @@ invariant_of-self g c =
     let next = λ (x : Face g.row.K.Denot). x.next in
     let change = asked_as c.args.pendings.now c.args.id c.args.interest.now in
     let s = c.self.inside in
+    let faces = faces_in s.slots.items in
     let made = c.in-Ok.ensures in
-    rw made.faces (record {
-      rising = changed-rising number c.args.number change (λ f. refl) s.faces.items c.self.invariant.rising;
-      up_to = up-to-changed next number c.args.number s.highest_next change (λ f. refl) s.faces.items c.self.invariant.up_to;
-      routers = changed c.args.number change (λ f. refl) (λ f. record { region = refl; zid = refl }) s.routers.keys s.faces.items c.self.invariant.routers;
-      asked = rw made.faces at made.asked;
-    })
+    record {
+      rising = made.rising;
+      up_to = rw made.faces (up-to-changed next number c.args.number s.highest_next change (λ f. refl) faces c.self.invariant.up_to);
+      routers = rw made.faces (changed c.args.number change (λ f. refl) (λ f. record { region = refl; zid = refl }) s.routers.keys faces c.self.invariant.routers);
+      asked = made.asked;
+    }

@@ -1,23 +1,24 @@
+use Rattle.std.proofs.Common.{ap, ◌∙◌}
 use Rattle.zt_model.specs.Rows.{Face}
-use Rattle.zt_faces.specs.Rising.{AreUpTo}
+use Rattle.zt_faces.specs.Slots.{faces_in, number_of}
+use Rattle.zt_faces.specs.declared.slots.Slot.TheVariants.{Open}
+use Rattle.zt_faces.proofs.Gaps.{behind-rising, pushed-in}
 use Rattle.zt_faces.proofs.Highest.{up-to-pushed}
 use Rattle.zt_faces.proofs.Known.{asked-more, asked-pushed}
-use Rattle.zt_faces.proofs.Rising.{pushed-rising}
 use Rattle.zt_faces.proofs.Routers.{pushed}
 use Rattle.zt_faces.proofs.by_number.Faces.push.Goals as goal
 
 pub invariant_of-self-2 : goal.invariant_of-self-2
 invariant_of-self-2 g c =
-    let number = λ (x : Face g.row.K.Denot). x.number in
     let next = λ (x : Face g.row.K.Denot). x.next in
     let s = c.self.inside in
+    let faces = faces_in s.slots.items in
     let made = c.in_ok-push_in.ensures in
-    let up_to : AreUpTo number c.args.made s.faces.items = rw c.self.view_is c.requires.up_to in
-    rw (made.faces, c.max-self-inside.ensures, c.next-next.ensures) (record {
-      rising = pushed-rising number c.args.made s.faces.items c.args.face up_to c.requires.above c.self.invariant.rising;
-      up_to = up-to-pushed next s.highest_next s.faces.items c.args.face c.self.invariant.up_to;
-      routers = pushed s.routers.keys c.push_in.new.routers.keys s.faces.items c.args.face c.self.invariant.routers made.more;
-      asked = asked-pushed _ s.faces.items c.args.face (asked-more _ _ c.note_face.ensures.kept s.faces.items c.self.invariant.asked) c.in_ok-note_face.ensures.here;
+    rw (made.slots, c.max-self-inside.ensures, c.next-next.ensures) (record {
+      rising = behind-rising number_of s.slots.items (Open c.args.face) made.below c.self.invariant.rising;
+      up_to = rw (pushed-in s.slots.items c.args.face) (up-to-pushed next s.highest_next faces c.args.face c.self.invariant.up_to);
+      routers = rw (pushed-in s.slots.items c.args.face) (pushed s.routers.keys c.push_in.new.routers.keys faces c.args.face c.self.invariant.routers made.more);
+      asked = rw (pushed-in s.slots.items c.args.face) (asked-pushed _ faces c.args.face (asked-more _ _ c.note_face.ensures.kept faces c.self.invariant.asked) c.in_ok-note_face.ensures.here);
     })
 
 pub invariant_of-self : goal.invariant_of-self
@@ -27,7 +28,7 @@ invariant_of-self g c =
       rising = c.self.invariant.rising;
       up_to = c.self.invariant.up_to;
       routers = c.self.invariant.routers;
-      asked = asked-more _ _ c.note_face.ensures.kept s.faces.items c.self.invariant.asked;
+      asked = asked-more _ _ c.note_face.ensures.kept (faces_in s.slots.items) c.self.invariant.asked;
     }
 
 pub invariant_of-self-in_err-push_in : goal.invariant_of-self-in_err-push_in
@@ -37,5 +38,10 @@ invariant_of-self-in_err-push_in g c =
       rising = c.self.invariant.rising;
       up_to = c.self.invariant.up_to;
       routers = c.self.invariant.routers;
-      asked = asked-more _ _ c.note_face.ensures.kept s.faces.items c.self.invariant.asked;
+      asked = asked-more _ _ c.note_face.ensures.kept (faces_in s.slots.items) c.self.invariant.asked;
     })
+
+pub returns-clause-ok : goal.returns-clause-ok
+returns-clause-ok g c =
+    let s = c.self.inside in
+    rw (← c.self.view_is) (ap faces_in c.in_ok-push_in.ensures.slots ∙ pushed-in s.slots.items c.args.face)
