@@ -27,6 +27,9 @@ use Rattle.zt_check_keeping.specs.Keeping.{are_no_less, are_no_more}
 use Rattle.zt_check_keeping.proofs.Bounded.{less_passes, more_passes}
 use Rattle.zt_check_keeping.proofs.Nodes.{Lists}
 use Rattle.zt_check_keeping.proofs.Turns.{Touches, turn_no_less, turn_no_more}
+use Rattle.zt_check_asks.specs.Answering.{asks_are_answered}
+use Rattle.zt_check_asks.specs.Calls.{PlainTold, told_of}
+use Rattle.zt_check_asks.proofs.Turns.{answers_say, answers_told, refused_answers}
 use Rattle.zt_check.specs.Clauses.{Meets}
 use Rattle.zt_check.specs.Turns.{IsKept, Tells, TellsOf, bounds, first_failed, turn_of}
 use Rattle.zt_check.specs.declared.verdict.Clause.{Clause}
@@ -88,7 +91,7 @@ module _ {K : Type 0} (cmp : K → K → Ordering) (matching : K → K → Bool)
   tells_later t (Some Cause) cause text told = inr (text, inr (cause, told))
   tells_later t (Some Upper) cause text told = inr (text, inr (cause, told))
   tells_later t (Some Lower) cause text told = inr (text, inr (cause, told))
-  tells_later t (Some Answers) cause text told = (text, (cause, told))
+  tells_later t (Some Answers) cause text told = inr (text, inr (cause, told))
   tells_later t (Some Finals) cause text told = (text, (cause, told))
 
   -- ---- the fabric after one turn
@@ -131,17 +134,18 @@ module _ {K : Type 0} (cmp : K → K → Ordering) (matching : K → K → Bool)
   pub refused_bounds : (line : PlainLine K) (refusal : Refusal) (s : Fabric K) → IsKept cmp matching s → TellsOf cmp matching bounds (turn_of cmp matching line (Err refusal) s) None
   refused_bounds line refusal s kept = (
     refused_keeps (KeepsNoMore cmp matching) line refusal s kept.no_more,
-    (refused_keeps (KeepsNoLess cmp matching) line refusal s kept.no_less, tt),
+    (refused_keeps (KeepsNoLess cmp matching) line refusal s kept.no_less, (refused_answers cmp matching line refusal s, tt)),
   )
 
   -- the tests of both bounds say what they are to
   bounds_tell : (t : Turn K) (more less answers finals : Bool) → (more ≡ true → Meets cmp matching t Upper) → (Meets cmp matching t Upper → more ≡ true) → (less ≡ true → Meets cmp matching t Lower)
-      → (Meets cmp matching t Lower → less ≡ true) → TellsOf cmp matching bounds t (first_failed more less answers finals)
-  bounds_tell t false less answers finals upper from_upper lower from_lower = inl (refl, λ meets. yes_is_not_no (sym (from_upper meets)))
-  bounds_tell t true false answers finals upper from_upper lower from_lower = inr (upper refl, inl (refl, λ meets. yes_is_not_no (sym (from_lower meets))))
-  bounds_tell t true true false finals upper from_upper lower from_lower = (upper refl, (lower refl, tt))
-  bounds_tell t true true true false upper from_upper lower from_lower = (upper refl, (lower refl, tt))
-  bounds_tell t true true true true upper from_upper lower from_lower = (upper refl, (lower refl, tt))
+      → (Meets cmp matching t Lower → less ≡ true)
+      → (answers ≡ true → Meets cmp matching t Answers) → (Meets cmp matching t Answers → answers ≡ true) → TellsOf cmp matching bounds t (first_failed more less answers finals)
+  bounds_tell t false less answers finals upper from_upper lower from_lower answered from_answered = inl (refl, λ meets. yes_is_not_no (sym (from_upper meets)))
+  bounds_tell t true false answers finals upper from_upper lower from_lower answered from_answered = inr (upper refl, inl (refl, λ meets. yes_is_not_no (sym (from_lower meets))))
+  bounds_tell t true true false finals upper from_upper lower from_lower answered from_answered = inr (upper refl, inr (lower refl, inl (refl, λ meets. yes_is_not_no (sym (from_answered meets)))))
+  bounds_tell t true true true false upper from_upper lower from_lower answered from_answered = (upper refl, (lower refl, (answered refl, tt)))
+  bounds_tell t true true true true upper from_upper lower from_lower answered from_answered = (upper refl, (lower refl, (answered refl, tt)))
 
   module _ (total : IsTotalOrder cmp) (equal_is_same : (a b : K) → cmp a b ≡ Equal → a ≡ b) where
     itself : (e : K) → same cmp e e ≡ true
@@ -156,12 +160,12 @@ module _ {K : Type 0} (cmp : K → K → Ordering) (matching : K → K → Bool)
     exact a b h = equal_is_same a b (is_equal (cmp a b) h)
 
     -- an accepted line, by the lists of what it touches
-    pub accepted_bounds : (line : PlainLine K) (ms : List (Sent K)) (s carried after : Fabric K) (found : Option (CallAt K)) (tokens : List (ℕ × K)) (opened : List (ℕ × ℕ)) (held : List (ℕ × ℕ × ℕ)) (unheld : List (ℕ × ℕ)) (heard : List (ℕ × ℕ × K)) (more less answers finals : Bool)
+    pub accepted_bounds : (line : PlainLine K) (ms : List (Sent K)) (s carried after : Fabric K) (found : Option (CallAt K)) (tokens : List (ℕ × K)) (opened : List (ℕ × ℕ)) (held : List (ℕ × ℕ × ℕ)) (unheld : List (ℕ × ℕ)) (heard : List (ℕ × ℕ × K)) (told : PlainTold K) (more less answers finals : Bool)
         → found ≡ call_of line s → tokens ≡ tokens_by line found s → opened ≡ opened_by line found s → held ≡ held_at found → unheld ≡ unheld_at found
         → carried ≡ fabric_with cmp matching line ms s → heard ≡ heard_by carried ms → after ≡ fabric_shown cmp matching line (Ok ms) s
-        → more ≡ are_no_more cmp matching after tokens heard unheld → less ≡ are_no_less cmp matching after tokens heard opened held → IsKept cmp matching s
+        → more ≡ are_no_more cmp matching after tokens heard unheld → less ≡ are_no_less cmp matching after tokens heard opened held → told ≡ told_of found ms → answers ≡ asks_are_answered cmp matching carried told → IsKept cmp matching s
         → TellsOf cmp matching bounds (turn_of cmp matching line (Ok ms) s) (first_failed more less answers finals)
-    accepted_bounds line ms s carried after found tokens opened held unheld heard more less answers finals found_is tokens_is opened_is held_is unheld_is carries heard_is shows more_is less_is kept =
+    accepted_bounds line ms s carried after found tokens opened held unheld heard told more less answers finals found_is tokens_is opened_is held_is unheld_is carries heard_is shows more_is less_is told_is answers_is kept =
         let shown = fabric_shown cmp matching line (Ok ms) s in
         let lists : Lists K = record { tokens = tokens; unheld = unheld; opened = opened; held = held } in
         let placed = with_line_placed cmp matching line ms s kept.placed in
@@ -174,8 +178,13 @@ module _ {K : Type 0} (cmp : K → K → Ordering) (matching : K → K → Bool)
         } in
         let more_now : more ≡ are_no_more cmp matching shown tokens heard unheld = more_is ∙ ap (λ (x : Fabric K). are_no_more cmp matching x tokens heard unheld) shows in
         let less_now : less ≡ are_no_less cmp matching shown tokens heard opened held = less_is ∙ ap (λ (x : Fabric K). are_no_less cmp matching x tokens heard opened held) shows in
+        let told_now : told ≡ told_of (call_of line s) ms = told_is ∙ ap (λ at. told_of at ms) found_is in
+        let answers_now : answers ≡ asks_are_answered cmp matching (fabric_with cmp matching line ms s) (told_of (call_of line s) ms) =
+        answers_is ∙ (ap (λ (x : Fabric K). asks_are_answered cmp matching x told) carries ∙ ap (asks_are_answered cmp matching (fabric_with cmp matching line ms s)) told_now) in
         bounds_tell (turn_of cmp matching line (Ok ms) s) more less answers finals
         (λ passes. turn_no_more cmp matching itself exact line ms s lists heard touches placed (sym more_now ∙ passes) kept.no_more)
         (λ meets. more_now ∙ more_passes cmp matching itself exact shown tokens heard unheld meets)
         (λ passes. turn_no_less cmp matching itself exact line ms s lists heard touches placed (sym less_now ∙ passes) kept.no_less)
         (λ meets. less_now ∙ less_passes cmp matching itself exact shown tokens heard opened held meets)
+        (λ passes. answers_say cmp matching itself exact line ms s placed (sym answers_now ∙ passes))
+        (λ meets. answers_now ∙ answers_told cmp matching itself exact line ms s meets)

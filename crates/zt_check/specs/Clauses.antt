@@ -15,10 +15,10 @@ use Rattle.zt_check.specs.declared.verdict.Clause.TheVariants.{Text, Cause, Uppe
 abbrev pub every_clause : List Clause
 every_clause = Text ∷ Cause ∷ Upper ∷ Lower ∷ Answers ∷ Finals ∷ []
 
--- those that a check decides exactly, and is proved to; the others it tries too, by code of which no more is proved
--- than that it is safe
+-- those that a check decides exactly, and is proved to; the last it tries too, by code of which no more is proved than
+-- that it is safe
 abbrev pub decided : List Clause
-decided = Text ∷ Cause ∷ Upper ∷ Lower ∷ []
+decided = Text ∷ Cause ∷ Upper ∷ Lower ∷ Answers ∷ []
 
 -- whether a clause is one of these
 abbrev pub is_decided : Clause → Bool
@@ -26,6 +26,7 @@ is_decided Text = true
 is_decided Cause = true
 is_decided Upper = true
 is_decided Lower = true
+is_decided Answers = true
 is_decided _ = false
 
 module _ {K : Type 0} (cmp : K → K → Ordering) (matching : K → K → Bool) where

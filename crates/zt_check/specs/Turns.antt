@@ -11,9 +11,9 @@ use Rattle.zt_check.specs.Clauses.{FailsFirst, MeetsAll, decided, is_decided}
 use Rattle.zt_check.specs.declared.verdict.Clause.{Clause}
 use Rattle.zt_check.specs.declared.verdict.Clause.TheVariants.{Upper, Lower, Answers, Finals}
 
--- the clauses that speak of what faces keep
+-- the clauses that speak of what faces keep, and of what asks are answered
 abbrev pub bounds : List Clause
-bounds = Upper ∷ Lower ∷ []
+bounds = Upper ∷ Lower ∷ Answers ∷ []
 
 -- the first clause that is said to fail, in their order, by what is found of the last four
 abbrev pub first_failed : Bool → Bool → Bool → Bool → Option Clause

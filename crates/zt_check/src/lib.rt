@@ -2,9 +2,9 @@
 //! transcript of it, and if not, the first line at which it isn't.
 //!
 //! That the printed form is decided rightly is proved, and so is whether a line is refused exactly by
-//! its cause, and whether faces keep what they should. The other two clauses, what asks are answered
-//! and how they end, are decided too; that is tested, and no more is proved of it than that it is
-//! safe.
+//! its cause, whether faces keep what they should, and whether asks are answered what they ask for.
+//! The last clause, how asks end, is decided too; that is tested, and no more is proved of it than
+//! that it is safe.
 #![tactic(auto)]
 
 mod checking;

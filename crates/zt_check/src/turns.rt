@@ -7,7 +7,7 @@ ghost use Rattle.zt_check.specs.Turns.{IsKept, Tells, TellsOf, bounds, first_fai
 
 use crate::verdict::Clause;
 use std::alloc::Global;
-use zt_check_asks::{answers_asks, pending_answered, sends_finals};
+use zt_check_asks::{answers_asks, sends_finals, told_of};
 use zt_check_fabric::ShownFabric;
 use zt_check_keeping::{changed_by, heard_by, keeps_no_less, keeps_no_more};
 use zt_check_lines::is_refused_by_cause;
@@ -48,11 +48,11 @@ fn judge_accepted<'a, K: Key>(
         ≡ fabric_shown K.cmp K.matching (plain_line line.now) (Ok sents.now) fabric.old) }
 {
     let found = fabric.call_of(alloc, line)?;
-    let pending = pending_answered(fabric, &found);
+    let told = told_of(fabric, &found, sents);
     let changed = changed_by(alloc, fabric, line, &found)?;
     fabric.carry_out(alloc, line, sents)?;
     let heard = heard_by(alloc, fabric, sents)?;
-    let answers = answers_asks(alloc, fabric, &found, pending, sents)?;
+    let answers = answers_asks(alloc, fabric, &told)?;
     let finals = sends_finals(fabric, line, &found, &changed.opened, sents);
     fabric.hear(alloc, sents)?;
     fabric.wait(alloc, sents)?;

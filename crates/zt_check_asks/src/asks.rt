@@ -1,13 +1,22 @@
 // What of a turn asks are judged by: its call, and what it prints.
+ghost use Rattle.std.specs.Prelude.{◌≡◌, ◌∷◌, ◌++◌, [], IfOk, OnOk};
+ghost use Rattle.zt_model.specs.Lists.{has_id};
+ghost use Rattle.zt_model.specs.Promises.{answered_by};
+ghost use Rattle.zt_model.specs.Routing.{stands};
+ghost use Rattle.zt_model.specs.Telling.{was_sent_as};
+ghost use Rattle.zt_check_asks.specs.Answering.{answers_from};
+
 use std::alloc::Global;
 use zt_check_fabric::ShownFabric;
 use zt_check_faces::{ShownAsk, ShownPending};
 use zt_check_rows::ShownRows;
 use zt_keys::{Key, Memory};
-use zt_protocol::{Call, Message, Sent};
+use zt_protocol::{Message, Sent};
 
 /// Whether a pending stands: its face is open, and it is neither finished nor expired.
-pub(crate) fn stands<K: Key>(rows: &ShownRows<K>, pending: (u32, u32)) -> bool {
+pub(crate) fn stands<K: Key>(rows: &ShownRows<K>, pending: (u32, u32)) -> bool
+    ensures { result ≡ stands rows.now pending }
+{
     match rows.face(pending.0) {
         None => false,
         Some(face) => has_id(face.pendings(), pending.1),
@@ -15,7 +24,9 @@ pub(crate) fn stands<K: Key>(rows: &ShownRows<K>, pending: (u32, u32)) -> bool {
 }
 
 // Whether a pending of an id is there.
-fn has_id(pendings: &[(u32, ShownPending)], id: u32) -> bool {
+fn has_id(pendings: &[(u32, ShownPending)], id: u32) -> bool
+    ensures { result ≡ has_id id pendings.now }
+{
     for row in pendings {
         if id == row.0 {
             return true;
@@ -25,38 +36,15 @@ fn has_id(pendings: &[(u32, ShownPending)], id: u32) -> bool {
 }
 
 /// Whether the ask was sent upstream so.
-pub fn was_sent_as<K: Key>(ask: &ShownAsk<K>, face: u32, id: u32) -> bool {
+pub fn was_sent_as<K: Key>(ask: &ShownAsk<K>, face: u32, id: u32) -> bool
+    ensures { result ≡ was_sent_as face id ask.now }
+{
     for pending in ask.pendings() {
         if face == pending.0 && id == pending.1 {
             return true;
         }
     }
     false
-}
-
-/// The pending that a call's token answers, where it stands before the call.
-pub fn pending_answered<'a, K: Key>(
-    fabric: &ShownFabric<'a, K>,
-    found: &Option<(u32, Call<K>)>,
-) -> Option<(u32, u32)> {
-    let Some((gateway, call)) = found else {
-        return None;
-    };
-    let Call::DeclareToken {
-        face,
-        interest_id: Some(interest),
-        ..
-    } = call
-    else {
-        return None;
-    };
-    let node = fabric.node(*gateway)?;
-    let pending = (*face, *interest);
-    if stands(node.rows(), pending) {
-        Some(pending)
-    } else {
-        None
-    }
 }
 
 // The interest that a message answers.
@@ -107,27 +95,58 @@ pub fn stands_after<'a, K: Key>(
     false
 }
 
+// Adds the expression of a message that answers an ask of an id.
+fn add_answer<K: Key>(
+    alloc: Global,
+    answers: &mut Vec<K>,
+    message: &Message<K>,
+    id: u32,
+) -> Result<(), Memory>
+    ensures { OnOk result (answers.new.items ≡ answers.old.items ++ answered_by id message.now) }
+{
+    if let Message::DeclareToken {
+        expr,
+        interest_id: Some(interest),
+        ..
+    } = message
+    {
+        if id == *interest {
+            answers.push(expr.copy(alloc)?)?;
+        }
+    }
+    Ok(())
+}
+
+// Adds that of a message for a face, where it is for this one.
+fn add_sent<K: Key>(
+    alloc: Global,
+    answers: &mut Vec<K>,
+    sent: &Sent<K>,
+    number: u64,
+    id: u32,
+) -> Result<(), Memory>
+    ensures { OnOk result (answers.new.items
+        ≡ answers.old.items ++ answers_from id number (sent.now ∷ [])) }
+{
+    if number != u64::from(sent.face) {
+        return Ok(());
+    }
+    add_answer(alloc, answers, &sent.message, id)
+}
+
 /// The expressions that an ask of an id is answered by what is printed for a face, in order.
 pub fn answers_in<K: Key>(
     alloc: Global,
     sents: &[Sent<K>],
     number: u64,
     id: u32,
-) -> Result<Vec<K>, Memory> {
+) -> Result<Vec<K>, Memory>
+    ensures { IfOk result
+        (λ answers. answers.items ≡ answers_from id number sents.now) }
+{
     let mut answers = Vec::new(alloc);
     for sent in sents {
-        if number == u64::from(sent.face) {
-            if let Message::DeclareToken {
-                expr,
-                interest_id: Some(interest),
-                ..
-            } = &sent.message
-            {
-                if id == *interest {
-                    answers.push(expr.copy(alloc)?)?;
-                }
-            }
-        }
+        add_sent(alloc, &mut answers, sent, number, id)?;
     }
     Ok(answers)
 }

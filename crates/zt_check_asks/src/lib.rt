@@ -7,8 +7,10 @@
 
 mod answers;
 mod asks;
+mod calls;
 mod finals;
 
-pub use answers::{Told, answers_asks, told_of};
-pub use asks::{answers_in, pending_answered, stands_after, was_sent_as};
+pub use answers::answers_asks;
+pub use asks::{answers_in, stands_after, was_sent_as};
+pub use calls::{Told, declared_for, is_made, told_of};
 pub use finals::{finals_in, is_final_of_some, is_finalising, nothing_follows, sends_finals};

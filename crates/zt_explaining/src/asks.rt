@@ -1,7 +1,7 @@
 // What asks are answered wrongly in a turn.
 use std::alloc::Global;
 use zt_breaks::{Answer, FaceNumber, Finding};
-use zt_check_asks::{Told, answers_in, was_sent_as};
+use zt_check_asks::{Told, answers_in, declared_for, is_made};
 use zt_check_fabric::ShownFabric;
 use zt_check_faces::{ShownAsk, ShownFace, is_among};
 use zt_check_keeping::{has_tokens, is_about, is_seen, sees};
@@ -19,18 +19,13 @@ struct AskAt<'c, K: Key> {
 }
 
 // Whether the turn makes the ask.
-fn is_made<'b, 'c, K: Key>(told: &Told<'b, K>, ask: &AskAt<'c, K>) -> bool {
-    told.gateway == ask.at.gateway && told.asking == Some((ask.face.number(), ask.id))
+fn makes<'b, 'c, K: Key>(told: &Told<'b, K>, ask: &AskAt<'c, K>) -> bool {
+    is_made(told, ask.at.gateway, ask.face.number(), ask.id)
 }
 
 // What the turn's token declares in answer to what the ask sent upstream.
-fn declared_for<'b, 'c, K: Key>(told: &Told<'b, K>, ask: &AskAt<'c, K>) -> Option<&'b K> {
-    let (face, id, expr) = told.declared?;
-    if told.gateway == ask.at.gateway && was_sent_as(ask.ask, face, id) {
-        Some(expr)
-    } else {
-        None
-    }
+fn declared_to<'b, 'c, K: Key>(told: &Told<'b, K>, ask: &AskAt<'c, K>) -> Option<&'b K> {
+    declared_for(told, ask.at.gateway, ask.ask)
 }
 
 // How an answer to an ask that the turn makes is wrong.
@@ -46,7 +41,7 @@ fn wrong_at_once<'c, K: Key>(ask: &AskAt<'c, K>, expr: &K) -> Option<Answer> {
 
 // How an answer to an ask that stood is wrong.
 fn wrong_later<'b, 'c, K: Key>(told: &Told<'b, K>, ask: &AskAt<'c, K>, expr: &K) -> Option<Answer> {
-    match declared_for(told, ask) {
+    match declared_to(told, ask) {
         Some(declared) if *declared == *expr => None,
         _ => Some(Answer::Undeclared),
     }
@@ -62,7 +57,7 @@ fn wrong_answer<'b, 'c, K: Key>(
     if is_among(expr, ask.ask.answered()) || is_among(expr, earlier) {
         return Some(Answer::Repeated);
     }
-    if is_made(told, ask) {
+    if makes(told, ask) {
         wrong_at_once(ask, expr)
     } else {
         wrong_later(told, ask, expr)
@@ -139,10 +134,10 @@ fn add_missing<'b, 'c, K: Key>(
     ask: &AskAt<'c, K>,
     answers: &[K],
 ) -> Result<(), Memory> {
-    if is_made(told, ask) {
+    if makes(told, ask) {
         return add_unseen_to(alloc, findings, ask, answers);
     }
-    match declared_for(told, ask) {
+    match declared_to(told, ask) {
         Some(expr) if !is_among(expr, ask.ask.answered()) => {
             add_unanswered(alloc, findings, ask, expr, answers, Answer::NotPassedOn)
         }
@@ -160,7 +155,7 @@ fn add_of_ask<'b, 'c, K: Key>(
     if !has_tokens(ask.ask.interest()) {
         return Ok(());
     }
-    let answers = answers_in(alloc, told.sents, ask.at.face, ask.id)?;
+    let answers = answers_in(alloc, told.sents(), ask.at.face, ask.id)?;
     for place in 0..answers.len() {
         let expr = &answers[place];
         if let Some(answer) = wrong_answer(told, ask, expr, &answers[..place]) {

@@ -5,7 +5,7 @@ use crate::keeping::wrongly_kept;
 use crate::list::{tell, tell_all};
 use std::alloc::Global;
 use zt_breaks::{Break, Finding};
-use zt_check_asks::{answers_asks, pending_answered, sends_finals, told_of};
+use zt_check_asks::{Told, answers_asks, sends_finals, told_of};
 use zt_check_fabric::ShownFabric;
 use zt_check_keeping::{Changed, Heard, changed_by, heard_by, keeps_no_less, keeps_no_more};
 use zt_check_lines::{is_refused_by_cause, line_cause};
@@ -13,19 +13,19 @@ use zt_keys::{Key, Memory};
 use zt_protocol::{Call, Entry, Line, Sent};
 
 // What asks get wrongly, before the messages are heard.
-fn of_asks<'a, K: Key>(
+fn of_asks<'a, 'b, K: Key>(
     alloc: Global,
     fabric: &ShownFabric<'a, K>,
     line: &Line<K>,
     found: &Option<(u32, Call<K>)>,
-    pending: Option<(u32, u32)>,
+    told: &Told<'b, K>,
     opened: &[(u32, u32)],
     sents: &[Sent<K>],
 ) -> Result<(Vec<Finding<K>>, Vec<Finding<K>>), Memory> {
     let mut answers = Vec::new(alloc);
     let mut finals = Vec::new(alloc);
-    if !answers_asks(alloc, fabric, found, pending, sents)? {
-        answers = wrongly_answered(alloc, fabric, &told_of(found, pending, sents))?;
+    if !answers_asks(alloc, fabric, told)? {
+        answers = wrongly_answered(alloc, fabric, told)?;
     }
     if !sends_finals(fabric, line, found, opened, sents) {
         finals = wrongly_finished(alloc, fabric, found, opened, sents)?;
@@ -69,12 +69,12 @@ fn tell_accepted<'a, K: Key>(
     sents: &[Sent<K>],
 ) -> Result<(), Memory> {
     let found = fabric.call_of(alloc, line)?;
-    let pending = pending_answered(fabric, &found);
+    let told = told_of(fabric, &found, sents);
     let changed = changed_by(alloc, fabric, line, &found)?;
     fabric.carry_out(alloc, line, sents)?;
     let heard = heard_by(alloc, fabric, sents)?;
     let opened = changed.opened.as_slice();
-    let (answers, finals) = of_asks(alloc, fabric, line, &found, pending, opened, sents)?;
+    let (answers, finals) = of_asks(alloc, fabric, line, &found, &told, opened, sents)?;
     fabric.hear(alloc, sents)?;
     fabric.wait(alloc, sents)?;
     tell_kept(alloc, breaks, number, fabric, &changed, &heard)?;

@@ -1,0 +1,5 @@
+pub mod Asked
+pub mod LineCalls
+pub mod Covered
+pub mod Turns
+pub mod Walked
