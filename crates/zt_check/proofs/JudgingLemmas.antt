@@ -14,13 +14,13 @@ use Rattle.zt_model.specs.Transcript.{Each, IsEntry, fabric_shown, messages_in, 
 use Rattle.zt_check_trace.specs.Entries.{BeginsWithEntry, FindsEntry}
 use Rattle.zt_check_trace.proofs.MessageLemmas.{all_more}
 use Rattle.zt_check_fabric.proofs.Shown.{shown_placed}
-use Rattle.zt_check.specs.Clauses.{FailsFirst, MeetsAll, decided, is_decided}
+use Rattle.zt_check.specs.Clauses.{MeetsAll, every_clause}
 use Rattle.zt_check.specs.Turns.{IsKept, Tells, turn_of}
-use Rattle.zt_check.proofs.TurnLemmas.{each_more, no_turns, shown_after, shown_more, turns_more}
-use Rattle.zt_check.specs.Judging.{BeginsWell, BeginsWithEntries, Breaks, Judges, JudgesDecided, JudgesTotals, StopsAt}
+use Rattle.zt_check.proofs.TurnLemmas.{each_more, no_turns, shown_after, shown_more, turns_more, unended_shown}
+use Rattle.zt_check.specs.Judging.{BeginsWell, BeginsWithEntries, Breaks, Judges, JudgesTotals}
 use Rattle.zt_check.specs.Totals.{IsInRange, with_entry}
 use Rattle.zt_check.specs.declared.verdict.Clause.{Clause}
-use Rattle.zt_check.specs.declared.verdict.Clause.TheVariants.{Text, Cause, Upper, Lower, Answers, Finals}
+use Rattle.zt_check.specs.declared.verdict.Clause.TheVariants.{Text}
 use Rattle.zt_check.specs.declared.verdict.Verdict.{Verdict}
 use Rattle.zt_check.specs.declared.verdict.Verdict.TheVariants as verdict
 
@@ -73,24 +73,8 @@ module _ {K : Type 0} (printed : K → List ℕ) where
         are_all = inr next.is_all;
       }
 
--- the clauses are different ones
-cause_is_not_text : Cause ≡ Text → ⊥
-cause_is_not_text h = cc
-
-upper_is_not_text : Upper ≡ Text → ⊥
-upper_is_not_text h = cc
-
-lower_is_not_text : Lower ≡ Text → ⊥
-lower_is_not_text h = cc
-
-answers_is_not_text : Answers ≡ Text → ⊥
-answers_is_not_text h = cc
-
-finals_is_not_text : Finals ≡ Text → ⊥
-finals_is_not_text h = cc
-
 module _ {K : Type 0} (cmp : K → K → Ordering) (matching : K → K → Bool) (printed : K → List ℕ) where
-  -- So many entries were read off the front of a claimed text, and the turn of each meets the clauses that are decided.
+  -- So many entries were read off the front of a claimed text, and the turn of each meets the clauses .
   -- These are their totals, and the fabric that they show.
   pub record IsUnderway (script : List (PlainLine K)) (claimed rest : List ℕ) (report : Report) (done : ℕ) (s : Fabric K) : Type 0 where
     pub entries : List (PlainEntry K)
@@ -99,7 +83,7 @@ module _ {K : Type 0} (cmp : K → K → Ordering) (matching : K → K → Bool)
     pub totals : report ≡ report_of entries
     pub lines : report.lines ≡ done
     pub range : IsInRange report
-    pub met : Each (MeetsAll cmp matching decided) (turns_from cmp matching script entries empty_fabric)
+    pub met : Each (MeetsAll cmp matching every_clause) (turns_from cmp matching script entries empty_fabric)
     pub shown : shown_after cmp matching script entries empty_fabric ≡ s
     pub kept : IsKept cmp matching s
 
@@ -111,9 +95,9 @@ module _ {K : Type 0} (cmp : K → K → Ordering) (matching : K → K → Bool)
     totals = totals_none K;
     lines = refl;
     range = record { messages_fit = omega arith; refusals_fit = omega arith };
-    met = no_turns cmp matching (MeetsAll cmp matching decided) lines empty_fabric;
+    met = no_turns cmp matching (MeetsAll cmp matching every_clause) lines empty_fabric;
     shown = sym none;
-    kept = subst (IsKept cmp matching) (sym none) (record { placed = record { one = tt; made = tt }; no_more = tt; no_less = tt });
+    kept = subst (IsKept cmp matching) (sym none) (record { placed = record { one = tt; made = tt }; no_more = tt; no_less = tt; unended = tt });
   }
 
   turn_after : (lines : List (PlainLine K)) (claimed rest : List ℕ) (report : Report) (done : ℕ) (s : Fabric K) (line : PlainLine K) (entry : PlainEntry K) → (under : IsUnderway lines claimed rest report done s)
@@ -138,19 +122,19 @@ module _ {K : Type 0} (cmp : K → K → Ordering) (matching : K → K → Bool)
         lines = omega (arith, ap (λ (r : Report). r.lines) counted, under.lines);
         range = range;
         met =
-            subst (λ (ts : List (Turn K)). Each (MeetsAll cmp matching decided) ts) (sym (turn_after lines claimed rest report done s line entry under within at))
-            (each_more (MeetsAll cmp matching decided) (turns_from cmp matching lines under.entries empty_fabric) (turn_of cmp matching line entry s) under.met meets);
+            subst (λ (ts : List (Turn K)). Each (MeetsAll cmp matching every_clause) ts) (sym (turn_after lines claimed rest report done s line entry under within at))
+            (each_more (MeetsAll cmp matching every_clause) (turns_from cmp matching lines under.entries empty_fabric) (turn_of cmp matching line entry s) under.met meets);
         shown =
             shown_more cmp matching lines under.entries empty_fabric line entry (omega (arith, within, under.is_done)) here
             ∙ (ap (fabric_shown cmp matching line entry) under.shown ∙ sym shows);
-        kept = subst (IsKept cmp matching) (sym shows) (record { placed = shown_placed cmp matching line entry s under.kept.placed; no_more = meets.1.1.0; no_less = meets.1.1.1.0 });
+        kept = subst (IsKept cmp matching) (sym shows) (record { placed = shown_placed cmp matching line entry s under.kept.placed; no_more = meets.1.1.0; no_less = meets.1.1.1.0; unended = unended_shown cmp matching line entry s under.kept.unended meets.1.1.1.1.1.0 });
       }
 
-  begins_well : (lines : List (PlainLine K)) (claimed rest : List ℕ) (report : Report) (done : ℕ) (s : Fabric K) → (under : IsUnderway lines claimed rest report done s) → BeginsWell cmp matching printed decided lines claimed under.entries rest
+  begins_well : (lines : List (PlainLine K)) (claimed rest : List ℕ) (report : Report) (done : ℕ) (s : Fabric K) → (under : IsUnderway lines claimed rest report done s) → BeginsWell cmp matching printed every_clause lines claimed under.entries rest
   begins_well lines claimed rest report done s under = record { begins = under.begins; met = under.met }
 
   pub underway_breaks : (lines : List (PlainLine K)) (claimed rest : List ℕ) (report : Report) (done number : ℕ) (s : Fabric K) → IsUnderway lines claimed rest report done s → done < length lines → number ≡ report.lines + 1
-      → FindsEntry printed number rest None → Breaks cmp matching printed decided lines claimed number Text
+      → FindsEntry printed number rest None → Breaks cmp matching printed every_clause lines claimed number Text
   underway_breaks lines claimed rest report done number s under more is none =
       let same : number ≡ length under.entries + 1 = omega (arith, is, under.lines, under.is_done) in
       record {
@@ -162,10 +146,10 @@ module _ {K : Type 0} (cmp : K → K → Ordering) (matching : K → K → Bool)
       }
 
   pub underway_last : (lines : List (PlainLine K)) (claimed rest : List ℕ) (report : Report) (done : ℕ) (s : Fabric K) (verdict : Verdict) → IsUnderway lines claimed rest report done s → done ≡ length lines
-      → JudgesTotals report rest verdict → Judges cmp matching printed decided lines claimed verdict
+      → JudgesTotals report rest verdict → Judges cmp matching printed every_clause lines claimed verdict
   underway_last lines claimed rest report done s (verdict.Holds totals) under all h = record {
     entries = under.entries;
-    well = subst (λ (t : List ℕ). BeginsWell cmp matching printed decided lines claimed under.entries t) (h.1 ∙ ap report_text (sym h.0)) (begins_well lines claimed rest report done s under);
+    well = subst (λ (t : List ℕ). BeginsWell cmp matching printed every_clause lines claimed under.entries t) (h.1 ∙ ap report_text (sym h.0)) (begins_well lines claimed rest report done s under);
     is_whole = under.is_done ∙ all;
     totals = h.0 ∙ under.totals;
   }
@@ -177,52 +161,23 @@ module _ {K : Type 0} (cmp : K → K → Ordering) (matching : K → K → Bool)
     is_line = omega (arith, h.0, under.lines, under.is_done);
   }
 
-  -- the totals break the form alone
-  decided_last : (lines : List (PlainLine K)) (claimed rest : List ℕ) (report : Report) (verdict : Verdict) → JudgesTotals report rest verdict → Judges cmp matching printed decided lines claimed verdict → JudgesDecided cmp matching printed lines claimed verdict
-  decided_last lines claimed rest report (verdict.Holds totals) h right = right
-  decided_last lines claimed rest report (verdict.Breaks line Text) h right = right
-  decided_last lines claimed rest report (verdict.Breaks line Cause) h right = absurd (cause_is_not_text h.1)
-  decided_last lines claimed rest report (verdict.Breaks line Upper) h right = absurd (upper_is_not_text h.1)
-  decided_last lines claimed rest report (verdict.Breaks line Lower) h right = absurd (lower_is_not_text h.1)
-  decided_last lines claimed rest report (verdict.Breaks line Answers) h right = absurd (answers_is_not_text h.1)
-  decided_last lines claimed rest report (verdict.Breaks line Finals) h right = absurd (finals_is_not_text h.1)
-
   pub totals_result : (lines : List (PlainLine K)) (claimed rest : List ℕ) (report : Report) (done : ℕ) (s : Fabric K) {E : Type 0} (result : Result Verdict E) → IsUnderway lines claimed rest report done s → done ≡ length lines
-      → IfOk result (λ verdict. JudgesTotals report rest verdict) → IfOk result (λ verdict. JudgesDecided cmp matching printed lines claimed verdict)
-  totals_result lines claimed rest report done s (Ok verdict) under all h =
-      decided_last lines claimed rest report verdict h (underway_last lines claimed rest report done s verdict under all h)
+      → IfOk result (λ verdict. JudgesTotals report rest verdict) → IfOk result (λ verdict. Judges cmp matching printed every_clause lines claimed verdict)
+  totals_result lines claimed rest report done s (Ok verdict) under all h = underway_last lines claimed rest report done s verdict under all h
   totals_result lines claimed rest report done s (Err e) under all h = tt
 
   -- the entry of the next line stands, and its turn is said to fail a clause
   pub underway_stops : (lines : List (PlainLine K)) (claimed rest : List ℕ) (report : Report) (done number : ℕ) (s : Fabric K) (line : PlainLine K) (entry : PlainEntry K) (behind : List ℕ) (failed : Clause)
       → IsUnderway lines claimed rest report done s → done < length lines → line ≡ get_or lines done line → number ≡ report.lines + 1
-      → BeginsWithEntry printed number rest entry behind → Tells cmp matching (turn_of cmp matching line entry s) (Some failed) → JudgesDecided cmp matching printed lines claimed (verdict.Breaks number failed)
+      → BeginsWithEntry printed number rest entry behind → Tells cmp matching (turn_of cmp matching line entry s) (Some failed) → Breaks cmp matching printed every_clause lines claimed number failed
   underway_stops lines claimed rest report done number s line entry behind failed under within at is next told =
       let same : number ≡ length under.entries + 1 = omega (arith, is, under.lines, under.is_done) in
       let stands : BeginsWithEntry printed (length under.entries + 1) rest entry behind = subst (λ (k : ℕ). BeginsWithEntry printed k rest entry behind) same next in
       let is_next = turn_after lines claimed rest report done s line entry under within at in
-      by_clause (is_decided failed) same stands is_next told
-    where
-      by_clause : (b : Bool) → number ≡ length under.entries + 1 → BeginsWithEntry printed (length under.entries + 1) rest entry behind
-          → turns_from cmp matching lines (under.entries ++ entry ∷ []) empty_fabric ≡ turns_from cmp matching lines under.entries empty_fabric ++ turn_of cmp matching line entry s ∷ []
-          → elim b as (λ _. Type 0) [ true ↦ FailsFirst cmp matching decided (turn_of cmp matching line entry s) failed | false ↦ MeetsAll cmp matching decided (turn_of cmp matching line entry s) ]
-          → elim b as (λ _. Type 0) [ true ↦ Breaks cmp matching printed decided lines claimed number failed | false ↦ StopsAt cmp matching printed decided lines claimed number ]
-      by_clause true same stands is_next fails = record {
+      record {
         entries = under.entries;
         rest = rest;
         well = begins_well lines claimed rest report done s under;
-        breaks = inr (record { entry = entry; behind = behind; stands = stands; turn = turn_of cmp matching line entry s; is_next = is_next; fails = fails });
-        is_line = same;
-      }
-      by_clause false same stands is_next meets = record {
-        entries = under.entries;
-        rest = rest;
-        well = begins_well lines claimed rest report done s under;
-        entry = entry;
-        behind = behind;
-        stands = stands;
-        turn = turn_of cmp matching line entry s;
-        is_next = is_next;
-        meets = meets;
+        breaks = inr (record { entry = entry; behind = behind; stands = stands; turn = turn_of cmp matching line entry s; is_next = is_next; fails = told });
         is_line = same;
       }

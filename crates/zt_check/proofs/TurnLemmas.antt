@@ -15,7 +15,7 @@ use Rattle.zt_protocol.specs.declared.errors.Refusal.{Refusal}
 use Rattle.zt_model.specs.Fabric.{CallAt, Fabric, Link, after_hearing, after_refusal, call_of, with_waiting, without_message}
 use Rattle.zt_model.specs.Linking.{sending_end, with_taken}
 use Rattle.zt_model.specs.Lists.{nth, same}
-use Rattle.zt_model.specs.Promises.{Turn, turns_from}
+use Rattle.zt_model.specs.Promises.{SendsFinals, Turn, turns_from}
 use Rattle.zt_model.specs.Rows.{Face, Rows}
 use Rattle.zt_model.specs.Transcript.{Each, IsEntry, IsRefusedByCause, fabric_shown, fabric_with}
 use Rattle.zt_check_fabric.specs.Placed.{IsPlaced}
@@ -29,9 +29,12 @@ use Rattle.zt_check_keeping.proofs.Nodes.{Lists}
 use Rattle.zt_check_keeping.proofs.Turns.{Touches, turn_no_less, turn_no_more}
 use Rattle.zt_check_asks.specs.Answering.{asks_are_answered}
 use Rattle.zt_check_asks.specs.Calls.{PlainTold, told_of}
+use Rattle.zt_check_finals.specs.Ending.{Ended, ended_by_line, finalised_at, touched_at, unopened_by}
+use Rattle.zt_check_finals.specs.Finishing.{Unended, finals_are_sent}
+use Rattle.zt_check_finals.proofs.FinalTurns.{finals_say, finals_told, refused_finals, refused_unended, unended_after}
 use Rattle.zt_check_asks.proofs.Turns.{answers_say, answers_told, refused_answers}
 use Rattle.zt_check.specs.Clauses.{Meets}
-use Rattle.zt_check.specs.Turns.{IsKept, Tells, TellsOf, bounds, first_failed, turn_of}
+use Rattle.zt_check.specs.Turns.{IsKept, Tells, TellsOf, first_failed, later, turn_of}
 use Rattle.zt_check.specs.declared.verdict.Clause.{Clause}
 use Rattle.zt_check.specs.declared.verdict.Clause.TheVariants.{Text, Cause, Upper, Lower, Answers, Finals}
 
@@ -85,14 +88,9 @@ module _ {K : Type 0} (cmp : K → K → Ordering) (matching : K → K → Bool)
   tells_cause t b decides fails text = inr (text, inl (refl, not_from_Decides b decides fails))
 
   -- one that is meets both, and the others are told by themselves
-  pub tells_later : (t : Turn K) (failed : Option Clause) → IsRefusedByCause cmp matching t.line t.entry t.before → IsEntry t.entry → TellsOf cmp matching bounds t failed → Tells cmp matching t failed
+  pub tells_later : (t : Turn K) (failed : Option Clause) → IsRefusedByCause cmp matching t.line t.entry t.before → IsEntry t.entry → TellsOf cmp matching later t failed → Tells cmp matching t failed
   tells_later t None cause text told = (text, (cause, told))
-  tells_later t (Some Text) cause text told = inr (text, inr (cause, told))
-  tells_later t (Some Cause) cause text told = inr (text, inr (cause, told))
-  tells_later t (Some Upper) cause text told = inr (text, inr (cause, told))
-  tells_later t (Some Lower) cause text told = inr (text, inr (cause, told))
-  tells_later t (Some Answers) cause text told = inr (text, inr (cause, told))
-  tells_later t (Some Finals) cause text told = (text, (cause, told))
+  tells_later t (Some failed) cause text told = inr (text, inr (cause, told))
 
   -- ---- the fabric after one turn
 
@@ -131,21 +129,27 @@ module _ {K : Type 0} (cmp : K → K → Ordering) (matching : K → K → Bool)
   refused_keeps P (Moment gateway now) refusal s each = each
   refused_keeps P (SetTreesAt gateway region table) refusal s each = each
 
-  pub refused_bounds : (line : PlainLine K) (refusal : Refusal) (s : Fabric K) → IsKept cmp matching s → TellsOf cmp matching bounds (turn_of cmp matching line (Err refusal) s) None
+  pub refused_bounds : (line : PlainLine K) (refusal : Refusal) (s : Fabric K) → IsKept cmp matching s → TellsOf cmp matching later (turn_of cmp matching line (Err refusal) s) None
   refused_bounds line refusal s kept = (
     refused_keeps (KeepsNoMore cmp matching) line refusal s kept.no_more,
-    (refused_keeps (KeepsNoLess cmp matching) line refusal s kept.no_less, (refused_answers cmp matching line refusal s, tt)),
+    (refused_keeps (KeepsNoLess cmp matching) line refusal s kept.no_less, (refused_answers cmp matching line refusal s, (refused_finals cmp matching refusal s line kept.unended, tt))),
   )
 
-  -- the tests of both bounds say what they are to
+  -- no ask has ended after a turn in which those that end get their finals
+  pub unended_shown : (line : PlainLine K) (entry : PlainEntry K) (s : Fabric K) → Unended s → SendsFinals cmp matching (turn_of cmp matching line entry s) → Unended (fabric_shown cmp matching line entry s)
+  unended_shown line (Ok ms) s unended sends = unended_after cmp matching line ms s sends
+  unended_shown line (Err refusal) s unended sends = refused_unended cmp matching refusal s line unended
+
+  -- the tests of the later clauses say what they are to
   bounds_tell : (t : Turn K) (more less answers finals : Bool) → (more ≡ true → Meets cmp matching t Upper) → (Meets cmp matching t Upper → more ≡ true) → (less ≡ true → Meets cmp matching t Lower)
       → (Meets cmp matching t Lower → less ≡ true)
-      → (answers ≡ true → Meets cmp matching t Answers) → (Meets cmp matching t Answers → answers ≡ true) → TellsOf cmp matching bounds t (first_failed more less answers finals)
-  bounds_tell t false less answers finals upper from_upper lower from_lower answered from_answered = inl (refl, λ meets. yes_is_not_no (sym (from_upper meets)))
-  bounds_tell t true false answers finals upper from_upper lower from_lower answered from_answered = inr (upper refl, inl (refl, λ meets. yes_is_not_no (sym (from_lower meets))))
-  bounds_tell t true true false finals upper from_upper lower from_lower answered from_answered = inr (upper refl, inr (lower refl, inl (refl, λ meets. yes_is_not_no (sym (from_answered meets)))))
-  bounds_tell t true true true false upper from_upper lower from_lower answered from_answered = (upper refl, (lower refl, (answered refl, tt)))
-  bounds_tell t true true true true upper from_upper lower from_lower answered from_answered = (upper refl, (lower refl, (answered refl, tt)))
+      → (answers ≡ true → Meets cmp matching t Answers) → (Meets cmp matching t Answers → answers ≡ true) → (finals ≡ true → Meets cmp matching t Finals) → (Meets cmp matching t Finals → finals ≡ true) → TellsOf cmp matching later t (first_failed more less answers finals)
+  bounds_tell t false less answers finals upper from_upper lower from_lower answered from_answered finished from_finished = inl (refl, λ meets. yes_is_not_no (sym (from_upper meets)))
+  bounds_tell t true false answers finals upper from_upper lower from_lower answered from_answered finished from_finished = inr (upper refl, inl (refl, λ meets. yes_is_not_no (sym (from_lower meets))))
+  bounds_tell t true true false finals upper from_upper lower from_lower answered from_answered finished from_finished = inr (upper refl, inr (lower refl, inl (refl, λ meets. yes_is_not_no (sym (from_answered meets)))))
+  bounds_tell t true true true false upper from_upper lower from_lower answered from_answered finished from_finished =
+      inr (upper refl, inr (lower refl, inr (answered refl, inl (refl, λ meets. yes_is_not_no (sym (from_finished meets))))))
+  bounds_tell t true true true true upper from_upper lower from_lower answered from_answered finished from_finished = (upper refl, (lower refl, (answered refl, (finished refl, tt))))
 
   module _ (total : IsTotalOrder cmp) (equal_is_same : (a b : K) → cmp a b ≡ Equal → a ≡ b) where
     itself : (e : K) → same cmp e e ≡ true
@@ -160,12 +164,13 @@ module _ {K : Type 0} (cmp : K → K → Ordering) (matching : K → K → Bool)
     exact a b h = equal_is_same a b (is_equal (cmp a b) h)
 
     -- an accepted line, by the lists of what it touches
-    pub accepted_bounds : (line : PlainLine K) (ms : List (Sent K)) (s carried after : Fabric K) (found : Option (CallAt K)) (tokens : List (ℕ × K)) (opened : List (ℕ × ℕ)) (held : List (ℕ × ℕ × ℕ)) (unheld : List (ℕ × ℕ)) (heard : List (ℕ × ℕ × K)) (told : PlainTold K) (more less answers finals : Bool)
+    pub accepted_bounds : (line : PlainLine K) (ms : List (Sent K)) (s carried after : Fabric K) (found : Option (CallAt K)) (tokens : List (ℕ × K)) (opened : List (ℕ × ℕ)) (held : List (ℕ × ℕ × ℕ)) (unheld : List (ℕ × ℕ)) (heard : List (ℕ × ℕ × K)) (told : PlainTold K) (ended : List Ended) (touched finalised : Option (ℕ × ℕ × ℕ)) (unopened : List ℕ) (more less answers finals : Bool)
         → found ≡ call_of line s → tokens ≡ tokens_by line found s → opened ≡ opened_by line found s → held ≡ held_at found → unheld ≡ unheld_at found
         → carried ≡ fabric_with cmp matching line ms s → heard ≡ heard_by carried ms → after ≡ fabric_shown cmp matching line (Ok ms) s
-        → more ≡ are_no_more cmp matching after tokens heard unheld → less ≡ are_no_less cmp matching after tokens heard opened held → told ≡ told_of found ms → answers ≡ asks_are_answered cmp matching carried told → IsKept cmp matching s
-        → TellsOf cmp matching bounds (turn_of cmp matching line (Ok ms) s) (first_failed more less answers finals)
-    accepted_bounds line ms s carried after found tokens opened held unheld heard told more less answers finals found_is tokens_is opened_is held_is unheld_is carries heard_is shows more_is less_is told_is answers_is kept =
+        → more ≡ are_no_more cmp matching after tokens heard unheld → less ≡ are_no_less cmp matching after tokens heard opened held → told ≡ told_of found ms → answers ≡ asks_are_answered cmp matching carried told
+        → ended ≡ ended_by_line line found s → touched ≡ touched_at found → finalised ≡ finalised_at found → unopened ≡ unopened_by s ms → finals ≡ finals_are_sent carried finalised ms ended touched unopened → IsKept cmp matching s
+        → TellsOf cmp matching later (turn_of cmp matching line (Ok ms) s) (first_failed more less answers finals)
+    accepted_bounds line ms s carried after found tokens opened held unheld heard told ended touched finalised unopened more less answers finals found_is tokens_is opened_is held_is unheld_is carries heard_is shows more_is less_is told_is answers_is ended_is touched_is finalised_is unopened_is finals_is kept =
         let shown = fabric_shown cmp matching line (Ok ms) s in
         let lists : Lists K = record { tokens = tokens; unheld = unheld; opened = opened; held = held } in
         let placed = with_line_placed cmp matching line ms s kept.placed in
@@ -181,6 +186,13 @@ module _ {K : Type 0} (cmp : K → K → Ordering) (matching : K → K → Bool)
         let told_now : told ≡ told_of (call_of line s) ms = told_is ∙ ap (λ at. told_of at ms) found_is in
         let answers_now : answers ≡ asks_are_answered cmp matching (fabric_with cmp matching line ms s) (told_of (call_of line s) ms) =
         answers_is ∙ (ap (λ (x : Fabric K). asks_are_answered cmp matching x told) carries ∙ ap (asks_are_answered cmp matching (fabric_with cmp matching line ms s)) told_now) in
+        let finals_now : finals ≡ finals_are_sent (fabric_with cmp matching line ms s) (finalised_at (call_of line s)) ms (ended_by_line line (call_of line s) s) (touched_at (call_of line s)) (unopened_by s ms) =
+        finals_is
+        ∙ (ap (λ (x : Fabric K). finals_are_sent x finalised ms ended touched unopened) carries
+        ∙ (ap (λ x. finals_are_sent (fabric_with cmp matching line ms s) x ms ended touched unopened) (finalised_is ∙ ap finalised_at found_is)
+        ∙ (ap (λ x. finals_are_sent (fabric_with cmp matching line ms s) (finalised_at (call_of line s)) ms x touched unopened) (ended_is ∙ ap (λ at. ended_by_line line at s) found_is)
+        ∙ (ap (λ x. finals_are_sent (fabric_with cmp matching line ms s) (finalised_at (call_of line s)) ms (ended_by_line line (call_of line s) s) x unopened) (touched_is ∙ ap touched_at found_is)
+        ∙ ap (finals_are_sent (fabric_with cmp matching line ms s) (finalised_at (call_of line s)) ms (ended_by_line line (call_of line s) s) (touched_at (call_of line s))) unopened_is)))) in
         bounds_tell (turn_of cmp matching line (Ok ms) s) more less answers finals
         (λ passes. turn_no_more cmp matching itself exact line ms s lists heard touches placed (sym more_now ∙ passes) kept.no_more)
         (λ meets. more_now ∙ more_passes cmp matching itself exact shown tokens heard unheld meets)
@@ -188,3 +200,5 @@ module _ {K : Type 0} (cmp : K → K → Ordering) (matching : K → K → Bool)
         (λ meets. less_now ∙ less_passes cmp matching itself exact shown tokens heard opened held meets)
         (λ passes. answers_say cmp matching itself exact line ms s placed (sym answers_now ∙ passes))
         (λ meets. answers_now ∙ answers_told cmp matching itself exact line ms s meets)
+        (λ passes. finals_say cmp matching line ms s placed kept.unended (sym finals_now ∙ passes))
+        (λ meets. finals_now ∙ finals_told cmp matching line ms s placed meets)

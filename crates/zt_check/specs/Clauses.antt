@@ -1,7 +1,7 @@
 -- What each clause asks of one turn of a transcript: a line with its entry, and the fabrics that the transcript shows
 -- before and after it. The clauses are the parts of what is promised of faithful transcripts, of the answers to asks and
 -- of their finals: `zt_check::laws` proves that together they say no less and no more.
-use Rattle.std.specs.Prelude.{◌≡◌, ◌⊎◌, Bool, true, false, List, [], ◌∷◌, Option, None, Some}
+use Rattle.std.specs.Prelude.{◌≡◌, ◌⊎◌, Bool, List, [], ◌∷◌}
 use Rattle.std.specs.declared.cmp.Ordering.{Ordering}
 use Rattle.zt_protocol.specs.Plain.{PlainEntry, PlainLine}
 use Rattle.zt_model.specs.Fabric.{Fabric}
@@ -14,20 +14,6 @@ use Rattle.zt_check.specs.declared.verdict.Clause.TheVariants.{Text, Cause, Uppe
 -- all clauses, in the order in which they are tried
 abbrev pub every_clause : List Clause
 every_clause = Text ∷ Cause ∷ Upper ∷ Lower ∷ Answers ∷ Finals ∷ []
-
--- those that a check decides exactly, and is proved to; the last it tries too, by code of which no more is proved than
--- that it is safe
-abbrev pub decided : List Clause
-decided = Text ∷ Cause ∷ Upper ∷ Lower ∷ Answers ∷ []
-
--- whether a clause is one of these
-abbrev pub is_decided : Clause → Bool
-is_decided Text = true
-is_decided Cause = true
-is_decided Upper = true
-is_decided Lower = true
-is_decided Answers = true
-is_decided _ = false
 
 module _ {K : Type 0} (cmp : K → K → Ordering) (matching : K → K → Bool) where
   -- what a clause asks of a turn

@@ -14,7 +14,7 @@ use Rattle.zt_model.specs.Transcript.{Each, IsEntry, report_of}
 use Rattle.zt_check_trace.specs.Entries.{BeginsWithEntry, FindsEntry}
 use Rattle.zt_check_trace.specs.Parts.{IsCut, begins_with_mark, is_end_of_script}
 use Rattle.zt_check_trace.specs.Script.{AreRead, HasBadLine}
-use Rattle.zt_check.specs.Clauses.{FailsFirst, MeetsAll, decided, is_decided}
+use Rattle.zt_check.specs.Clauses.{FailsFirst, MeetsAll, every_clause}
 use Rattle.zt_check.specs.declared.verdict.CheckError.{CheckError}
 use Rattle.zt_check.specs.declared.verdict.CheckError.TheVariants as errors
 use Rattle.zt_check.specs.declared.verdict.Clause.{Clause}
@@ -81,35 +81,10 @@ module _ {K : Type 0} (cmp : K → K → Ordering) (matching : K → K → Bool)
     pub breaks : ((failed ≡ Text) × BreaksForm printed lines entries rest) ⊎ FailsNext lines entries rest failed
     pub is_line : line ≡ length entries + 1
 
-  -- The entries before this line stand at the front of the claimed text, and their turns meet the clauses; the line's own
-  -- entry stands behind them, in the printed form, and its turn meets them too.
-  pub record StopsAt (lines : List (PlainLine K)) (claimed : List ℕ) (line : ℕ) : Type 0 where
-    pub entries : List (PlainEntry K)
-    pub rest : List ℕ
-    pub well : BeginsWell lines claimed entries rest
-    pub entry : PlainEntry K
-    pub behind : List ℕ
-    pub stands : BeginsWithEntry printed (length entries + 1) rest entry behind
-    pub turn : Turn K
-    pub is_next : turns_of lines (entries ++ entry ∷ []) ≡ turns_of lines entries ++ turn ∷ []
-    pub meets : MeetsAll cmp matching asked turn
-    pub is_line : line ≡ length entries + 1
-
   -- what a verdict says of the text that is claimed for these lines
   abbrev pub Judges : List (PlainLine K) → List ℕ → Verdict → Type 0
   Judges lines claimed (Holds report) = IsRight lines claimed report
   Judges lines claimed (verdict.Breaks line failed) = Breaks lines claimed line failed
-
-module _ {K : Type 0} (cmp : K → K → Ordering) (matching : K → K → Bool) (printed : K → List ℕ) where
-  -- What a check says of the text that is claimed for these lines: by the clauses that it decides. Of a break of another
-  -- clause it says no more than where it is, and that those hold up to there.
-  abbrev pub JudgesDecided : List (PlainLine K) → List ℕ → Verdict → Type 0
-  JudgesDecided lines claimed (Holds report) = IsRight cmp matching printed decided lines claimed report
-  JudgesDecided lines claimed (verdict.Breaks line failed) =
-      elim (is_decided failed) [
-        | true ↦ Breaks cmp matching printed decided lines claimed line failed
-        | false ↦ StopsAt cmp matching printed decided lines claimed line
-      ]
 
 -- what is said where all entries were read, by their totals
 abbrev pub JudgesTotals : Report → List ℕ → Verdict → Type 0
@@ -126,7 +101,7 @@ module _ {K : Type 0} (cmp : K → K → Ordering) (matching : K → K → Bool)
     pub fits : length script ≤ most_script_bytes
     pub lines : List (PlainLine K)
     pub are_read : AreRead reading (lines_of script) lines
-    pub is_right : JudgesDecided cmp matching printed lines claimed verdict
+    pub is_right : Judges cmp matching printed every_clause lines claimed verdict
 
   -- The script has too many bytes.
   pub record HasLongScript (input : List ℕ) : Type 0 where

@@ -2,8 +2,9 @@
 ghost use Rattle.std.specs.Prelude.{◌≡◌, ◌<◌, IfOk, map, length};
 ghost use Rattle.zt_keys.specs.Key.{OneSpelling};
 ghost use Rattle.zt_protocol.specs.Plain.{plain_entry, plain_line};
+ghost use Rattle.zt_check.specs.Clauses.{every_clause};
 ghost use Rattle.zt_check.specs.Totals.{IsInRange, with_entry};
-ghost use Rattle.zt_check.specs.Judging.{JudgesDecided, JudgesInput, JudgesTotals};
+ghost use Rattle.zt_check.specs.Judging.{Judges, JudgesInput, JudgesTotals};
 
 use crate::turns::judge_turn;
 use crate::verdict::{CheckError, Clause, Verdict};
@@ -50,7 +51,7 @@ fn judge_claim<K: Key>(alloc: Global, lines: &[Line<K>], claimed: &[u8]) -> Resu
     requires spelling { OneSpelling K.reading K.printed }
     requires room { length lines.now < 18446744073709551615 }
     ensures { IfOk result
-        (λ verdict. JudgesDecided K.cmp K.matching K.printed
+        (λ verdict. Judges K.cmp K.matching K.printed every_clause
         (map plain_line lines.now) claimed.now verdict) }
 {
     let mut report = Report {

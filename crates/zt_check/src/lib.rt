@@ -1,10 +1,10 @@
 //! A judge of foreign transcripts: whether what another implementation printed for a script is a
 //! transcript of it, and if not, the first line at which it isn't.
 //!
-//! That the printed form is decided rightly is proved, and so is whether a line is refused exactly by
-//! its cause, whether faces keep what they should, and whether asks are answered what they ask for.
-//! The last clause, how asks end, is decided too; that is tested, and no more is proved of it than
-//! that it is safe.
+//! That each clause is decided rightly is proved: the printed form, whether a line is refused exactly
+//! by its cause, whether faces keep what they should, and whether asks are answered what they ask for
+//! and get their finals. So a text holds exactly where it is that of a faithful transcript whose asks
+//! are answered and finished as is promised (`clauses_are_the_promises`).
 #![tactic(auto)]
 
 mod checking;

@@ -3,12 +3,13 @@ ghost use Rattle.std.specs.Prelude.{◌≡◌, IfOk, None, Ok};
 ghost use Rattle.zt_protocol.specs.Plain.{plain_entry, plain_line};
 ghost use Rattle.zt_model.specs.Transcript.{IsEntry, fabric_shown};
 ghost use Rattle.zt_check_fabric.specs.Placed.{IsPlaced};
-ghost use Rattle.zt_check.specs.Turns.{IsKept, Tells, TellsOf, bounds, first_failed, turn_of};
+ghost use Rattle.zt_check.specs.Turns.{IsKept, Tells, TellsOf, first_failed, later, turn_of};
 
 use crate::verdict::Clause;
 use std::alloc::Global;
-use zt_check_asks::{answers_asks, sends_finals, told_of};
+use zt_check_asks::{answers_asks, told_of};
 use zt_check_fabric::ShownFabric;
+use zt_check_finals::{ending_by, sends_finals};
 use zt_check_keeping::{changed_by, heard_by, keeps_no_less, keeps_no_more};
 use zt_check_lines::is_refused_by_cause;
 use zt_keys::{Key, Memory};
@@ -41,7 +42,7 @@ fn judge_accepted<'a, K: Key>(
     sents: &[Sent<K>],
 ) -> Result<Option<Clause>, Memory>
     ensures tells { IfOk result (λ failed. IsKept K.cmp K.matching fabric.old
-        → TellsOf K.cmp K.matching bounds
+        → TellsOf K.cmp K.matching later
         (turn_of K.cmp K.matching (plain_line line.now) (Ok sents.now) fabric.old)
         failed) }
     ensures shown { IfOk result (λ failed. IsPlaced fabric.old → fabric.new
@@ -49,11 +50,12 @@ fn judge_accepted<'a, K: Key>(
 {
     let found = fabric.call_of(alloc, line)?;
     let told = told_of(fabric, &found, sents);
+    let ending = ending_by(alloc, fabric, line, &found, sents)?;
     let changed = changed_by(alloc, fabric, line, &found)?;
     fabric.carry_out(alloc, line, sents)?;
     let heard = heard_by(alloc, fabric, sents)?;
     let answers = answers_asks(alloc, fabric, &told)?;
-    let finals = sends_finals(fabric, line, &found, &changed.opened, sents);
+    let finals = sends_finals(fabric, &ending, sents);
     fabric.hear(alloc, sents)?;
     fabric.wait(alloc, sents)?;
     let more = keeps_no_more(fabric, &changed, &heard);

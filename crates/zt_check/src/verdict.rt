@@ -8,8 +8,7 @@ use std::alloc::Global;
 use zt_keys::Memory;
 use zt_protocol::Report;
 
-/// What a claimed transcript is asked for, line by line. That the first five are decided rightly is
-/// proved; of the last that is tested.
+/// What a claimed transcript is asked for, line by line. That each is decided rightly is proved.
 #[derive(Clone, Copy, PartialEq, Eq, Debug)]
 pub enum Clause {
     /// The printed form: an entry for each line, with its messages in order of face, and the

@@ -1,12 +1,14 @@
 // What finals are wrong in a turn.
 use std::alloc::Global;
-use zt_breaks::{Ending, FaceNumber, Finding};
-use zt_check_asks::{finals_in, is_final_of_some, is_finalising, nothing_follows, stands_after};
+use zt_breaks::{Ending as WrongEnding, FaceNumber, Finding};
 use zt_check_fabric::ShownFabric;
 use zt_check_faces::{ShownAsk, ShownFace};
+use zt_check_finals::{
+    Ending, finals_in, is_final_of_some, is_that, nothing_follows, stands_after,
+};
 use zt_check_rows::ShownRows;
 use zt_keys::{Key, Memory};
-use zt_protocol::{Call, Message, Sent};
+use zt_protocol::{Message, Sent};
 
 // The first of an ask's pendings that stands once the messages are heard, by its face in the script
 // and its id.
@@ -26,18 +28,22 @@ fn unfinished<'a, K: Key>(
 }
 
 // How the final of an ask is wrong, of which so many are printed.
-fn wrong_ending(unfinished: Option<(u64, u32)>, is_ended: bool, finals: u8) -> Option<Ending> {
+fn wrong_ending(
+    unfinished: Option<(u64, u32)>,
+    is_ended: bool,
+    finals: usize,
+) -> Option<WrongEnding> {
     match unfinished {
         Some((face, interest)) if !is_ended => {
             if finals == 0 {
                 return None;
             }
-            Some(Ending::Early { face, interest })
+            Some(WrongEnding::Early { face, interest })
         }
         _ => match finals {
-            0 => Some(Ending::Missing),
+            0 => Some(WrongEnding::Missing),
             1 => None,
-            _ => Some(Ending::Doubled),
+            _ => Some(WrongEnding::Doubled),
         },
     }
 }
@@ -46,7 +52,7 @@ fn wrong_ending(unfinished: Option<(u64, u32)>, is_ended: bool, finals: u8) -> O
 fn add_of_face<'a, K: Key>(
     findings: &mut Vec<Finding<K>>,
     fabric: &ShownFabric<'a, K>,
-    found: &Option<(u32, Call<K>)>,
+    ending: &Ending,
     sents: &[Sent<K>],
     at: FaceNumber,
     rows: &ShownRows<K>,
@@ -55,13 +61,13 @@ fn add_of_face<'a, K: Key>(
     for row in face.asks() {
         let unfinished = unfinished(fabric, at.gateway, rows, sents, &row.1);
         let is_ended = row.1.interest().mode().is_future()
-            && is_finalising(found, at.gateway, face.number(), row.0);
+            && is_that(ending.finalised, at.gateway, face.number(), row.0);
         let finals = finals_in(sents, at.face, row.0);
-        if let Some(ending) = wrong_ending(unfinished, is_ended, finals) {
+        if let Some(wrong) = wrong_ending(unfinished, is_ended, finals) {
             findings.push(Finding::Finished {
                 at,
                 interest: row.0,
-                ending,
+                ending: wrong,
             })?;
         }
     }
@@ -72,7 +78,7 @@ fn add_of_face<'a, K: Key>(
 fn add_of_asks<'a, K: Key>(
     findings: &mut Vec<Finding<K>>,
     fabric: &ShownFabric<'a, K>,
-    found: &Option<(u32, Call<K>)>,
+    ending: &Ending,
     sents: &[Sent<K>],
 ) -> Result<(), Memory> {
     let places = fabric.faces();
@@ -84,7 +90,7 @@ fn add_of_asks<'a, K: Key>(
         };
         if let Some(node) = fabric.node(place.gateway()) {
             if let Some(face) = node.rows().face(place.face()) {
-                add_of_face(findings, fabric, found, sents, at, node.rows(), face)?;
+                add_of_face(findings, fabric, ending, sents, at, node.rows(), face)?;
             }
         }
     }
@@ -94,15 +100,15 @@ fn add_of_asks<'a, K: Key>(
 // How a message that is a final is wrong by itself, before the later ones.
 fn wrong_final<'a, K: Key>(
     fabric: &ShownFabric<'a, K>,
-    opened: &[(u32, u32)],
+    unopened: &[u32],
     sent: &Sent<K>,
     later: &[Sent<K>],
-) -> Option<Ending> {
-    if !is_final_of_some(fabric, opened, sent) {
-        return Some(Ending::Nobodys);
+) -> Option<WrongEnding> {
+    if !is_final_of_some(fabric, unopened, sent) {
+        return Some(WrongEnding::Nobodys);
     }
     if !nothing_follows(fabric, sent, later) {
-        return Some(Ending::Followed);
+        return Some(WrongEnding::Followed);
     }
     None
 }
@@ -111,13 +117,13 @@ fn wrong_final<'a, K: Key>(
 fn add_of_messages<'a, K: Key>(
     findings: &mut Vec<Finding<K>>,
     fabric: &ShownFabric<'a, K>,
-    opened: &[(u32, u32)],
+    unopened: &[u32],
     sents: &[Sent<K>],
 ) -> Result<(), Memory> {
     for place in 0..sents.len() {
         let sent = &sents[place];
         if let Message::DeclareFinal { interest_id } = &sent.message {
-            if let Some(ending) = wrong_final(fabric, opened, sent, &sents[place + 1..]) {
+            if let Some(ending) = wrong_final(fabric, unopened, sent, &sents[place + 1..]) {
                 findings.push(Finding::Finished {
                     at: FaceNumber {
                         gateway: sent.gateway,
@@ -133,16 +139,15 @@ fn add_of_messages<'a, K: Key>(
 }
 
 /// What finals are wrong. The fabric is that with what the line itself changes, and doesn't hear
-/// its messages yet; `found` is the line's call, and `opened` are the faces that the line opens.
+/// its messages yet.
 pub(crate) fn wrongly_finished<'a, K: Key>(
     alloc: Global,
     fabric: &ShownFabric<'a, K>,
-    found: &Option<(u32, Call<K>)>,
-    opened: &[(u32, u32)],
+    ending: &Ending,
     sents: &[Sent<K>],
 ) -> Result<Vec<Finding<K>>, Memory> {
     let mut findings = Vec::new(alloc);
-    add_of_asks(&mut findings, fabric, found, sents)?;
-    add_of_messages(&mut findings, fabric, opened, sents)?;
+    add_of_asks(&mut findings, fabric, ending, sents)?;
+    add_of_messages(&mut findings, fabric, ending.unopened.as_slice(), sents)?;
     Ok(findings)
 }

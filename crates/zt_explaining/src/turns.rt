@@ -5,21 +5,20 @@ use crate::keeping::wrongly_kept;
 use crate::list::{tell, tell_all};
 use std::alloc::Global;
 use zt_breaks::{Break, Finding};
-use zt_check_asks::{Told, answers_asks, sends_finals, told_of};
+use zt_check_asks::{Told, answers_asks, told_of};
 use zt_check_fabric::ShownFabric;
+use zt_check_finals::{Ending, ending_by, sends_finals};
 use zt_check_keeping::{Changed, Heard, changed_by, heard_by, keeps_no_less, keeps_no_more};
 use zt_check_lines::{is_refused_by_cause, line_cause};
 use zt_keys::{Key, Memory};
-use zt_protocol::{Call, Entry, Line, Sent};
+use zt_protocol::{Entry, Line, Sent};
 
 // What asks get wrongly, before the messages are heard.
 fn of_asks<'a, 'b, K: Key>(
     alloc: Global,
     fabric: &ShownFabric<'a, K>,
-    line: &Line<K>,
-    found: &Option<(u32, Call<K>)>,
     told: &Told<'b, K>,
-    opened: &[(u32, u32)],
+    ending: &Ending,
     sents: &[Sent<K>],
 ) -> Result<(Vec<Finding<K>>, Vec<Finding<K>>), Memory> {
     let mut answers = Vec::new(alloc);
@@ -27,8 +26,8 @@ fn of_asks<'a, 'b, K: Key>(
     if !answers_asks(alloc, fabric, told)? {
         answers = wrongly_answered(alloc, fabric, told)?;
     }
-    if !sends_finals(fabric, line, found, opened, sents) {
-        finals = wrongly_finished(alloc, fabric, found, opened, sents)?;
+    if !sends_finals(fabric, ending, sents) {
+        finals = wrongly_finished(alloc, fabric, ending, sents)?;
     }
     Ok((answers, finals))
 }
@@ -70,11 +69,11 @@ fn tell_accepted<'a, K: Key>(
 ) -> Result<(), Memory> {
     let found = fabric.call_of(alloc, line)?;
     let told = told_of(fabric, &found, sents);
+    let ending = ending_by(alloc, fabric, line, &found, sents)?;
     let changed = changed_by(alloc, fabric, line, &found)?;
     fabric.carry_out(alloc, line, sents)?;
     let heard = heard_by(alloc, fabric, sents)?;
-    let opened = changed.opened.as_slice();
-    let (answers, finals) = of_asks(alloc, fabric, line, &found, &told, opened, sents)?;
+    let (answers, finals) = of_asks(alloc, fabric, &told, &ending, sents)?;
     fabric.hear(alloc, sents)?;
     fabric.wait(alloc, sents)?;
     tell_kept(alloc, breaks, number, fabric, &changed, &heard)?;

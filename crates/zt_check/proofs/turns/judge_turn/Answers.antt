@@ -2,7 +2,7 @@ use Rattle.std.proofs.Common.{◌≡◌, Ok, Err, None, rules, refl, ap, subst, 
 use Rattle.std.proofs.lemmas.Result.{IfOk-weaker}
 use Rattle.zt_protocol.specs.Plain.{plain_entry, plain_line}
 use Rattle.zt_model.specs.Transcript.{IsRefusedByCause, fabric_shown}
-use Rattle.zt_check.specs.Turns.{TellsOf, bounds, turn_of}
+use Rattle.zt_check.specs.Turns.{TellsOf, later, turn_of}
 use Rattle.zt_check.proofs.TurnLemmas.{refused_bounds, refused_shown, tells_later}
 use Rattle.zt_check.proofs.turns.judge_turn.Goals as goal
 
@@ -16,7 +16,7 @@ returns-in-Ok-clause-tells g c =
     let cause : IsRefusedByCause cmp matching line (plain_entry c.args.entry.now) s = c.in_ok-is_refused_by_cause.ensures.0 (search (rules, c.if-not-branch.false)) in
     IfOk-weaker c.judge_accepted.result _ _
     (λ failed told text kept.
-    tells_later cmp matching (turn_of cmp matching line (plain_entry c.args.entry.now) s) failed cause text (subst (λ e. TellsOf cmp matching bounds (turn_of cmp matching line e s) failed) (sym entry_is) (told kept)))
+    tells_later cmp matching (turn_of cmp matching line (plain_entry c.args.entry.now) s) failed cause text (subst (λ e. TellsOf cmp matching later (turn_of cmp matching line e s) failed) (sym entry_is) (told kept)))
     c.judge_accepted.ensures.tells
 
 pub returns-in-Ok-clause-shown : goal.returns-in-Ok-clause-shown
@@ -37,7 +37,7 @@ returns-in-Err-clause-tells g c text kept =
     let entry_is : plain_entry c.args.entry.now ≡ Err c.in-Err.refusal = rw c.in-Err.is refl in
     let cause : IsRefusedByCause cmp matching line (plain_entry c.args.entry.now) s = c.in_ok-is_refused_by_cause.ensures.0 (search (rules, c.if-not-branch.false)) in
     tells_later cmp matching (turn_of cmp matching line (plain_entry c.args.entry.now) s) None cause text
-    (subst (λ e. TellsOf cmp matching bounds (turn_of cmp matching line e s) None) (sym entry_is) (refused_bounds cmp matching line c.in-Err.refusal s kept))
+    (subst (λ e. TellsOf cmp matching later (turn_of cmp matching line e s) None) (sym entry_is) (refused_bounds cmp matching line c.in-Err.refusal s kept))
 
 pub returns-in-Err-clause-shown : goal.returns-in-Err-clause-shown
 returns-in-Err-clause-shown g c none placed =

@@ -1,0 +1,7 @@
+pub mod FinalTurns
+pub mod Finished
+pub mod Frame
+pub mod HeardAsks
+pub mod Lines
+pub mod Printed
+pub mod Steps
