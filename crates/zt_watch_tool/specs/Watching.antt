@@ -20,7 +20,7 @@ use Rattle.zt_theorem_transcript.specs.Named.{HasNamedOptions}
 use Rattle.zt_theorem_tree_invariant.specs.Trees.{KeepPromisesOfTrees}
 use Rattle.zt_theorem_watch.specs.Tables.{PlainPoll}
 use Rattle.zt_theorem_watch.specs.Watched.{AreWatched}
-use Rattle.zt_polls.specs.Text.{polls_text}
+use Rattle.zt_watchers.specs.Text.{polls_text}
 use Rattle.zt_plans.specs.Plans.{AreRead}
 use Rattle.zt_fabric.specs.Transcripts.{Streams}
 use Rattle.zt_workers.specs.Answers.{FoundABadLine, FoundTooMuch, IsDriven, totals_of, transcript_text}

@@ -5,7 +5,7 @@ ghost use Rattle.zt_laws.specs.Sound.{HasFirstIds};
 ghost use Rattle.zt_model.specs.Transcript.{Each};
 ghost use Rattle.zt_theorem_journal.specs.Alone.{Speaks};
 ghost use Rattle.zt_plans.specs.Plans.{IsPlan, call_of, plan_lines};
-ghost use Rattle.zt_polls.specs.Text.{plain_poll};
+ghost use Rattle.zt_watchers.specs.Text.{plain_poll};
 ghost use Rattle.zt_workers.specs.Answers.{answered};
 ghost use Rattle.zt_watch_tool.specs.Watching.{CarriesOut};
 
@@ -15,9 +15,8 @@ use std::thread::Threads;
 use zt_dealing::Gate;
 use zt_keys::{Key, Memory};
 use zt_plans::Plan;
-use zt_polls::Poll;
 use zt_protocol::CallError;
-use zt_watchers::journal_beside;
+use zt_watchers::{Poll, journal_beside};
 use zt_workers::{Answer, all_refused, answer_journal, answer_makings, make_faces};
 
 /// What the lines of a script and of a monitor came to, and the monitor's polls.

@@ -1,13 +1,13 @@
 // The text of a transcript with the polls of a monitor behind it.
 ghost use Rattle.std.specs.Prelude.{◌≡◌, ◌<◌, ◌^◌, length, map, string_bytes, IfErr, IfOk};
-ghost use Rattle.zt_polls.specs.Text.{plain_poll};
+ghost use Rattle.zt_watchers.specs.Text.{plain_poll};
 ghost use Rattle.zt_workers.specs.Answers.{answered, totals_of};
 ghost use Rattle.zt_watch_tool.specs.Watching.{watched_text};
 
 use std::alloc::Global;
 use zt_keys::Key;
-use zt_polls::{Poll, write_polls};
 use zt_protocol::{Report, RunError};
+use zt_watchers::{Poll, write_polls};
 use zt_workers::{Answer, print_all};
 
 /// The text of the answers and of their totals, with the lines of the polls behind them, and the

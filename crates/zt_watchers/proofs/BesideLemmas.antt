@@ -21,8 +21,8 @@ use Rattle.zt_theorem_watch.specs.Beside.{ArePolled, Monitors, MonitorsNothing}
 use Rattle.zt_theorem_watch.specs.Tables.{PlainPoll}
 use Rattle.zt_theorem_watch.specs.Watched.{asks_from}
 use Rattle.zt_theorem_watch.proofs.Growing.{get_longer, polled_longer}
-use Rattle.zt_polls.specs.Text.{plain_poll}
-use Rattle.zt_polls.specs.declared.polls.Poll.{Poll}
+use Rattle.zt_watchers.specs.Text.{plain_poll}
+use Rattle.zt_watchers.specs.declared.polls.Poll.{Poll}
 use Rattle.zt_plans.specs.Plans.{numbered}
 use Rattle.zt_plans.specs.declared.plan.Numbered.{Numbered}
 use Rattle.zt_dealing.specs.Dealing.{Does, HasDone, HasMade, HaveFirstIds, IsDone, IsJob, IsMadeByPasses, MayWork, calls_of, part}
@@ -30,8 +30,8 @@ use Rattle.zt_dealing.specs.declared.dealing.Job.{Job}
 use Rattle.zt_dealing.specs.declared.working.Done.{Done}
 use Rattle.zt_dealing.proofs.DealLemmas.{all_done, done_long, pass_follows, pass_stays}
 use Rattle.zt_dealing.proofs.OrderLemmas.{own_numbers}
-use Rattle.zt_watching.specs.Watching.{GoesOn, IsLaterPass, IsWatching, RefusesWatch}
-use Rattle.zt_watching.specs.declared.monitoring.Watching.{Watching}
+use Rattle.zt_watchers.specs.Watching.{GoesOn, IsLaterPass, IsWatching, RefusesWatch}
+use Rattle.zt_watchers.specs.declared.monitoring.Watching.{Watching}
 use Rattle.zt_watchers.specs.Beside.{AreDealt, IsDrawnBehind, IsMadeBeside, dealt_beside}
 
 -- ---- lists with one more behind them

@@ -1,1 +1,3 @@
 pub mod BesideLemmas
+pub mod PollLemmas
+pub mod WatchLemmas

@@ -1,1 +1,3 @@
 pub mod Beside
+pub mod Text
+pub mod Watching

@@ -2,11 +2,11 @@
 ghost use Rattle.std.specs.Prelude.{◌≡◌, ◌++◌, [], ◌∷◌, length, IfOk};
 ghost use lib.ListN.{replicate};
 
+use crate::monitoring::Watching;
+use crate::polls::Poll;
 use std::alloc::Global;
 use zt_dealing::Done;
 use zt_keys::{Key, Memory};
-use zt_polls::Poll;
-use zt_watching::Watching;
 
 /// The numbers of the lines of a monitor that has made these polls: those of its session and of
 /// each.

@@ -2,8 +2,9 @@
 ghost use Rattle.std.specs.Prelude.{IfOk};
 ghost use Rattle.std.specs.List.{All, AllZip};
 ghost use Rattle.zt_dealing.specs.Dealing.{Does, MayWork};
-ghost use Rattle.zt_watching.specs.Watching.{CouldPoll, GoesOn};
+ghost use Rattle.zt_watchers.specs.Watching.{CouldPoll, GoesOn};
 
+use crate::monitoring::{Watching, poll_once};
 use std::alloc::Global;
 use std::sync::Wait;
 use std::thread;
@@ -11,7 +12,6 @@ use std::thread::Threads;
 use zt_dealing::{Done, Gate, Job, Worker, work_all};
 use zt_keys::{Key, Memory};
 use zt_shared::SharedGateway;
-use zt_watching::{Watching, poll_once};
 
 // Makes the polls that are wanted. The gate is told of each as of a line 0.
 fn poll_on<R: Wait, K: Key, G: Gate>(
@@ -43,7 +43,7 @@ struct Post<'a, R, K: Key, G> {
 }
 
 impl<'a, R: Wait, K: Key, G: Gate> Worker<Watching<K>, Watching<K>> for Post<'a, R, K, G> {
-    ghost use Rattle.zt_watching.specs.Watching.{CouldPoll, GoesOn};
+    ghost use Rattle.zt_watchers.specs.Watching.{CouldPoll, GoesOn};
 
     ghost may_begin = { λ post. CouldPoll post.shared.now };
 

@@ -4,11 +4,12 @@ ghost use Rattle.std.specs.List.{AllByRecursion};
 ghost use Rattle.zt_model.specs.Transcript.{Each};
 ghost use Rattle.zt_theorem_journal.specs.Alone.{Speaks};
 ghost use Rattle.zt_shared.specs.Recorded.{journalled};
-ghost use Rattle.zt_polls.specs.Text.{plain_poll};
+ghost use Rattle.zt_watchers.specs.Text.{plain_poll};
 ghost use Rattle.zt_plans.specs.Plans.{call_of, numbered};
 ghost use Rattle.zt_dealing.specs.Dealing.{HasMade};
 ghost use Rattle.zt_watchers.specs.Beside.{IsDrawnBehind, IsMadeBeside};
 
+use crate::monitoring::{Opened, open_monitor};
 use crate::watching::{Watched, end_unwatched, end_watched};
 use std::alloc::Global;
 use std::sync::Wait;
@@ -18,7 +19,6 @@ use zt_gateway::Gateway;
 use zt_keys::{Key, Memory};
 use zt_plans::Numbered;
 use zt_shared::{Pass, SharedGateway};
-use zt_watching::{Opened, open_monitor};
 
 // Draws a pass behind those of the workers.
 fn pass_behind<K: Key>(

@@ -4,21 +4,21 @@ ghost use Rattle.std.specs.List.{AllByRecursion};
 ghost use Rattle.zt_protocol.specs.Plain.{PlainCall};
 ghost use Rattle.zt_shared_value.specs.Passes.{Standing};
 ghost use Rattle.zt_shared.specs.Recorded.{Recorded, journalled};
-ghost use Rattle.zt_polls.specs.Text.{plain_poll};
+ghost use Rattle.zt_watchers.specs.Text.{plain_poll};
 ghost use Rattle.zt_dealing.specs.Dealing.{HasMade, MayWork};
-ghost use Rattle.zt_watching.specs.Watching.{CouldPoll, IsWatching, RefusesWatch};
+ghost use Rattle.zt_watchers.specs.Watching.{CouldPoll, IsWatching, RefusesWatch};
 ghost use Rattle.zt_watchers.specs.Beside.{AreDealt, IsMadeBeside};
 
 use crate::ending::{ended, zeros};
+use crate::monitoring::{Watching, poll_once};
 use crate::polling::work_beside;
+use crate::polls::Poll;
 use std::alloc::Global;
 use std::sync::Wait;
 use std::thread::Threads;
 use zt_dealing::{Done, Gate, Job, journal_with_lines, work_all};
 use zt_keys::{Key, Memory};
-use zt_polls::Poll;
 use zt_shared::{Journal, Pass, SharedGateway};
-use zt_watching::{Watching, poll_once};
 
 /// A journal with the lines of its entries, where a monitor's have the number 0, and the monitor's
 /// polls.

@@ -1,7 +1,7 @@
 use Rattle.std.proofs.Common.{◌+◌, ◌∙◌, length, map, ap}
 use Rattle.std.proofs.lemmas.List.{length-map}
 use Rattle.zt_shared.specs.Recorded.{journalled}
-use Rattle.zt_polls.specs.Text.{plain_poll}
+use Rattle.zt_watchers.specs.Text.{plain_poll}
 use Rattle.zt_workers.proofs.CarryLemmas.{few_makings, plan_first}
 use Rattle.zt_watch_tool.proofs.CarryLemmas.{plan_unwatched, plan_watched}
 use Rattle.zt_watch_tool.proofs.carrying.carry_out.Goals as goal

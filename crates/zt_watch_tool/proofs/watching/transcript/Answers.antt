@@ -5,8 +5,8 @@ use Rattle.zt_fabric.proofs.Right.{right_of_lines}
 use Rattle.zt_plans.specs.Plans.{plan_lines}
 use Rattle.zt_plans.specs.Reading.{ReadsScript}
 use Rattle.zt_plans.specs.declared.plan.Plan.{Plan}
-use Rattle.zt_polls.specs.Text.{plain_poll}
-use Rattle.zt_polls.specs.declared.polls.Poll.{Poll}
+use Rattle.zt_watchers.specs.Text.{plain_poll}
+use Rattle.zt_watchers.specs.declared.polls.Poll.{Poll}
 use Rattle.zt_workers.specs.Answers.{answered}
 use Rattle.zt_workers.specs.declared.answering.Answer.{Answer}
 use Rattle.zt_workers.proofs.DriveLemmas.{lines_read, none_answered, plan_small, plan_speaks}

@@ -1,6 +1,6 @@
 use Rattle.std.proofs.Common.{subst, arith}
-use Rattle.zt_watching.specs.Watching.{GoesOn}
-use Rattle.zt_watching.proofs.WatchLemmas.{may_go_on, none_more, some_more}
+use Rattle.zt_watchers.specs.Watching.{GoesOn}
+use Rattle.zt_watchers.proofs.WatchLemmas.{may_go_on, none_more, some_more}
 use Rattle.zt_watchers.proofs.polling.poll_on.Goals as goal
 
 pub loop-init : goal.loop-init

@@ -1,4 +1,4 @@
-use Rattle.zt_watching.specs.Watching.{GoesOn}
+use Rattle.zt_watchers.specs.Watching.{GoesOn}
 use Rattle.zt_watchers.proofs.polling.poll_on.Given as goal
 
 -- so many polls were made

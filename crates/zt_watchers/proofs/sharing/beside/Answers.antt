@@ -1,10 +1,10 @@
 use Rattle.std.proofs.Common.{◌≡◌, ◌+◌, map, length, subst, ◌∙◌, arith}
 use Rattle.std.proofs.lemmas.Result.{IfOk-weaker}
 use Rattle.zt_shared.specs.Recorded.{journalled}
-use Rattle.zt_polls.specs.Text.{plain_poll}
+use Rattle.zt_watchers.specs.Text.{plain_poll}
 use Rattle.zt_plans.specs.Plans.{numbered}
 use Rattle.zt_dealing.proofs.DealLemmas.{each_may, speak_first}
-use Rattle.zt_watching.specs.Watching.{OpensWatch, RefusesWatch, StartsWatch}
+use Rattle.zt_watchers.specs.Watching.{OpensWatch, RefusesWatch, StartsWatch}
 use Rattle.zt_watchers.specs.Beside.{AreDealt, IsMadeBeside}
 use Rattle.zt_watchers.proofs.BesideLemmas.{job_tables}
 use Rattle.zt_watchers.proofs.sharing.beside.Goals as goal

@@ -2,7 +2,7 @@ use Rattle.std.proofs.Common.{◌+◌, map, subst, ap}
 use Rattle.std.proofs.lemmas.Result.{IfOk-weaker}
 use Rattle.zt_shared_value.specs.Passes.{Standing}
 use Rattle.zt_shared.specs.Recorded.{Recorded, journalled}
-use Rattle.zt_polls.specs.Text.{plain_poll}
+use Rattle.zt_watchers.specs.Text.{plain_poll}
 use Rattle.zt_plans.specs.Plans.{numbered}
 use Rattle.zt_watchers.specs.Beside.{IsMadeBeside}
 use Rattle.zt_watchers.proofs.sharing.journal_beside.Goals as goal

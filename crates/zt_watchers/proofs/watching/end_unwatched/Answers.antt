@@ -1,6 +1,6 @@
 use Rattle.std.proofs.Common.{◌≡◌, ◌++◌, ◌∷◌, [], List, ℕ, ap, ◌∙◌, length}
 use lib.ListN.{replicate}
-use Rattle.zt_polls.specs.declared.polls.Poll.{Poll}
+use Rattle.zt_watchers.specs.declared.polls.Poll.{Poll}
 use Rattle.zt_dealing.specs.declared.working.Done.{Done}
 use Rattle.zt_watchers.proofs.BesideLemmas.{all_more, made_unwatched, tables_done}
 use Rattle.zt_watchers.proofs.watching.end_unwatched.Goals as goal

@@ -4,7 +4,7 @@ use Rattle.zt_dealing.specs.declared.working.Done.{Done}
 use Rattle.zt_dealing.proofs.DealLemmas.{at_place}
 use Rattle.zt_shared_value.specs.Passes.{Standing}
 use Rattle.zt_shared.specs.Recorded.{Recorded}
-use Rattle.zt_watching.proofs.WatchLemmas.{may_go_on, some_more}
+use Rattle.zt_watchers.proofs.WatchLemmas.{may_go_on, some_more}
 use Rattle.zt_watchers.proofs.BesideLemmas.{all_more, made_watched, tables_done}
 use Rattle.zt_watchers.proofs.watching.end_watched.Goals as goal
 

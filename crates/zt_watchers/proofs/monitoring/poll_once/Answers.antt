@@ -1,6 +1,6 @@
 use Rattle.std.proofs.Common.{refl}
-use Rattle.zt_watching.proofs.WatchLemmas.{one_more}
-use Rattle.zt_watching.proofs.monitoring.poll_once.Goals as goal
+use Rattle.zt_watchers.proofs.WatchLemmas.{one_more}
+use Rattle.zt_watchers.proofs.monitoring.poll_once.Goals as goal
 
 pub returns : goal.returns
 returns g c =

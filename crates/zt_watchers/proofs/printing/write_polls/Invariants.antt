@@ -1,6 +1,6 @@
 use Rattle.std.proofs.Common.{◌≡◌, ◌++◌, map, take, string_bytes}
-use Rattle.zt_polls.specs.Text.{plain_poll, polls_text}
-use Rattle.zt_polls.proofs.printing.write_polls.Given as goal
+use Rattle.zt_watchers.specs.Text.{plain_poll, polls_text}
+use Rattle.zt_watchers.proofs.printing.write_polls.Given as goal
 
 -- the lines of the polls so far were added
 abbrev pub invariant-loop-poll : goal.invariant-loop-poll

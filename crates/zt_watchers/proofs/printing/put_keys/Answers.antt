@@ -1,7 +1,7 @@
 use Rattle.std.proofs.Common.{string_bytes}
-use Rattle.zt_polls.specs.Text.{key_line}
-use Rattle.zt_polls.proofs.PollLemmas.{lines_more}
-use Rattle.zt_polls.proofs.printing.put_keys.Goals as goal
+use Rattle.zt_watchers.specs.Text.{key_line}
+use Rattle.zt_watchers.proofs.PollLemmas.{lines_more}
+use Rattle.zt_watchers.proofs.printing.put_keys.Goals as goal
 
 pub loop-key-preserved : goal.loop-key-preserved
 loop-key-preserved g c =

@@ -27,10 +27,11 @@ use Rattle.zt_theorem_watch.specs.Tables.{PlainPoll, lacked_by, table_after, tab
 use Rattle.zt_theorem_watch.specs.Watched.{Agrees, asks_from}
 use Rattle.zt_theorem_watch.proofs.Fold.{all_ordered, follows}
 use Rattle.zt_theorem_watch.proofs.Growing.{asks_more, get_longer, polled_longer, polled_more, tables_more}
-use Rattle.zt_polls.specs.Text.{plain_poll}
-use Rattle.zt_polls.specs.declared.polls.Poll.{Poll}
-use Rattle.zt_watching.specs.Watching.{calls_of, CouldPoll, GoesOn, IsLaterPass, IsWatching, PollsOnce, RefusesWatch, StartsWatch}
-use Rattle.zt_watching.specs.declared.monitoring.Watching.{Watching}
+use Rattle.zt_watchers.specs.Text.{plain_poll}
+use Rattle.zt_watchers.specs.declared.polls.Poll.{Poll}
+use Rattle.zt_dealing.specs.Dealing.{calls_of}
+use Rattle.zt_watchers.specs.Watching.{CouldPoll, GoesOn, IsLaterPass, IsWatching, PollsOnce, RefusesWatch, StartsWatch}
+use Rattle.zt_watchers.specs.declared.monitoring.Watching.{Watching}
 
 prefix_trans : {A : Type 0} (xs ys zs : List A) → IsPrefix xs ys → IsPrefix ys zs → IsPrefix xs zs
 prefix_trans xs ys zs one two = (one.0 ++ two.0, sym (append_assoc xs one.0 two.0) ∙ ap (λ ts. ts ++ two.0) one.1 ∙ two.1)

@@ -1,7 +1,7 @@
 use Rattle.std.proofs.Common.{◌≡◌, ◌++◌, take, string_bytes}
 use Rattle.std.specs.List.{flat_map}
-use Rattle.zt_polls.specs.Text.{key_line}
-use Rattle.zt_polls.proofs.printing.put_keys.Given as goal
+use Rattle.zt_watchers.specs.Text.{key_line}
+use Rattle.zt_watchers.proofs.printing.put_keys.Given as goal
 
 -- the lines of the keys so far were added
 abbrev pub invariant-loop-key : goal.invariant-loop-key

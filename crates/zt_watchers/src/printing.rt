@@ -2,7 +2,7 @@
 ghost use Rattle.std.specs.Prelude.{◌≡◌, ◌++◌, map, codes, decimal, string_bytes, OnOk};
 ghost use Rattle.std.specs.List.{flat_map};
 ghost use Rattle.zt_protocol.specs.Refusal.{name_of};
-ghost use Rattle.zt_polls.specs.Text.{key_line, plain_poll, poll_text, polls_text};
+ghost use Rattle.zt_watchers.specs.Text.{key_line, plain_poll, poll_text, polls_text};
 
 use crate::polls::{Found, Poll};
 use itoa::Buffer;

@@ -1,7 +1,7 @@
 use Rattle.std.proofs.Common.{refl, subst}
 use Rattle.zt_presence.specs.Polling.{PollFails}
-use Rattle.zt_watching.proofs.WatchLemmas.{found_once, refused_once}
-use Rattle.zt_watching.proofs.monitoring.poll.Goals as goal
+use Rattle.zt_watchers.proofs.WatchLemmas.{found_once, refused_once}
+use Rattle.zt_watchers.proofs.monitoring.poll.Goals as goal
 
 pub returns-in-Ok : goal.returns-in-Ok
 returns-in-Ok g c =

@@ -1,7 +1,7 @@
 use Rattle.std.proofs.Common.{ℕ, ◌+◌, List, ◌++◌, take, string_bytes, sym, ap, ◌∙◌}
-use Rattle.zt_polls.specs.Text.{plain_poll, poll_text}
-use Rattle.zt_polls.proofs.PollLemmas.{lines_more, lines_of_map}
-use Rattle.zt_polls.proofs.printing.write_polls.Goals as goal
+use Rattle.zt_watchers.specs.Text.{plain_poll, poll_text}
+use Rattle.zt_watchers.proofs.PollLemmas.{lines_more, lines_of_map}
+use Rattle.zt_watchers.proofs.printing.write_polls.Goals as goal
 
 pub loop-poll-preserved : goal.loop-poll-preserved
 loop-poll-preserved g c =

@@ -1,12 +1,12 @@
 // A monitor with the pass by which it asks, and its polls.
 ghost use Rattle.std.specs.Prelude.{◌≡◌, ◌≤◌, Ok, IfOk, OnOk};
-ghost use Rattle.zt_polls.specs.Text.{plain_poll};
-ghost use Rattle.zt_watching.specs.Watching.{CouldPoll, GoesOn, OpensWatch, PollsOnce};
+ghost use Rattle.zt_watchers.specs.Text.{plain_poll};
+ghost use Rattle.zt_watchers.specs.Watching.{CouldPoll, GoesOn, OpensWatch, PollsOnce};
 
+use crate::polls::{Found, Poll};
 use std::alloc::Global;
 use std::sync::Wait;
 use zt_keys::{Key, Memory};
-use zt_polls::{Found, Poll};
 use zt_presence::{Change, Monitor, PresenceError};
 use zt_shared::{Pass, SharedGateway};
 

@@ -3,28 +3,24 @@ use Rattle.std.specs.Prelude.{◌≡◌, ℕ, ◌+◌, ◌<◌, ◌≤◌, Bool,
 use Rattle.std.specs.declared.cmp.Ordering.{Ordering}
 use mathlib.Core.List.{IsPrefix}
 use Rattle.atomic_table.specs.Seated.{TableId}
-use Rattle.zt_protocol.specs.Plain.{NewSession, PlainCall}
+use Rattle.zt_protocol.specs.Plain.{NewSession}
 use Rattle.zt_protocol.specs.declared.errors.Refusal.{Refusal}
 use Rattle.zt_model.specs.Journal.{Journalled}
 use Rattle.zt_laws.specs.Order.{InKeyOrder}
-use Rattle.zt_shared_value.specs.Passes.{Standing, mine}
+use Rattle.zt_shared_value.specs.Passes.{Standing}
 use Rattle.zt_shared.specs.Recorded.{Recorded}
-use Rattle.zt_shared.specs.Sharing.{entries_of, pass_of}
+use Rattle.zt_dealing.specs.Dealing.{calls_of}
 use Rattle.zt_presence.specs.Polling.{rows_at}
 use Rattle.zt_presence.specs.Presence.{Presence, next_ask}
 use Rattle.zt_theorem_journal.specs.Asked.{AreVisible}
 use Rattle.zt_theorem_watch.specs.Beside.{ArePolled}
 use Rattle.zt_theorem_watch.specs.Tables.{PlainPoll, table_after, tables_after}
 use Rattle.zt_theorem_watch.specs.Watched.{Agrees, asks_from}
-use Rattle.zt_polls.specs.Text.{plain_poll}
-use Rattle.zt_polls.specs.declared.polls.Poll.{Poll}
-use Rattle.zt_watching.specs.declared.monitoring.Opened.{Opened}
-use Rattle.zt_watching.specs.declared.monitoring.Opened.TheVariants as opens
-use Rattle.zt_watching.specs.declared.monitoring.Watching.{Watching}
-
--- the calls that a pass has made, in order
-abbrev pub calls_of : {K : Type 0} → Standing (Recorded K) → List (PlainCall K)
-calls_of pass = map (λ x. x.1.call) (mine entries_of pass_of pass)
+use Rattle.zt_watchers.specs.Text.{plain_poll}
+use Rattle.zt_watchers.specs.declared.polls.Poll.{Poll}
+use Rattle.zt_watchers.specs.declared.monitoring.Opened.{Opened}
+use Rattle.zt_watchers.specs.declared.monitoring.Opened.TheVariants as opens
+use Rattle.zt_watchers.specs.declared.monitoring.Watching.{Watching}
 
 -- the monitor may poll by its pass, which is one of the table
 pub record CouldPoll {K : Type 0} (table : TableId) (w : Watching K) : Type 0 where

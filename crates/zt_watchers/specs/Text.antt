@@ -3,7 +3,7 @@ use Rattle.std.specs.Prelude.{ℕ, List, ◌++◌, codes, decimal, Ok, Err}
 use Rattle.std.specs.List.{flat_map}
 use Rattle.zt_protocol.specs.Refusal.{name_of}
 use Rattle.zt_theorem_watch.specs.Tables.{PlainPoll}
-use Rattle.zt_polls.specs.declared.polls.Poll.{Poll}
+use Rattle.zt_watchers.specs.declared.polls.Poll.{Poll}
 
 -- a poll without where its keys lie in memory
 abbrev pub plain_poll : {K : Type 0} → Poll K → PlainPoll K

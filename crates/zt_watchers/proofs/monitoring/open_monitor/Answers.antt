@@ -1,7 +1,7 @@
 use Rattle.std.proofs.Common.{refl, subst}
 use Rattle.zt_presence.specs.Polling.{OpeningFails}
-use Rattle.zt_watching.proofs.WatchLemmas.{begun, not_begun}
-use Rattle.zt_watching.proofs.monitoring.open_monitor.Goals as goal
+use Rattle.zt_watchers.proofs.WatchLemmas.{begun, not_begun}
+use Rattle.zt_watchers.proofs.monitoring.open_monitor.Goals as goal
 
 pub returns-in-Ok : goal.returns-in-Ok
 returns-in-Ok g c =

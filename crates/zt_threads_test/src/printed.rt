@@ -1,9 +1,9 @@
 //! Polls in print.
-use crate::{Found, Poll, write_polls};
 use std::alloc::Global;
 use std::test::Fail;
 use zt_keys::{Key, KeyExpr};
 use zt_protocol::Refusal;
+use zt_watchers::{Found, Poll, write_polls};
 
 // The keys that these texts spell.
 fn keys(alloc: Global, texts: &[&str]) -> Result<Vec<KeyExpr>, Fail> {
