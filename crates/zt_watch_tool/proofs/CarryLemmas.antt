@@ -15,7 +15,7 @@ use Rattle.zt_model.specs.Refusals.{first_cause}
 use Rattle.zt_model.specs.Rows.{Rows}
 use Rattle.zt_model.specs.Transcript.{Each}
 use Rattle.zt_laws.specs.Sound.{HasFirstIds}
-use Rattle.zt_laws.proofs.Lists.{each_both, each_front, each_weaker, map-map}
+use Rattle.zt_laws.proofs.Lists.{each_both, each_front, each_weaker, map-map, never}
 use Rattle.zt_theorem_transcript.specs.Named.{HasNamedOptions}
 use Rattle.zt_gateway.specs.Running.{Running}
 use Rattle.zt_gateway.specs.Settings.{line_of, new_gateway}
@@ -32,13 +32,14 @@ use Rattle.zt_shared.specs.declared.entries.JournalEntry.{JournalEntry}
 use Rattle.zt_plans.specs.Plans.{IsPlan, call_of, numbered, plan_lines}
 use Rattle.zt_plans.specs.declared.plan.Numbered.{Numbered}
 use Rattle.zt_plans.specs.declared.plan.Plan.{Plan}
-use Rattle.zt_dealing.specs.Dealing.{with_lines}
+use Rattle.zt_dealing.specs.Dealing.{IsMadeByPasses, with_lines}
 use Rattle.zt_dealing.proofs.OrderLemmas.{all_seconds, lines_map}
-use Rattle.zt_watchers.specs.Beside.{IsMadeBeside}
+use Rattle.zt_watchers.specs.Beside.{IsMadeBeside, dealt_beside}
 use Rattle.zt_watchers.proofs.BesideLemmas.{ours, theirs}
 use Rattle.zt_workers.specs.Answers.{CarriesOut as CarriesAlone, answered}
 use Rattle.zt_workers.specs.declared.answering.Answer.{Answer}
-use Rattle.zt_workers.proofs.CarryLemmas.{plan_stopped}
+use Rattle.zt_workers.proofs.CarryLemmas.{calls_behind, plan_stopped}
+use Rattle.zt_workers.proofs.StartLemmas.{starts_alone}
 use Rattle.zt_watch_tool.specs.Watching.{CarriesOut}
 
 -- ---- the lines of a monitor
@@ -87,15 +88,16 @@ no_gateway (Some cause) error caused = refl
 
 module _ {K : Type 0} (cmp : K → K → Ordering) (matching : K → K → Bool) where
   -- Where no gateway is made nobody watches.
-  pub carried_unwatched : (script : List (PlainLine K)) (count : ℕ) (expr : Option K) (answers : List (ℕ × PlainEntry K)) (polls : List (PlainPoll K)) → CarriesAlone cmp matching script answers → makes_gateway cmp matching script ≡ false → polls ≡ []
-      → CarriesOut cmp matching script count expr answers polls
-  carried_unwatched script count expr answers polls carries none unpolled =
+  pub carried_unwatched : (workers : ℕ) (script : List (PlainLine K)) (count : ℕ) (expr : Option K) (answers : List (ℕ × PlainEntry K)) (polls : List (PlainPoll K)) → CarriesAlone cmp matching workers script answers → makes_gateway cmp matching script ≡ false → polls ≡ []
+      → CarriesOut cmp matching workers script count expr answers polls
+  carried_unwatched workers script count expr answers polls carries none unpolled =
       let order = carries.reorders.order in
       let watched = unwatched cmp matching script count expr order answers carries.reorders.reordered carries.reorders.numbers carries.reorders.are_the_machines none in
       let same = unwatched_order cmp matching script count expr order answers carries.reorders.reordered carries.reorders.numbers carries.reorders.are_the_machines none in
-      subst (λ ps. CarriesOut cmp matching script count expr answers ps) (sym unpolled)
+      subst (λ ps. CarriesOut cmp matching workers script count expr answers ps) (sym unpolled)
       (record {
         watched = watched;
+        by_workers = λ made. never made none;
         first_ids = subst (λ (o : List (ℕ × PlainLine K)). Each HasFirstIds (map (λ x. x.1) o)) (sym same) carries.first_ids;
         named_options = subst (λ (o : List (ℕ × PlainLine K)). Each HasNamedOptions (map (λ x. x.1) o)) (sym same) carries.named_options;
       })
@@ -113,14 +115,14 @@ module _ {K : Type 0} (cmp : K → K → Ordering) (matching : K → K → Bool)
   fresh_rows = (new_gateway {K = K} plan.gateway).rows
 
   -- The plan's gateway is refused.
-  pub plan_unwatched : (count : ℕ) (expr : Option K) (answers : List (Answer K)) (polls : List (PlainPoll K)) (r : Refusal) (error : CallError) (makings : List (Line K)) (calls : List (Numbered K))
+  pub plan_unwatched : (workers count : ℕ) (expr : Option K) (answers : List (Answer K)) (polls : List (PlainPoll K)) (r : Refusal) (error : CallError) (makings : List (Line K)) (calls : List (Numbered K))
       → option_map Refused (first_cause (line_causes cmp matching false (line_of plan.gateway) empty_fabric)) ≡ Some error → error ≡ Refused r
       → makings ≡ plan.makings.items → calls ≡ plan.calls.items
       → map answered answers ≡ numbered_from 1 (Err r ∷ (map (λ m. Err refusal.UnknownGateway) makings ++ map (λ c. Err refusal.UnknownFace) calls))
-      → polls ≡ [] → CarriesOut cmp matching (plan_lines plan) count expr (map answered answers) polls
-  plan_unwatched count expr answers polls r error makings calls caused refused ms cs are none =
-      carried_unwatched cmp matching (plan_lines plan) count expr (map answered answers) polls
-      (let result : Result (List (Answer K)) Refusal = Ok answers in plan_stopped cmp matching total plan is first named speak result (λ v. v) r error makings calls caused refused ms cs are)
+      → polls ≡ [] → CarriesOut cmp matching workers (plan_lines plan) count expr (map answered answers) polls
+  plan_unwatched workers count expr answers polls r error makings calls caused refused ms cs are none =
+      carried_unwatched cmp matching workers (plan_lines plan) count expr (map answered answers) polls
+      (let result : Result (List (Answer K)) Refusal = Ok answers in plan_stopped cmp matching total plan is first named speak workers result (λ v. v) r error makings calls caused refused ms cs are)
       (no_gateway (first_cause (line_causes cmp matching false (line_of plan.gateway) empty_fabric)) error caused) none
 
   -- The plan's gateway is made, and workers and a monitor have made the calls.
@@ -173,13 +175,27 @@ module _ {K : Type 0} (cmp : K → K → Ordering) (matching : K → K → Bool)
     every_line : (P : PlainLine K → Type 0) → P (line_of plan.gateway) → Each P makings_of → Each (λ c. P (line_of_call c)) spoken_of → Each (λ c. P (line_of_call c)) made.monitor → Each P (map (λ x. x.1) (order_beside (line_of plan.gateway) makings_of lined))
     every_line P one makers theirs_ own = each_line workers (2 + length makings_of) spoken_of made.monitor lined dealt (line_of plan.gateway) makings_of P one makers theirs_ own
 
-    pub carried_watched : CarriesOut cmp matching (plan_lines plan) count expr (answers_beside (made_entries cmp matching makings_of fresh_rows) lined) polls
+    pub carried_watched : CarriesOut cmp matching workers (plan_lines plan) count expr (answers_beside (made_entries cmp matching makings_of fresh_rows) lined) polls
     carried_watched =
         let s = plan.gateway in
         let watched = are_watched cmp matching total s.mode s.zid s.regions s.south s.name s.timeout s.refused makings_of workers spoken_of made.monitor lined dealt monitors.may accepted is.making real replay count expr polls polled in
         let same = watched_order cmp matching total s.mode s.zid s.regions s.south s.name s.timeout s.refused makings_of workers spoken_of made.monitor lined dealt monitors.may accepted is.making real replay count expr polls polled in
         record {
           watched = watched;
+          by_workers = λ _. record {
+            rows = start;
+            starts = starts_alone cmp matching total plan.gateway makings_of spoken_of accepted is.making real;
+            journal = entries;
+            lines = lines;
+            monitor = made.monitor;
+            made =
+                subst (λ (cs : List (ℕ × PlainCall K)). IsMadeByPasses cmp matching (workers + 1) (dealt_beside workers cs made.monitor) start entries lines)
+                (sym (calls_behind 2 makings_of spoken_of is.making)) made.made;
+            before = numbered_from 1 (Ok [] ∷ made_entries cmp matching makings_of fresh_rows);
+            answers_are =
+                ap (λ (xs : List (ℕ × PlainEntry K)). numbered_from 1 (Ok [] ∷ made_entries cmp matching makings_of fresh_rows) ++ xs)
+                (sym (lines_map (λ (e : Journalled K). e.outcome) lines entries));
+          };
           first_ids =
               subst (λ (o : List (ℕ × PlainLine K)). Each HasFirstIds (map (λ x. x.1) o)) (sym same)
               (every_line HasFirstIds first.0 real (each_weaker Speaks (λ c. HasFirstIds (line_of_call c)) speaks_first spoken_of speak) monitors.first);
@@ -197,7 +213,7 @@ module _ {K : Type 0} (cmp : K → K → Ordering) (matching : K → K → Bool)
       → map answered opened ≡ numbered_from 1 (Ok [] ∷ map plain_entry entries)
       → slice_lines ≡ lines
       → map answered answers ≡ map answered opened ++ with_lines slice_lines (map (λ e. plain_outcome e.outcome) journal)
-      → CarriesOut cmp matching (plan_lines plan) count expr (map answered answers) polls
+      → CarriesOut cmp matching workers (plan_lines plan) count expr (map answered answers) polls
   plan_watched workers some count expr slice begun opened_on entries journal lines slice_lines opened answers polls accepted slice_is begun_is entries_are opened_is made opened_are same are =
       let rows_of : Running K → Rows K = λ r. r.rows in
       let entries_ : map plain_entry entries ≡ made_entries cmp matching makings_of fresh_rows = entries_are ∙ ap (λ ls. made_entries cmp matching (map plain_line ls) begun.rows) slice_is ∙ ap (λ r. made_entries cmp matching makings_of (rows_of r)) begun_is in
@@ -207,7 +223,7 @@ module _ {K : Type 0} (cmp : K → K → Ordering) (matching : K → K → Bool)
       (subst (λ (cs : List (ℕ × PlainCall K)). IsMadeBeside cmp matching workers cs count expr opened_on.rows (map journalled journal) lines polls) is.numbers made)
       in
       let outcomes : map (λ (e : JournalEntry K). plain_outcome e.outcome) journal ≡ map (λ (e : Journalled K). e.outcome) (map journalled journal) = sym (map-map (λ (e : Journalled K). e.outcome) journalled journal) in
-      subst (λ (found : List (ℕ × PlainEntry K)). CarriesOut cmp matching (plan_lines plan) count expr found polls)
+      subst (λ (found : List (ℕ × PlainEntry K)). CarriesOut cmp matching workers (plan_lines plan) count expr found polls)
       (sym
       (are ∙ ap (λ ls. map answered opened ++ with_lines ls (map (λ (e : JournalEntry K). plain_outcome e.outcome) journal)) same
       ∙ ap (λ os. map answered opened ++ with_lines lines os) outcomes

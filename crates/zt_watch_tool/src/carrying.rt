@@ -43,8 +43,9 @@ pub fn carry_out<R: Threads + Wait + Sync, K: Key + Send + Sync, G: Gate + Sync>
     requires first { Each HasFirstIds (plan_lines plan) }
     requires named { Each HasNamedOptions (plan_lines plan) }
     requires speak { Each Speaks (map call_of plan.calls.items) }
-    ensures { IfOk result (λ carried. CarriesOut K.cmp K.matching (plan_lines plan) (wanted + 1)
-        expr (map answered carried.answers.items) (map plain_poll carried.polls.items)) }
+    ensures { IfOk result (λ carried. CarriesOut K.cmp K.matching workers (plan_lines plan)
+        (wanted + 1) expr (map answered carried.answers.items)
+        (map plain_poll carried.polls.items)) }
 {
     let Plan {
         gateway,

@@ -1,7 +1,7 @@
 // The text of a transcript with the polls of a monitor behind it.
 ghost use Rattle.std.specs.Prelude.{◌≡◌, ◌<◌, ◌^◌, length, map, string_bytes, IfErr, IfOk};
 ghost use Rattle.zt_watchers.specs.Text.{plain_poll};
-ghost use Rattle.zt_workers.specs.Answers.{answered, totals_of};
+ghost use Rattle.zt_workers.specs.Answers.{AnswersFit, answered, totals_of};
 ghost use Rattle.zt_watch_tool.specs.Watching.{watched_text};
 
 use std::alloc::Global;
@@ -11,7 +11,7 @@ use zt_watchers::{Poll, write_polls};
 use zt_workers::{Answer, print_all};
 
 /// The text of the answers and of their totals, with the lines of the polls behind them, and the
-/// totals. The only error is `Alloc`.
+/// totals. The numbers of the answers are within their types. The only error is `Alloc`.
 pub fn printed<K: Key>(
     alloc: Global,
     answers: &[Answer<K>],
@@ -21,6 +21,7 @@ pub fn printed<K: Key>(
     ensures text { IfOk result (λ made. string_bytes made.0
         ≡ watched_text K.printed (map answered answers.now) (map plain_poll polls.now)) }
     ensures totals { IfOk result (λ made. made.1 ≡ totals_of (map answered answers.now)) }
+    ensures fit { IfOk result (λ _. AnswersFit (map answered answers.now)) }
     ensures err { IfErr result (λ error. error ≡ RunError.Alloc) }
 {
     let Ok((text, report)) = print_all(alloc, answers) else {

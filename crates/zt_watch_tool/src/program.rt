@@ -41,7 +41,7 @@ pub fn watch_tool<R: Threads + Wait + Sync, S: Source, T: Sink>(
         (map string_bytes words.now) ≡ Some asked
         → (answer : Result Report RunError) × (result ≡ status_of answer)
         × Answers ⟦<KeyExpr as Ord>⟧.cmp ⟦<KeyExpr as Key>⟧.matching ⟦<KeyExpr as Key>⟧.reading
-        ⟦<KeyExpr as Key>⟧.printed (asked.wanted + 1) asked.expr
+        ⟦<KeyExpr as Key>⟧.printed asked.workers (asked.wanted + 1) asked.expr
         (streams (S.left source.old) (S.faults source.old) (T.written sink.old) (T.faults sink.old))
         (streams (S.left source.new) (S.faults source.new) (T.written sink.new)
         (T.faults sink.new)) answer

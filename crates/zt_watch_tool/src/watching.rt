@@ -35,7 +35,7 @@ fn transcript<R: Threads + Wait + Sync, K: Key + Send + Sync, G: Gate + Sync>(
     requires some { 0 < workers }
     requires bound { vec_len script.now.bytes ≤ SCRIPT_BYTES }
     ensures ok { IfOk result (λ made. Transcribes K.cmp K.matching K.reading K.printed
-        (wanted + 1) expr
+        workers (wanted + 1) expr
         script.now.bytes.items script.now.longer (string_bytes made.0) made.1) }
     ensures err { IfErr result (ReadingStops K.reading script.now.bytes.items script.now.longer) }
 {
@@ -84,7 +84,7 @@ pub fn watch<R: Threads + Wait + Sync, K: Key + Send + Sync, S: Source, T: Sink,
     requires some { 0 < workers }
     requires few { workers ≤ MOST_WORKERS }
     requires polls { wanted ≤ MOST_POLLS }
-    ensures answers { Answers K.cmp K.matching K.reading K.printed (wanted + 1) expr
+    ensures answers { Answers K.cmp K.matching K.reading K.printed workers (wanted + 1) expr
         (streams (S.left source.old) (S.faults source.old) (T.written sink.old) (T.faults sink.old))
         (streams (S.left source.new) (S.faults source.new) (T.written sink.new)
         (T.faults sink.new)) result }

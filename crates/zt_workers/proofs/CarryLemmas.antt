@@ -1,10 +1,10 @@
 -- The answers of a whole script.
-use Rattle.std.proofs.Common.{◌≡◌, ℕ, suc, ◌+◌, ◌<◌, Bool, true, false, ◌==◌, is_some, List, [], ◌∷◌, ◌++◌, length, map, filter, Option, Some, None, option_map, Result, Ok, Err, IfOk, refl, sym, ap, ◌∙◌, subst, arith, length-append}
+use Rattle.std.proofs.Common.{◌≡◌, ℕ, suc, ◌+◌, ◌<◌, Bool, true, false, not, ◌==◌, is_none, is_some, List, [], ◌∷◌, ◌++◌, length, map, filter, Option, Some, None, option_map, Result, Ok, Err, IfOk, refl, sym, ap, ◌∙◌, subst, arith, length-append}
 use Rattle.std.specs.Cmp.{IsTotalOrder}
 use Rattle.std.proofs.lemmas.List.{length-map}
 use Rattle.std.proofs.lemmas.Result.{IfOk-weaker}
 use Rattle.std.specs.declared.cmp.Ordering.{Ordering}
-use Rattle.zt_protocol.specs.Plain.{PlainCall, PlainEntry, PlainLine, Speak, plain_entry, plain_line}
+use Rattle.zt_protocol.specs.Plain.{PlainCall, PlainEntry, PlainLine, Gateway, Session, Face as FaceLine, Link, Unlink, Step, Speak, Moment, SetTreesAt, plain_entry, plain_line}
 use Rattle.zt_protocol.specs.declared.entries.Entry.{Entry}
 use Rattle.zt_protocol.specs.declared.errors.CallError.{CallError}
 use Rattle.zt_protocol.specs.declared.errors.CallError.TheVariants.{Refused}
@@ -12,28 +12,30 @@ use Rattle.zt_protocol.specs.declared.lines.Line.{Line}
 use Rattle.zt_protocol.specs.declared.errors.Refusal.{Refusal}
 use Rattle.zt_protocol.specs.declared.errors.Refusal.TheVariants as refusal
 use Rattle.zt_model.specs.Fabric.{empty_fabric, entries_from, line_causes}
-use Rattle.zt_model.specs.Journal.{IsReplay, Journalled, is_driven, is_making}
+use Rattle.zt_model.specs.Journal.{IsReplay, Journalled, is_driven, is_making, is_speaking}
 use Rattle.zt_model.specs.Refusals.{first_cause}
 use Rattle.zt_model.specs.Rows.{Rows}
 use Rattle.zt_model.specs.Transcript.{Each}
 use Rattle.zt_laws.specs.Sound.{HasFirstIds}
-use Rattle.zt_laws.proofs.Lists.{each_append, each_filter, each_front, each_map, map-append, map-map}
+use Rattle.zt_laws.proofs.Lists.{each_append, each_filter, each_front, each_map, map-append, map-map, never}
 use Rattle.zt_theorem_transcript.specs.Named.{HasNamedOptions}
 use Rattle.zt_gateway.specs.Running.{Running}
 use Rattle.zt_gateway.specs.Settings.{Settings, line_of, new_gateway}
-use Rattle.zt_theorem_journal.specs.Alone.{Speaks, made_entries, rows_made}
+use Rattle.zt_theorem_journal.specs.Alone.{IsAlone, Speaks, made_entries, rows_made}
 use Rattle.zt_theorem_journal.specs.Dealt.{IsDealt, numbered_from, order_of, script_of, worker_of}
 use Rattle.zt_theorem_journal.proofs.Order.{each_numbered, each_of_map, each_part, is_reordered, map_second, order_lines}
 use Rattle.zt_theorem_journal.proofs.Replay.{script_comes, script_refused}
 use Rattle.zt_shared.specs.Recorded.{journalled, plain_outcome}
 use Rattle.zt_shared.specs.declared.entries.JournalEntry.{JournalEntry}
-use Rattle.zt_workers.specs.Answers.{CarriesOut, answered}
+use Rattle.zt_theorem_watch.specs.Watched.{fabric_of}
+use Rattle.zt_workers.specs.Answers.{CarriesOut, answered, calls_in}
 use Rattle.zt_dealing.specs.Dealing.{IsMadeByWorkers, with_lines}
 use Rattle.zt_plans.specs.Plans.{IsPlan, call_of, numbered, plan_lines}
 use Rattle.zt_workers.specs.declared.answering.Answer.{Answer}
 use Rattle.zt_plans.specs.declared.plan.Numbered.{Numbered}
 use Rattle.zt_plans.specs.declared.plan.Plan.{Plan}
 use Rattle.zt_workers.proofs.MadeLemmas.{as_many_entries}
+use Rattle.zt_workers.proofs.StartLemmas.{starts_alone}
 use Rattle.zt_dealing.proofs.OrderLemmas.{all_seconds, lines_map}
 use Rattle.zt_plans.proofs.PlanLemmas.{script_driven}
 
@@ -52,6 +54,32 @@ cause_of : (cause : Option Refusal) (r : Refusal) (error : CallError) → option
 cause_of None r error caused is = let none : None ≡ Some error = caused in cc
 cause_of (Some cause) r error caused is = let same : Some (Refused cause) ≡ Some error = caused in cc
 
+-- ---- the calls of a script
+
+module _ {K : Type 0} where
+  calls_spoken : (n : ℕ) (calls : List (PlainCall K)) → calls_in (numbered_from n (map (λ c. Speak c) calls)) ≡ numbered_from n calls
+  calls_spoken n [] = refl
+  calls_spoken n (c ∷ calls) = ap (λ cs. (n, c) ∷ cs) (calls_spoken (n + 1) calls)
+
+  -- a line that opens a face is no call
+  no_call : (n : ℕ) (line : PlainLine K) (lines : List (ℕ × PlainLine K)) → is_making line ≡ true → calls_in ((n, line) ∷ lines) ≡ calls_in lines
+  no_call n (Gateway mode zid regions south name timeout refused) lines making = refl
+  no_call n (Session gateway first) lines making = refl
+  no_call n (FaceLine gateway mode zid region bound first) lines making = refl
+  no_call n (Link one two first back) lines making = refl
+  no_call n (Unlink link) lines making = refl
+  no_call n (Step link back) lines making = refl
+  no_call n (Speak call) lines making = never making refl
+  no_call n (Moment gateway now) lines making = refl
+  no_call n (SetTreesAt gateway region table) lines making = refl
+
+  pub calls_behind : (n : ℕ) (makings : List (PlainLine K)) (calls : List (PlainCall K)) → Each (λ m. is_making m ≡ true) makings → calls_in (numbered_from n (makings ++ map (λ c. Speak c) calls)) ≡ numbered_from (n + length makings) calls
+  calls_behind n [] calls making = calls_spoken n calls ∙ ap (λ k. numbered_from k calls) (let same : n ≡ n + 0 = omega arith in same)
+  calls_behind n (m ∷ makings) calls making =
+      no_call n m (numbered_from (n + 1) (makings ++ map (λ c. Speak c) calls)) making.0
+      ∙ calls_behind (n + 1) makings calls making.1
+      ∙ ap (λ k. numbered_from k calls) (let same : (n + 1) + length makings ≡ n + suc (length makings) = omega arith in same)
+
 module _ {K : Type 0} (cmp : K → K → Ordering) (matching : K → K → Bool) (total : IsTotalOrder cmp) (s : Settings) (makings : List (PlainLine K)) (calls : List (PlainCall K)) where
   abbrev line : PlainLine K
   line = line_of s
@@ -60,10 +88,10 @@ module _ {K : Type 0} (cmp : K → K → Ordering) (matching : K → K → Bool)
   script = script_of line makings calls
 
   -- The gateway is refused.
-  pub all_refused : (r : Refusal) (answers : List (ℕ × PlainEntry K)) → first_cause (line_causes cmp matching false line empty_fabric) ≡ Some r → Each (λ m. is_making m ≡ true) makings → Each Speaks calls
+  pub all_refused : (workers : ℕ) (r : Refusal) (answers : List (ℕ × PlainEntry K)) → first_cause (line_causes cmp matching false line empty_fabric) ≡ Some r → Each (λ m. is_making m ≡ true) makings → Each Speaks calls
       → Each HasFirstIds script → Each HasNamedOptions script
-      → answers ≡ numbered_from 1 (Err r ∷ (map (λ m. Err refusal.UnknownGateway) makings ++ map (λ c. Err refusal.UnknownFace) calls)) → CarriesOut cmp matching script answers
-  all_refused r answers caused making speak first named is = record {
+      → answers ≡ numbered_from 1 (Err r ∷ (map (λ m. Err refusal.UnknownGateway) makings ++ map (λ c. Err refusal.UnknownFace) calls)) → CarriesOut cmp matching workers script answers
+  all_refused workers r answers caused making speak first named is = record {
     reorders = record {
       order = numbered_from 1 script;
       reordered = record {
@@ -78,6 +106,7 @@ module _ {K : Type 0} (cmp : K → K → Ordering) (matching : K → K → Bool)
           ap (map (λ x. x.1)) is ∙ map_second 1 entries
           ∙ sym (ap (λ ls. entries_from cmp matching ls empty_fabric) (map_second 1 script) ∙ script_refused cmp matching total s.mode s.zid s.regions s.south s.name s.timeout s.refused r makings calls caused making speak);
     };
+    by_workers = λ started. absurd (let no : false ≡ true = sym (ap is_none caused) ∙ started in cc);
     first_ids = subst (Each HasFirstIds) (sym (map_second 1 script)) first;
     named_options = subst (Each HasNamedOptions) (sym (map_second 1 script)) named;
   }
@@ -128,7 +157,7 @@ module _ {K : Type 0} (cmp : K → K → Ordering) (matching : K → K → Bool)
     pub all_made : (answers : List (ℕ × PlainEntry K)) → first_cause (line_causes cmp matching false line empty_fabric) ≡ None → rows ≡ rows_made cmp matching makings (new_gateway {K = K} s).rows
         → Each (λ m. is_making m ≡ true) makings → Each Speaks calls → Each HasFirstIds makings → Each HasNamedOptions makings → Each (λ c. HasNamedOptions (Speak c)) calls
         → answers ≡ numbered_from 1 (Ok [] ∷ made_entries cmp matching makings (new_gateway {K = K} s).rows) ++ with_lines lines (map (λ e. e.outcome) journal)
-        → CarriesOut cmp matching script answers
+        → CarriesOut cmp matching workers script answers
     all_made answers accepted rows_are making speak first named named_calls is = record {
       reorders = record {
         order = order_of line makings lined;
@@ -145,6 +174,17 @@ module _ {K : Type 0} (cmp : K → K → Ordering) (matching : K → K → Bool)
             ∙ sym (ap (λ ls. entries_from cmp matching ls empty_fabric) (order_is speak)
             ∙ script_comes cmp matching total s.mode s.zid s.regions s.south s.name s.timeout s.refused makings journal accepted making first (each_entry Speaks speak)
             (subst (λ (g : Rows K). IsReplay cmp matching journal g) rows_are made.replay));
+      };
+      by_workers = λ started. record {
+        rows = rows;
+        starts =
+            subst (λ (g : Rows K). IsAlone cmp matching g (fabric_of cmp matching (filter (λ l. not (is_speaking l)) script) empty_fabric)) (sym rows_are)
+            (starts_alone cmp matching total s makings calls accepted making first);
+        journal = journal;
+        lines = lines;
+        made = subst (λ (cs : List (ℕ × PlainCall K)). IsMadeByWorkers cmp matching workers cs rows journal lines) (sym (calls_behind 2 makings calls making)) made;
+        before = numbered_from 1 (Ok [] ∷ opened);
+        answers_are = is;
       };
       first_ids = subst (Each HasFirstIds) (sym (order_is speak)) (tt, each_append HasFirstIds makings (map (λ (e : Journalled K). Speak e.call) journal) first (each_speaking HasFirstIds journal (all_speak_first journal)));
       named_options = subst (Each HasNamedOptions) (sym (order_is speak))
@@ -173,13 +213,13 @@ module _ {K : Type 0} (cmp : K → K → Ordering) (matching : K → K → Bool)
   spoken_of = map call_of plan.calls.items
 
   -- The plan's gateway is refused.
-  pub plan_refused : (r : Refusal) (answers : List (Answer K)) → first_cause (line_causes cmp matching false (line_of plan.gateway) empty_fabric) ≡ Some r
+  pub plan_refused : (workers : ℕ) (r : Refusal) (answers : List (Answer K)) → first_cause (line_causes cmp matching false (line_of plan.gateway) empty_fabric) ≡ Some r
       → map answered answers ≡ numbered_from 1 (Err r ∷ (map (λ m. Err refusal.UnknownGateway) plan.makings.items ++ map (λ c. Err refusal.UnknownFace) plan.calls.items))
-      → CarriesOut cmp matching (plan_lines plan) (map answered answers)
-  plan_refused r answers caused are =
+      → CarriesOut cmp matching workers (plan_lines plan) (map answered answers)
+  plan_refused workers r answers caused are =
       let ms : map (λ m. Err refusal.UnknownGateway) makings_of ≡ map (λ m. Err refusal.UnknownGateway) plan.makings.items = map-map _ plain_line plan.makings.items in
       let cs : map (λ c. Err refusal.UnknownFace) spoken_of ≡ map (λ c. Err refusal.UnknownFace) plan.calls.items = map-map _ call_of plan.calls.items in
-      all_refused cmp matching total plan.gateway makings_of spoken_of r (map answered answers) caused is.making speak first named
+      all_refused cmp matching total plan.gateway makings_of spoken_of workers r (map answered answers) caused is.making speak first named
       (are ∙ ap (λ (es : List (PlainEntry K)). numbered_from 1 (Err r ∷ (es ++ map (λ c. Err refusal.UnknownFace) plan.calls.items))) (sym ms)
       ∙ ap (λ (es : List (PlainEntry K)). numbered_from 1 (Err r ∷ (map (λ m. Err refusal.UnknownGateway) makings_of ++ es))) (sym cs))
 
@@ -191,7 +231,7 @@ module _ {K : Type 0} (cmp : K → K → Ordering) (matching : K → K → Bool)
       → IsMadeByWorkers cmp matching workers (map numbered plan.calls.items) rows (map journalled journal) lines
       → map answered opened ≡ numbered_from 1 (Ok [] ∷ map plain_entry entries)
       → map answered answers ≡ map answered opened ++ with_lines lines (map (λ e. plain_outcome e.outcome) journal)
-      → CarriesOut cmp matching (plan_lines plan) (map answered answers)
+      → CarriesOut cmp matching workers (plan_lines plan) (map answered answers)
   plan_made workers some entries rows journal lines opened answers accepted entries_are rows_are made opened_are are =
       let made_ = subst (λ (cs : List (ℕ × PlainCall K)). IsMadeByWorkers cmp matching workers cs rows (map journalled journal) lines) is.numbers made in
       let outcomes : map (λ (e : Journalled K). e.outcome) (map journalled journal) ≡ map (λ (e : JournalEntry K). plain_outcome e.outcome) journal = map-map (λ (e : Journalled K). e.outcome) journalled journal in
@@ -211,7 +251,7 @@ module _ {K : Type 0} (cmp : K → K → Ordering) (matching : K → K → Bool)
       → map answered opened ≡ numbered_from 1 (Ok [] ∷ map plain_entry entries)
       → slice_lines ≡ lines
       → map answered answers ≡ map answered opened ++ with_lines slice_lines (map (λ e. plain_outcome e.outcome) journal)
-      → CarriesOut cmp matching (plan_lines plan) (map answered answers)
+      → CarriesOut cmp matching workers (plan_lines plan) (map answered answers)
   plan_done workers some slice begun opened_on entries journal lines slice_lines opened answers accepted slice_is begun_is entries_are opened_is made opened_are same are =
       let rows_of : Running K → Rows K = λ r. r.rows in
       plan_made workers some entries opened_on.rows journal lines opened answers accepted
@@ -223,15 +263,15 @@ module _ {K : Type 0} (cmp : K → K → Ordering) (matching : K → K → Bool)
   abbrev refused_by : Refusal → List (Line K) → List (Numbered K) → List (ℕ × PlainEntry K)
   refused_by r ms cs = numbered_from 1 (Err r ∷ (map (λ m. Err refusal.UnknownGateway) ms ++ map (λ c. Err refusal.UnknownFace) cs))
 
-  pub plan_stopped : {V E : Type 0} (result : Result V E) (items : V → List (Answer K)) (r : Refusal) (error : CallError) (makings : List (Line K)) (calls : List (Numbered K))
+  pub plan_stopped : {V E : Type 0} (workers : ℕ) (result : Result V E) (items : V → List (Answer K)) (r : Refusal) (error : CallError) (makings : List (Line K)) (calls : List (Numbered K))
       → option_map Refused (first_cause (line_causes cmp matching false (line_of plan.gateway) empty_fabric)) ≡ Some error → error ≡ Refused r
       → makings ≡ plan.makings.items → calls ≡ plan.calls.items
       → IfOk result (λ v. map answered (items v) ≡ numbered_from 1 (Err r ∷ (map (λ m. Err refusal.UnknownGateway) makings ++ map (λ c. Err refusal.UnknownFace) calls)))
-      → IfOk result (λ v. CarriesOut cmp matching (plan_lines plan) (map answered (items v)))
-  plan_stopped result items r error makings calls caused is ms cs =
+      → IfOk result (λ v. CarriesOut cmp matching workers (plan_lines plan) (map answered (items v)))
+  plan_stopped workers result items r error makings calls caused is ms cs =
       IfOk-weaker result _ _
       (λ v are.
-      plan_refused r (items v) (cause_of (first_cause (line_causes cmp matching false (line_of plan.gateway) empty_fabric)) r error caused is)
+      plan_refused workers r (items v) (cause_of (first_cause (line_causes cmp matching false (line_of plan.gateway) empty_fabric)) r error caused is)
       (are ∙ ap (λ (xs : List (Line K)). refused_by r xs calls) ms ∙ ap (λ (xs : List (Numbered K)). refused_by r plan.makings.items xs) cs))
 
 -- ---- what the steps ask

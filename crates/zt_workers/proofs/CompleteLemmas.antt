@@ -125,8 +125,8 @@ module _ {K : Type 0} (reading : List ℕ → Result K KeyError) where
       let no : true ≡ false = sym is_bad ∙ good in
       cc
 
-  module _ (cmp : K → K → Ordering) (matching : K → K → Bool) (printed : K → List ℕ) where
-    driven_out : (old new : Streams) (text : List ℕ) (result : Result Report RunError) → Answers cmp matching reading printed old new result
+  module _ (cmp : K → K → Ordering) (matching : K → K → Bool) (printed : K → List ℕ) (workers : ℕ) where
+    driven_out : (old new : Streams) (text : List ℕ) (result : Result Report RunError) → Answers cmp matching reading printed workers old new result
         → old.left ≡ Some text → IsDriven reading text → HasNoFault old new → IsOkUnless result errors.Alloc
     driven_out old new text (Ok report) p h script calm = tt
     driven_out old new text (Err (errors.BadLine n)) p h script calm =
@@ -145,7 +145,7 @@ module _ {K : Type 0} (reading : List ℕ → Result K KeyError) where
     driven_out old new text (Err errors.Alloc) p h script calm = refl
 
     -- a script that may be driven is carried out to its end unless memory runs out
-    pub complete : (old new : Streams) (result : Result Report RunError) → Answers cmp matching reading printed old new result → GivesDriven reading old new → IsOkUnless result errors.Alloc
+    pub complete : (old new : Streams) (result : Result Report RunError) → Answers cmp matching reading printed workers old new result → GivesDriven reading old new → IsOkUnless result errors.Alloc
     complete old new result p h = driven_out old new h.0 result p h.1 h.2 h.3
 
 pub complete_status : (result : Result Report RunError) (status : ℕ) → status ≡ status_of result → IsOkUnless result errors.Alloc → (status ≡ 0) ⊎ (status ≡ 5)

@@ -26,10 +26,11 @@ use Rattle.zt_theorem_tree_invariant.specs.Trees.{KeepPromisesOfTrees}
 use Rattle.zt_laws.specs.Sound.{HasFirstIds}
 use Rattle.zt_laws.proofs.Lists.{by_test}
 use Rattle.zt_theorem_transcript.specs.Named.{HasNamedOptions}
+use Rattle.zt_fabric.proofs.Printed.{entries_printed}
 use Rattle.zt_fabric.proofs.Right.{AreRight}
 use Rattle.zt_theorem_journal.specs.Alone.{Speaks}
 use Rattle.zt_fabric.specs.Transcripts.{most_bytes, streams}
-use Rattle.zt_workers.specs.Answers.{AreTranscript, Answers, CarriesOut, answered, totals_of, IsCarriedOut, Transcribes, transcript_text}
+use Rattle.zt_workers.specs.Answers.{AnswersFit, AreTranscript, Answers, CarriesOut, answered, totals_of, IsCarriedOut, Transcribes, transcript_text}
 use Rattle.zt_plans.specs.Plans.{AreRead, call_of, plan_lines, script_lines}
 use Rattle.zt_workers.specs.declared.answering.Answer.{Answer}
 use Rattle.zt_plans.specs.declared.plan.Plan.{Plan}
@@ -84,12 +85,12 @@ module _ {K : Type 0} (reading : List ℕ → Result K KeyError) where
     | inr fits ↦ fits
   ]
 
-  module _ (cmp : K → K → Ordering) (matching : K → K → Bool) (printed : K → List ℕ) where
+  module _ (cmp : K → K → Ordering) (matching : K → K → Bool) (printed : K → List ℕ) (workers : ℕ) where
     -- nothing was read to its end
     pub stopped : (left left' written : Option (List ℕ)) (rf rf' wf wf' : ℕ) (bytes : List ℕ) (longer : Bool) (e : RunError) → TakesFront most_bytes left left' bytes longer → (longer ≡ false → IsAtEnd left')
-        → ReadingStops reading bytes longer e → Answers cmp matching reading printed (streams left rf written wf) (streams left' rf' written wf') (Err e)
+        → ReadingStops reading bytes longer e → Answers cmp matching reading printed workers (streams left rf written wf) (streams left' rf' written wf') (Err e)
     stopped left left' written rf rf' wf wf' bytes longer (errors.BadLine n) t ends stops =
-        elim stops as (λ _. Answers cmp matching reading printed (streams left rf written wf) (streams left' rf' written wf') (Err (errors.BadLine n))) [
+        elim stops as (λ _. Answers cmp matching reading printed workers (streams left rf written wf) (streams left' rf' written wf') (Err (errors.BadLine n))) [
           | inl bad ↦ (
             record {
               read = t.read;
@@ -129,7 +130,7 @@ module _ {K : Type 0} (reading : List ℕ → Result K KeyError) where
     stopped left left' written rf rf' wf wf' bytes longer errors.WriteFault t ends stops = absurd stops
 
     pub carried_out : (left left' written written' : Option (List ℕ)) (rf rf' wf wf' : ℕ) (bytes text : List ℕ) (longer : Bool) (report : Report) → TakesFront most_bytes left left' bytes longer → (longer ≡ false → IsAtEnd left')
-        → (made : Transcribes cmp matching reading printed bytes longer text report) → IsCarriedOut cmp matching reading printed (streams left rf written wf) (streams left' rf' written' wf') made.answers
+        → (made : Transcribes cmp matching reading printed workers bytes longer text report) → IsCarriedOut cmp matching reading printed workers (streams left rf written wf) (streams left' rf' written' wf') made.answers
     carried_out left left' written written' rf rf' wf wf' bytes text longer report t ends made =
         let fits = not_longer left left' bytes longer t made.whole in
         let whole : bytes ≡ t.read = t.front ∙ take_all most_bytes t.read fits in
@@ -139,12 +140,13 @@ module _ {K : Type 0} (reading : List ℕ → Result K KeyError) where
           at_end = ends made.whole;
           script = record { fits = fits; lines = made.lines; are_read = subst (λ b. AreRead reading (lines_of b) made.lines) whole made.are_read; driven = made.driven };
           transcript = made.transcript;
+          are_printed = made.are_printed;
         }
 
     -- the transcript was written
     pub written_whole : (left left' written written' : Option (List ℕ)) (rf rf' wf wf' : ℕ) (bytes text : List ℕ) (longer : Bool) (report : Report) → TakesFront most_bytes left left' bytes longer → (longer ≡ false → IsAtEnd left')
-        → Transcribes cmp matching reading printed bytes longer text report → Appends written written' text
-        → Answers cmp matching reading printed (streams left rf written wf) (streams left' rf' written' wf') (Ok report)
+        → Transcribes cmp matching reading printed workers bytes longer text report → Appends written written' text
+        → Answers cmp matching reading printed workers (streams left rf written wf) (streams left' rf' written' wf') (Ok report)
     written_whole left left' written written' rf rf' wf wf' bytes text longer report t ends made appended = record {
       answers = made.answers;
       carried = carried_out left left' written written' rf rf' wf wf' bytes text longer report t ends made;
@@ -154,8 +156,8 @@ module _ {K : Type 0} (reading : List ℕ → Result K KeyError) where
 
     -- a part of it was
     pub written_in_part : (left left' written written' : Option (List ℕ)) (rf rf' wf wf' : ℕ) (bytes text : List ℕ) (longer : Bool) (report : Report) → TakesFront most_bytes left left' bytes longer → (longer ≡ false → IsAtEnd left')
-        → Transcribes cmp matching reading printed bytes longer text report → AppendsPart written written' text → HasRisen wf wf'
-        → Answers cmp matching reading printed (streams left rf written wf) (streams left' rf' written' wf') (Err errors.WriteFault)
+        → Transcribes cmp matching reading printed workers bytes longer text report → AppendsPart written written' text → HasRisen wf wf'
+        → Answers cmp matching reading printed workers (streams left rf written wf) (streams left' rf' written' wf') (Err errors.WriteFault)
     written_in_part left left' written written' rf rf' wf wf' bytes text longer report t ends made part risen = record {
       risen = risen;
       answers = made.answers;
@@ -200,9 +202,9 @@ module _ {K : Type 0} (reading : List ℕ → Result K KeyError) where
       let others : map (line_read reading) texts ≡ map (λ line. Ok line) (map plain_line plan.makings.items ++ map (λ c. Speak c) (map call_of plan.calls.items)) = cc in
       script_speaks reading texts (map plain_line plan.makings.items) (map call_of plan.calls.items) others
 
-  module _ (cmp : K → K → Ordering) (matching : K → K → Bool) (printed : K → List ℕ) where
+  module _ (cmp : K → K → Ordering) (matching : K → K → Bool) (printed : K → List ℕ) (workers : ℕ) where
     -- an empty script
-    pub none_carried : CarriesOut cmp matching [] []
+    pub none_carried : CarriesOut cmp matching workers [] []
     unfolding entries_from
     none_carried = record {
       reorders = record {
@@ -211,22 +213,24 @@ module _ {K : Type 0} (reading : List ℕ → Result K KeyError) where
         numbers = refl;
         are_the_machines = refl;
       };
+      by_workers = λ started. absurd (let no : false ≡ true = started in cc);
       first_ids = tt;
       named_options = tt;
     }
 
-    pub none_answered : (answers : List (Answer K)) → answers ≡ [] → CarriesOut cmp matching [] (map answered answers)
-    none_answered answers none = subst (λ (xs : List (Answer K)). CarriesOut cmp matching [] (map answered xs)) (sym none) none_carried
+    pub none_answered : (answers : List (Answer K)) → answers ≡ [] → CarriesOut cmp matching workers [] (map answered answers)
+    none_answered answers none = subst (λ (xs : List (Answer K)). CarriesOut cmp matching workers [] (map answered xs)) (sym none) none_carried
 
     -- The law: what the machine comes to on lines with first ids and named options is right.
     module _ (law : (lines : List (PlainLine K)) → Each HasFirstIds lines → Each HasNamedOptions lines → AreRight cmp matching lines (entries_from cmp matching lines empty_fabric)) where
-      are_transcript : (script : List (PlainLine K)) (answers : List (ℕ × PlainEntry K)) → CarriesOut cmp matching script answers → AreTranscript cmp matching script answers
+      are_transcript : (script : List (PlainLine K)) (answers : List (ℕ × PlainEntry K)) → CarriesOut cmp matching workers script answers → AreTranscript cmp matching workers script answers
       are_transcript script answers carries =
           let lines = map (λ (x : ℕ × PlainLine K). x.1) carries.reorders.order in
           let right = law lines carries.first_ids carries.named_options in
           let back = sym carries.reorders.are_the_machines in
           record {
             reorders = carries.reorders;
+            by_workers = carries.by_workers;
             are_faithful = subst (λ es. IsFaithfulFrom cmp matching lines es empty_fabric) back right.faithful;
             are_strict = subst (λ es. IsStrictFrom cmp matching lines es empty_fabric) back right.strict;
             keep_promises = subst (λ es. Each (MeetsPromises cmp matching) (turns_from cmp matching lines es empty_fabric)) back right.promises;
@@ -236,21 +240,24 @@ module _ {K : Type 0} (reading : List ℕ → Result K KeyError) where
             keep_tree_promises = subst (λ es. KeepPromisesOfTrees cmp matching (turns_from cmp matching lines es empty_fabric)) back right.tree_promises;
           }
 
-      pub transcribed : (bytes text : List ℕ) (longer : Bool) (report : Report) (plan : Option (Plan K)) (answers : List (ℕ × PlainEntry K)) → ReadsScript reading bytes longer plan → CarriesOut cmp matching (script_lines plan) answers
-          → text ≡ transcript_text printed answers → report ≡ totals_of answers → Transcribes cmp matching reading printed bytes longer text report
-      transcribed bytes text longer report plan answers read carries text_is totals = record {
-        whole = read.whole;
-        lines = script_lines plan;
-        are_read = read.are_read;
-        driven = lines_driven plan read.form;
-        answers = answers;
-        transcript = are_transcript (script_lines plan) answers carries;
-        text_is = text_is;
-        totals = totals;
-      }
+      pub transcribed : (bytes text : List ℕ) (longer : Bool) (report : Report) (plan : Option (Plan K)) (answers : List (ℕ × PlainEntry K)) → ReadsScript reading bytes longer plan → CarriesOut cmp matching workers (script_lines plan) answers
+          → AnswersFit answers → text ≡ transcript_text printed answers → report ≡ totals_of answers → Transcribes cmp matching reading printed workers bytes longer text report
+      transcribed bytes text longer report plan answers read carries fit text_is totals =
+          let transcript = are_transcript (script_lines plan) answers carries in
+          record {
+            whole = read.whole;
+            lines = script_lines plan;
+            are_read = read.are_read;
+            driven = lines_driven plan read.form;
+            answers = answers;
+            transcript = transcript;
+            are_printed = entries_printed cmp matching (map (λ (x : ℕ × PlainLine K). x.1) transcript.reorders.order) (map (λ (x : ℕ × PlainEntry K). x.1) answers) empty_fabric transcript.are_faithful fit;
+            text_is = text_is;
+            totals = totals;
+          }
 
       pub printed_transcript : {V E : Type 0} (result : Result V E) (text : V → List ℕ) (totals : V → Report) (bytes : List ℕ) (longer : Bool) (plan : Option (Plan K)) (answers : List (ℕ × PlainEntry K)) → ReadsScript reading bytes longer plan
-          → CarriesOut cmp matching (script_lines plan) answers → IfOk result (λ v. text v ≡ transcript_text printed answers) → IfOk result (λ v. totals v ≡ totals_of answers)
-          → IfOk result (λ v. Transcribes cmp matching reading printed bytes longer (text v) (totals v))
-      printed_transcript (Ok v) text totals bytes longer plan answers read carries text_is totals_are = transcribed bytes (text v) longer (totals v) plan answers read carries text_is totals_are
-      printed_transcript (Err error) text totals bytes longer plan answers read carries text_is totals_are = tt
+          → CarriesOut cmp matching workers (script_lines plan) answers → IfOk result (λ _. AnswersFit answers) → IfOk result (λ v. text v ≡ transcript_text printed answers) → IfOk result (λ v. totals v ≡ totals_of answers)
+          → IfOk result (λ v. Transcribes cmp matching reading printed workers bytes longer (text v) (totals v))
+      printed_transcript (Ok v) text totals bytes longer plan answers read carries fit text_is totals_are = transcribed bytes (text v) longer (totals v) plan answers read carries fit text_is totals_are
+      printed_transcript (Err error) text totals bytes longer plan answers read carries fit text_is totals_are = tt

@@ -3,4 +3,5 @@ pub mod CarryLemmas
 pub mod DriveLemmas
 pub mod CompleteLemmas
 pub mod PrintLemmas
+pub mod StartLemmas
 pub mod AnswerLemmas

@@ -5,10 +5,11 @@ use Rattle.std.specs.List.{flat_map, fold, sum_by}
 use Rattle.zt_protocol.specs.Plain.{PlainEntry}
 use Rattle.zt_protocol.specs.declared.entries.Report.{Report}
 use Rattle.zt_wire.specs.Text.{entry_text, report_text}
-use Rattle.zt_model.specs.Transcript.{messages_in, refusals_in, report_of}
-use Rattle.zt_laws.proofs.Lists.{map-append}
+use Rattle.zt_text.specs.Sent.{EntryFits}
+use Rattle.zt_model.specs.Transcript.{Each, messages_in, refusals_in, report_of}
+use Rattle.zt_laws.proofs.Lists.{each_append, map-append}
 use Rattle.zt_fabric.specs.Carrying.{IsInRange, no_totals, with_entry}
-use Rattle.zt_workers.specs.Answers.{answers_text, totals_of}
+use Rattle.zt_workers.specs.Answers.{AnswersFit, answers_text, totals_of}
 
 fold_more : {A : Type 0} (f : ℕ → A → ℕ) (a : ℕ) (xs : List A) (x : A) → fold f a (xs ++ x ∷ []) ≡ f (fold f a xs) x
 fold_more f a [] x = refl
@@ -30,6 +31,10 @@ module _ {K : Type 0} where
   totals_more xs x =
       ap report_of (map-append (λ (y : ℕ × PlainEntry K). y.1) xs (x ∷ []))
       ∙ same_report (length-append (map (λ y. y.1) xs) (x.1 ∷ [])) (fold_more (λ a e. a + messages_in e) 0 (map (λ y. y.1) xs) x.1) (fold_more (λ a e. a + refusals_in e) 0 (map (λ y. y.1) xs) x.1)
+
+  pub fit_more : (xs : List (ℕ × PlainEntry K)) (x : ℕ × PlainEntry K) → AnswersFit xs → EntryFits x.1 → AnswersFit (xs ++ x ∷ [])
+  fit_more xs x fit last =
+      subst (Each EntryFits) (sym (map-append (λ (y : ℕ × PlainEntry K). y.1) xs (x ∷ []))) (each_append EntryFits (map (λ (y : ℕ × PlainEntry K). y.1) xs) (x.1 ∷ []) fit (last, tt))
 
   pub text_more : (printed : K → List ℕ) (xs : List (ℕ × PlainEntry K)) (x : ℕ × PlainEntry K) → answers_text printed (xs ++ x ∷ []) ≡ answers_text printed xs ++ entry_text printed x.0 x.1
   text_more printed xs x =

@@ -31,7 +31,7 @@ pub fn carry_out<R: Threads + Wait + Sync, K: Key + Send + Sync, G: Gate + Sync>
     requires first { Each HasFirstIds (plan_lines plan) }
     requires named { Each HasNamedOptions (plan_lines plan) }
     requires speak { Each Speaks (map call_of plan.calls.items) }
-    ensures { IfOk result (λ answers. CarriesOut K.cmp K.matching (plan_lines plan)
+    ensures { IfOk result (λ answers. CarriesOut K.cmp K.matching workers (plan_lines plan)
         (map answered answers.items)) }
 {
     let Plan {

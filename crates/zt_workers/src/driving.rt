@@ -2,8 +2,8 @@
 ghost use Rattle.std.specs.Prelude.{◌≡◌, ◌+◌, ◌<◌, ◌≤◌, ◌^◌, length, map, vec_len, string_bytes};
 ghost use Rattle.std.specs.Prelude.{IfErr, IfOk, IsOkUnless};
 ghost use Rattle.zt_fabric.specs.Transcripts.{CountsFaults, streams};
-ghost use Rattle.zt_workers.specs.Answers.{Answers, GivesDriven, Transcribes, answered, totals_of};
-ghost use Rattle.zt_workers.specs.Answers.{transcript_text};
+ghost use Rattle.zt_workers.specs.Answers.{Answers, AnswersFit, GivesDriven, Transcribes, answered};
+ghost use Rattle.zt_workers.specs.Answers.{totals_of, transcript_text};
 ghost use Rattle.zt_plans.specs.Reading.{ReadingStops};
 
 use crate::answering::Answer;
@@ -27,6 +27,7 @@ fn printed<K: Key>(alloc: Global, answers: &[Answer<K>]) -> Result<(String, Repo
     ensures text { IfOk result (λ made. string_bytes made.0
         ≡ transcript_text K.printed (map answered answers.now)) }
     ensures totals { IfOk result (λ made. made.1 ≡ totals_of (map answered answers.now)) }
+    ensures fit { IfOk result (λ _. AnswersFit (map answered answers.now)) }
     ensures err { IfErr result (λ error. error ≡ RunError.Alloc) }
 {
     match print_all(alloc, answers) {
@@ -45,7 +46,7 @@ fn transcript<R: Threads + Wait + Sync, K: Key + Send + Sync, G: Gate + Sync>(
 ) -> Result<(String, Report), RunError>
     requires some { 0 < workers }
     requires bound { vec_len script.now.bytes ≤ SCRIPT_BYTES }
-    ensures ok { IfOk result (λ made. Transcribes K.cmp K.matching K.reading K.printed
+    ensures ok { IfOk result (λ made. Transcribes K.cmp K.matching K.reading K.printed workers
         script.now.bytes.items script.now.longer (string_bytes made.0) made.1) }
     ensures err { IfErr result (ReadingStops K.reading script.now.bytes.items script.now.longer) }
 {
@@ -89,7 +90,7 @@ pub fn drive<R: Threads + Wait + Sync, K: Key + Send + Sync, S: Source, T: Sink,
 ) -> Result<Report, RunError>
     requires some { 0 < workers }
     requires few { workers ≤ MOST_WORKERS }
-    ensures answers { Answers K.cmp K.matching K.reading K.printed
+    ensures answers { Answers K.cmp K.matching K.reading K.printed workers
         (streams (S.left source.old) (S.faults source.old) (T.written sink.old) (T.faults sink.old))
         (streams (S.left source.new) (S.faults source.new) (T.written sink.new)
         (T.faults sink.new)) result }

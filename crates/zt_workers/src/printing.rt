@@ -2,7 +2,7 @@
 ghost use Rattle.std.specs.Prelude.{◌≡◌, ◌+◌, ◌<◌, ◌^◌, length, map, string_bytes, IfOk};
 ghost use Rattle.zt_fabric.specs.Carrying.{IsInRange, with_entry};
 ghost use Rattle.zt_protocol.specs.Plain.{plain_entry};
-ghost use Rattle.zt_workers.specs.Answers.{answered, totals_of, transcript_text};
+ghost use Rattle.zt_workers.specs.Answers.{AnswersFit, answered, totals_of, transcript_text};
 
 use crate::answering::Answer;
 use std::alloc::Global;
@@ -24,12 +24,14 @@ fn count<K>(report: &mut Report, entry: &Entry<K>)
     }
 }
 
-/// The text of the answers and of their totals, and these. The only error is want of memory.
+/// The text of the answers and of their totals, and these. The numbers of the answers are within
+/// their types, so that the text tells them apart from others. The only error is want of memory.
 pub fn print_all<K: Key>(alloc: Global, answers: &[Answer<K>]) -> Result<(String, Report), Memory>
     requires { length answers.now < 2 ^ 63 }
     ensures text { IfOk result (λ printed. string_bytes printed.0
         ≡ transcript_text K.printed (map answered answers.now)) }
     ensures totals { IfOk result (λ printed. printed.1 ≡ totals_of (map answered answers.now)) }
+    ensures fit { IfOk result (λ _. AnswersFit (map answered answers.now)) }
 {
     let mut text = String::new(alloc);
     let mut report = Report {

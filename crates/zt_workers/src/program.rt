@@ -34,7 +34,7 @@ pub fn drive_tool<R: Threads + Wait + Sync, S: Source, T: Sink>(
     ensures drives { (workers : ℕ) → workers_asked (map string_bytes words.now)
         ≡ Some workers → (answer : Result Report RunError) × (result ≡ status_of answer)
         × Answers ⟦<KeyExpr as Ord>⟧.cmp ⟦<KeyExpr as Key>⟧.matching ⟦<KeyExpr as Key>⟧.reading
-        ⟦<KeyExpr as Key>⟧.printed
+        ⟦<KeyExpr as Key>⟧.printed workers
         (streams (S.left source.old) (S.faults source.old) (T.written sink.old) (T.faults sink.old))
         (streams (S.left source.new) (S.faults source.new) (T.written sink.new)
         (T.faults sink.new)) answer

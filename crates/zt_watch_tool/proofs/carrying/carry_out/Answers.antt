@@ -9,7 +9,7 @@ use Rattle.zt_watch_tool.proofs.carrying.carry_out.Goals as goal
 pub returns-in-Err-Refused : goal.returns-in-Err-Refused
 returns-in-Err-Refused g c =
     plan_unwatched g.K.Ord.cmp g.K.Key.matching (g.met.K.Ord g.world.𝓛 g.world.𝓜 g.world.𝓡 ((λ s x. x), (λ x. x), (λ x. x), λ x. x)).total c.args.plan c.requires.form c.requires.first c.requires.named c.requires.speak
-    (c.args.wanted + 1) c.args.expr c.in_ok-answers-in-Err-Refused.answers.items (map plain_poll c.new.result.items) c.in-Err-Refused.refusal c.in-Err-Refused.field-0 c.as_slice.result.now c.as_slice-in-Err-Refused.result.now
+    c.args.workers (c.args.wanted + 1) c.args.expr c.in_ok-answers-in-Err-Refused.answers.items (map plain_poll c.new.result.items) c.in-Err-Refused.refusal c.in-Err-Refused.field-0 c.as_slice.result.now c.as_slice-in-Err-Refused.result.now
     c.in-Err-Refused.ensures.refused c.in-Err-Refused.field-0-is c.as_slice.ensures.value c.as_slice-in-Err-Refused.ensures.value c.in_ok-answers-in-Err-Refused.ensures (ap (map plain_poll) c.new.ensures.items)
 
 pub make_faces-requires-clause-first : goal.make_faces-requires-clause-first

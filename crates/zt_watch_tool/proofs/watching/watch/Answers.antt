@@ -9,13 +9,13 @@ pub returns-in-Err-clause-answers : goal.returns-in-Err-clause-answers
 returns-in-Err-clause-answers g c =
     let left = g.S.Source.left in
     let written = g.T.Sink.written in
-    stopped g.K.Key.reading g.K.Ord.cmp g.K.Key.matching g.K.Key.printed (c.args.wanted + 1) c.args.expr (left c.args.source.now) (left c.read_script.new.source) (written c.args.sink.now)
+    stopped g.K.Key.reading g.K.Ord.cmp g.K.Key.matching g.K.Key.printed c.args.workers (c.args.wanted + 1) c.args.expr (left c.args.source.now) (left c.read_script.new.source) (written c.args.sink.now)
     (g.S.Source.faults c.args.source.now) (g.S.Source.faults c.read_script.new.source) (g.T.Sink.faults c.args.sink.now) (g.T.Sink.faults c.args.sink.now)
     c.in-Ok.script.bytes.items c.in-Ok.script.longer c.in-Err.error c.in-Ok.ensures.taken c.in-Ok.ensures.end c.in-Err.ensures.err
 
 pub returns-in-Err-clause-complete : goal.returns-in-Err-clause-complete
 returns-in-Err-clause-complete g c =
-    complete g.K.Key.reading g.K.Ord.cmp g.K.Key.matching g.K.Key.printed (c.args.wanted + 1) c.args.expr
+    complete g.K.Key.reading g.K.Ord.cmp g.K.Key.matching g.K.Key.printed c.args.workers (c.args.wanted + 1) c.args.expr
     (streams (g.S.Source.left c.args.source.now) (g.S.Source.faults c.args.source.now) (g.T.Sink.written c.args.sink.now) (g.T.Sink.faults c.args.sink.now))
     (streams (g.S.Source.left c.read_script.new.source) (g.S.Source.faults c.read_script.new.source) (g.T.Sink.written c.args.sink.now) (g.T.Sink.faults c.args.sink.now))
     (Err c.in-Err.error) (returns-in-Err-clause-answers g c)
@@ -24,7 +24,7 @@ pub returns-in-Ok-write_all-clause-answers : goal.returns-in-Ok-write_all-clause
 returns-in-Ok-write_all-clause-answers g c =
     let left = g.S.Source.left in
     let written = g.T.Sink.written in
-    written_whole g.K.Key.reading g.K.Ord.cmp g.K.Key.matching g.K.Key.printed (c.args.wanted + 1) c.args.expr (left c.args.source.now) (left c.read_script.new.source) (written c.args.sink.now) (written c.write_all.new.sink)
+    written_whole g.K.Key.reading g.K.Ord.cmp g.K.Key.matching g.K.Key.printed c.args.workers (c.args.wanted + 1) c.args.expr (left c.args.source.now) (left c.read_script.new.source) (written c.args.sink.now) (written c.write_all.new.sink)
     (g.S.Source.faults c.args.source.now) (g.S.Source.faults c.read_script.new.source) (g.T.Sink.faults c.args.sink.now) (g.T.Sink.faults c.write_all.new.sink)
     c.in-Ok.script.bytes.items (string_bytes c.in-Ok-transcript.printed.0) c.in-Ok.script.longer c.in-Ok-transcript.printed.1
     c.in-Ok.ensures.taken c.in-Ok.ensures.end c.in-Ok-transcript.ensures.ok
@@ -34,7 +34,7 @@ pub returns-clause-answers : goal.returns-clause-answers
 returns-clause-answers g c =
     let left = g.S.Source.left in
     let written = g.T.Sink.written in
-    written_in_part g.K.Key.reading g.K.Ord.cmp g.K.Key.matching g.K.Key.printed (c.args.wanted + 1) c.args.expr (left c.args.source.now) (left c.read_script.new.source) (written c.args.sink.now) (written c.write_all.new.sink)
+    written_in_part g.K.Key.reading g.K.Ord.cmp g.K.Key.matching g.K.Key.printed c.args.workers (c.args.wanted + 1) c.args.expr (left c.args.source.now) (left c.read_script.new.source) (written c.args.sink.now) (written c.write_all.new.sink)
     (g.S.Source.faults c.args.source.now) (g.S.Source.faults c.read_script.new.source) (g.T.Sink.faults c.args.sink.now) (g.T.Sink.faults c.write_all.new.sink)
     c.in-Ok.script.bytes.items (string_bytes c.in-Ok-transcript.printed.0) c.in-Ok.script.longer c.in-Ok-transcript.printed.1
     c.in-Ok.ensures.taken c.in-Ok.ensures.end c.in-Ok-transcript.ensures.ok

@@ -4,7 +4,7 @@ use Rattle.zt_workers.proofs.carrying.carry_out.Goals as goal
 pub returns-in-Err-Refused : goal.returns-in-Err-Refused
 returns-in-Err-Refused g c =
     plan_stopped g.K.Ord.cmp g.K.Key.matching (g.met.K.Ord g.world.𝓛 g.world.𝓜 g.world.𝓡 ((λ s x. x), (λ x. x), (λ x. x), λ x. x)).total c.args.plan c.requires.form c.requires.first c.requires.named c.requires.speak
-    c.all_refused.result (λ v. v.items) c.in-Err-Refused.refusal c.in-Err-Refused.field-0 c.as_slice.result.now c.as_slice-in-Err-Refused.result.now
+    c.args.workers c.all_refused.result (λ v. v.items) c.in-Err-Refused.refusal c.in-Err-Refused.field-0 c.as_slice.result.now c.as_slice-in-Err-Refused.result.now
     c.in-Err-Refused.ensures.refused c.in-Err-Refused.field-0-is c.as_slice.ensures.value c.as_slice-in-Err-Refused.ensures.value c.all_refused.ensures
 
 pub make_faces-requires-clause-first : goal.make_faces-requires-clause-first

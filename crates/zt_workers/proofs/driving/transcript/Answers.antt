@@ -14,13 +14,13 @@ pub returns-in_default-clause-ok : goal.returns-in_default-clause-ok
 returns-in_default-clause-ok g c =
     let bytes = c.args.script.now.bytes.items in
     let longer = c.args.script.now.longer in
-    printed_transcript g.K.Key.reading g.K.Ord.cmp g.K.Key.matching g.K.Key.printed
+    printed_transcript g.K.Key.reading g.K.Ord.cmp g.K.Key.matching g.K.Key.printed c.args.workers
     (right_of_lines g.K.Ord.cmp g.K.Key.matching (g.met.K.Ord g.world.𝓛 g.world.𝓜 g.world.𝓡 ((λ s x. x), (λ x. x), (λ x. x), λ x. x)).total
     (g.met.K.Key g.world.𝓛 g.world.𝓜 g.world.𝓡 ((λ s x. x), (λ x. x), (λ x. x), λ x. x)).laws.equal_is_same)
     c.printed.result (λ v. string_bytes v.0) (λ v. v.1) bytes longer None (map answered c.as_slice.result.now)
     (subst (λ (p : Option (Plan g.row.K.Denot)). ReadsScript g.K.Key.reading bytes longer p) c.in_default.is c.in-Ok.ensures.ok)
-    (none_answered g.K.Key.reading g.K.Ord.cmp g.K.Key.matching g.K.Key.printed c.as_slice.result.now (c.as_slice.ensures.value ∙ c.new-none.ensures.items))
-    c.printed.ensures.text c.printed.ensures.totals
+    (none_answered g.K.Key.reading g.K.Ord.cmp g.K.Key.matching g.K.Key.printed c.args.workers c.as_slice.result.now (c.as_slice.ensures.value ∙ c.new-none.ensures.items))
+    c.printed.ensures.fit c.printed.ensures.text c.printed.ensures.totals
 
 pub carry_out-requires-clause-small : goal.carry_out-requires-clause-small
 carry_out-requires-clause-small g c κs within =
@@ -50,10 +50,10 @@ pub returns-in-Ok-carry_out-clause-ok : goal.returns-in-Ok-carry_out-clause-ok
 returns-in-Ok-carry_out-clause-ok g c =
     let bytes = c.args.script.now.bytes.items in
     let longer = c.args.script.now.longer in
-    printed_transcript g.K.Key.reading g.K.Ord.cmp g.K.Key.matching g.K.Key.printed
+    printed_transcript g.K.Key.reading g.K.Ord.cmp g.K.Key.matching g.K.Key.printed c.args.workers
     (right_of_lines g.K.Ord.cmp g.K.Key.matching (g.met.K.Ord g.world.𝓛 g.world.𝓜 g.world.𝓡 ((λ s x. x), (λ x. x), (λ x. x), λ x. x)).total
     (g.met.K.Key g.world.𝓛 g.world.𝓜 g.world.𝓡 ((λ s x. x), (λ x. x), (λ x. x), λ x. x)).laws.equal_is_same)
     c.printed-in-Ok-carry_out.result (λ v. string_bytes v.0) (λ v. v.1) bytes longer (Some c.in-Some.plan) (map answered c.as_slice-in-Ok-carry_out.result.now)
     (subst (λ (p : Option (Plan g.row.K.Denot)). ReadsScript g.K.Key.reading bytes longer p) c.in-Some.is c.in-Ok.ensures.ok)
-    (subst (λ (xs : List (Answer g.row.K.Denot)). CarriesOut g.K.Ord.cmp g.K.Key.matching (plan_lines c.in-Some.plan) (map answered xs)) (sym c.as_slice-in-Ok-carry_out.ensures.value) c.in-Ok-carry_out.ensures)
-    c.printed-in-Ok-carry_out.ensures.text c.printed-in-Ok-carry_out.ensures.totals
+    (subst (λ (xs : List (Answer g.row.K.Denot)). CarriesOut g.K.Ord.cmp g.K.Key.matching c.args.workers (plan_lines c.in-Some.plan) (map answered xs)) (sym c.as_slice-in-Ok-carry_out.ensures.value) c.in-Ok-carry_out.ensures)
+    c.printed-in-Ok-carry_out.ensures.fit c.printed-in-Ok-carry_out.ensures.text c.printed-in-Ok-carry_out.ensures.totals

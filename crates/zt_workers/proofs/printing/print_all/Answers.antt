@@ -1,16 +1,16 @@
-use Rattle.std.proofs.Common.{◌≡◌, ◌+◌, ◌++◌, string_bytes, rules, map, take, ap, sym, ◌∙◌, refl, arith}
+use Rattle.std.proofs.Common.{◌≡◌, ◌+◌, ◌++◌, string_bytes, rules, map, take, ap, subst, sym, ◌∙◌, refl, arith}
 use Rattle.std.proofs.lemmas.Grind.{common_steps}
 use Rattle.zt_protocol.specs.Plain.{plain_entry}
 use Rattle.zt_fabric.specs.Carrying.{with_entry}
-use Rattle.zt_workers.specs.Answers.{answered, answers_text, totals_of}
+use Rattle.zt_workers.specs.Answers.{AnswersFit, answered, answers_text, totals_of}
 use Rattle.zt_protocol.specs.declared.entries.Report.{Report}
 use Rattle.zt_wire.specs.Text.{entry_text}
 use Rattle.zt_dealing.proofs.LineLemmas.{front_more}
-use Rattle.zt_workers.proofs.PrintLemmas.{in_range_none, text_more, totals_more, totals_none}
+use Rattle.zt_workers.proofs.PrintLemmas.{fit_more, in_range_none, text_more, totals_more, totals_none}
 use Rattle.zt_workers.proofs.printing.print_all.Goals as goal
 
 pub loop-answer-init : goal.loop-answer-init
-loop-answer-init g c = record { text = search rules; totals = totals_none _ refl; lines = refl; range = in_range_none }
+loop-answer-init g c = record { text = search rules; totals = totals_none _ refl; fit = tt; lines = refl; range = in_range_none }
 
 pub loop-answer-preserved : goal.loop-answer-preserved
 loop-answer-preserved g c =
@@ -22,6 +22,7 @@ loop-answer-preserved g c =
     record {
       text = written ∙ ap (λ t. t ++ entry_text g.K.Key.printed x.0 x.1) inv.text ∙ sym (ap (answers_text g.K.Key.printed) front ∙ text_more g.K.Key.printed xs x);
       totals = c.count.ensures.counted ∙ ap (with_entry x.1) inv.totals ∙ sym (ap totals_of front ∙ totals_more xs x);
+      fit = subst AnswersFit (sym front) (fit_more xs x inv.fit c.in_ok-write_entry.ensures.fit);
       lines = ap (λ (r : Report). r.lines) c.count.ensures.counted ∙ ap (λ n. n + 1) inv.lines;
       range = c.count.ensures.range;
     }
