@@ -140,7 +140,8 @@ pub(crate) struct FaceRows<K: Key> {
 
 /// An open face with its rows, each kind in order of id. With Zenoh's words `live` are the remote
 /// tokens, `told` the local tokens, `held` the remote interests and `locals` the local interests.
-/// The rows stand in a box: faces stand side by side, and move up where one before them closes.
+/// The rows stand in a box: faces stand side by side, and are moved where gaps between them are
+/// closed.
 #[derive(Drop)]
 pub struct FaceState<K: Key> {
     pub(crate) number: u32,
