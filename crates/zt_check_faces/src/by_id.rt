@@ -63,3 +63,10 @@ pub fn remove<T: Drop>(rows: &mut Vec<(u32, T)>, id: u32)
 {
     rows.retain(|row| id != row.0);
 }
+
+/// Near which place a row of the id stands if ids rise: there, or else it is nowhere.
+pub fn near<T>(rows: &[(u32, T)], id: u32) -> usize {
+    match rows.binary_search_by(|row| row.0.cmp(&id)) {
+        Ok(place) | Err(place) => place,
+    }
+}

@@ -1,5 +1,7 @@
 // An open face with its rows.
 ghost use Rattle.std.specs.Prelude.{◌≡◌, ◌-◌, [], filter, nat_le, not, IfOk, OnOk};
+ghost use Rattle.std.specs.List.{list_any};
+ghost use Rattle.zt_model.specs.Lists.{same};
 ghost use Rattle.zt_model.specs.Shown.{with_held, with_initial_final, with_question, with_token};
 ghost use Rattle.zt_model.specs.Shown.{without_expired, without_held, without_pending};
 ghost use Rattle.zt_model.specs.Shown.{without_token};
@@ -7,6 +9,7 @@ ghost use Rattle.zt_model.specs.Shown.{without_token};
 use crate::by_id::{put, remove};
 use crate::copies::{copy_each, copy_keys, copy_queryables};
 use crate::interest::{ShownAsk, ShownInterest, ShownPending};
+use crate::told::ToldRows;
 use std::alloc::Global;
 use std::marker::Model;
 use zt_keys::{Key, Memory};
@@ -24,7 +27,7 @@ pub struct ShownFace<K: Key> {
     // The next id may be one past the last.
     pub(crate) next: u64,
     pub(crate) live: Vec<(u32, K)>,
-    pub(crate) told: Vec<(u32, K)>,
+    pub(crate) told: ToldRows<K>,
     pub(crate) held: Vec<(u32, ShownInterest<K>)>,
     pub(crate) locals: Vec<(u32, ShownInterest<K>)>,
     pub(crate) pendings: Vec<(u32, ShownPending)>,
@@ -47,7 +50,7 @@ impl<K: Key> Model for ShownFace<K> {
       zid = f.zid;
       next = f.next;
       live = f.live.items;
-      told = f.told.items;
+      told = f.told;
       held = f.held.items;
       locals = f.locals.items;
       pendings = f.pendings.items;
@@ -111,7 +114,7 @@ impl<K: Key> ShownFace<K> {
             zid,
             next: u64::from(first),
             live: Vec::new(alloc),
-            told: Vec::new(alloc),
+            told: ToldRows::new(alloc),
             held: Vec::new(alloc),
             locals: Vec::new(alloc),
             pendings: Vec::new(alloc),
@@ -175,7 +178,14 @@ impl<K: Key> ShownFace<K> {
     pub fn told(&self) -> &[(u32, K)]
         ensures { result.now ≡ self.now.told }
     {
-        &self.told
+        self.told.rows()
+    }
+
+    /// Whether it was told the expression, and not told it to be gone. A look-up.
+    pub fn has_told(&self, expr: &K) -> bool
+        ensures { result ≡ list_any (λ row. same K.cmp expr.now row.1) self.now.told }
+    {
+        self.told.has(expr)
     }
 
     /// The interests that it holds, by their ids.
@@ -319,7 +329,7 @@ impl<K: Key> ShownFace<K> {
             zid: self.zid,
             next: self.next,
             live: copy_each(alloc, &self.live)?,
-            told: copy_each(alloc, &self.told)?,
+            told: self.told.copy(alloc)?,
             held: copy_each(alloc, &self.held)?,
             locals: copy_each(alloc, &self.locals)?,
             pendings: copy_each(alloc, &self.pendings)?,

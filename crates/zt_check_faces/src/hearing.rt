@@ -22,41 +22,6 @@ fn next_after(id: u32, next: u64) -> u64
     next.max(u64::from(id) + 1)
 }
 
-// Whether the pair of an id and an expression was told.
-fn is_told<K: Key>(told: &[(u32, K)], id: u32, expr: &K) -> bool
-    ensures { result ≡ list_any (λ row. (id == row.0) && same K.cmp expr.now row.1) told.now }
-{
-    told.iter().any(|row| id == row.0 && *expr == row.1)
-}
-
-// A pair of an id and an expression is told, which is there once.
-fn tell<K: Key>(alloc: Global, told: &mut Vec<(u32, K)>, id: u32, expr: &K) -> Result<(), Memory>
-    ensures { OnOk result (told.new.items ≡ told_pair K.cmp id expr.now told.old.items) }
-{
-    if id == 0 || is_told(told.as_slice(), id, expr) {
-        return Ok(());
-    }
-    told.push((id, expr.copy(alloc)?))?;
-    Ok(())
-}
-
-// The pairs of an expression go.
-fn untell_expression<K: Key>(told: &mut Vec<(u32, K)>, expr: &K)
-    ensures { told.new.items ≡ filter (λ row. not (same K.cmp expr.now row.1)) told.old.items }
-{
-    told.retain(|row| *expr != row.1);
-}
-
-// The pairs of an expression go, or else those of an id.
-fn untell<K: Key>(told: &mut Vec<(u32, K)>, id: u32, expr: &Option<K>)
-    ensures { told.new.items ≡ untold K.cmp id expr.now told.old.items }
-{
-    match expr {
-        None => remove(told, id),
-        Some(expr) => untell_expression(told, expr),
-    }
-}
-
 impl<K: Key> ShownAsk<K> {
     // It is answered an expression more.
     fn add_answer(&mut self, alloc: Global, expr: &K) -> Result<(), Memory>
@@ -156,7 +121,7 @@ impl<K: Key> ShownFace<K> {
         }) }
     {
         self.next = next_after(id, self.next);
-        tell(alloc, &mut self.told, id, expr)?;
+        self.told.tell(alloc, id, expr)?;
         answer_named(alloc, &mut self.asks, interest, expr)
     }
 
@@ -187,7 +152,7 @@ impl<K: Key> ShownFace<K> {
     fn hear_gone(&mut self, id: u32, expr: &Option<K>)
         ensures { self.new ≡ record self.old { told = untold K.cmp id expr.now self.old.told } }
     {
-        untell(&mut self.told, id, expr);
+        self.told.untell(id, expr);
     }
 
     // The asks of an id end.

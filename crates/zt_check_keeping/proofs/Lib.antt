@@ -12,3 +12,4 @@ pub mod Nodes
 pub mod Standing
 pub mod Touched
 pub mod Turns
+pub mod Beside

@@ -2,6 +2,7 @@
 use Rattle.std.specs.Prelude.{ℕ, Bool, true, ◌==◌, ◌&&◌, ◌||◌, not, List, None, Some}
 use Rattle.std.specs.List.{list_all}
 use Rattle.std.specs.declared.cmp.Ordering.{Ordering}
+use Rattle.zt_region.specs.declared.region.Region.{Region}
 use Rattle.zt_model.specs.Fabric.{Fabric}
 use Rattle.zt_model.specs.Lists.{nth}
 use Rattle.zt_model.specs.Parts.{is_routed}
@@ -28,6 +29,11 @@ module _ {K : Type 0} (cmp : K → K → Ordering) (matching : K → K → Bool)
   -- the face keeps the expression if it is admitted and owed to it
   abbrev pub keeps_no_less_of : Rows K → Face K → K → Bool
   keeps_no_less_of g f e = (not (is_owed matching f e) || not (is_seen_and_admitted cmp g f.region e)) || keeps cmp f e
+
+  -- the expression is shown to faces of a region, as the one bound asks or the other
+  abbrev pub is_shown : Bound → Rows K → Region → K → Bool
+  is_shown Upper g own e = is_seen cmp g own e
+  is_shown Lower g own e = is_seen_and_admitted cmp g own e
 
   abbrev pub keeps_bound : Bound → Rows K → Face K → K → Bool
   keeps_bound Upper g f e = keeps_no_more_of g f e

@@ -1,67 +1,103 @@
 // What faces keep after a turn.
-ghost use Rattle.std.specs.Prelude.{◌≡◌, ◌==◌, ◌&&◌, ◌||◌, not, None, Some};
+ghost use Rattle.std.specs.Prelude.{◌≡◌, ◌==◌, ◌&&◌, ◌||◌, false, not, true, None, Some};
 ghost use Rattle.std.specs.List.{list_all};
 ghost use Rattle.zt_model.specs.Parts.{is_routed};
-ghost use Rattle.zt_model.specs.Seen.{may_hear};
+ghost use Rattle.zt_model.specs.Seen.{is_seen, is_seen_and_admitted, may_hear};
 ghost use Rattle.zt_check_keeping.specs.Keeping.{are_no_less, are_no_more, at_face, at_gateway};
 ghost use Rattle.zt_check_keeping.specs.Keeping.{changed_are_kept, faces_keep_rightly};
 ghost use Rattle.zt_check_keeping.specs.Keeping.{heard_are_kept, heard_is_kept, holder_keeps};
 ghost use Rattle.zt_check_keeping.specs.Keeping.{keeps_bound, keeps_no_less_of};
-ghost use Rattle.zt_check_keeping.specs.Keeping.{keeps_no_more_of, keeps_rightly, may_hear_all};
+ghost use Rattle.zt_check_keeping.specs.Keeping.{is_shown, keeps_no_more_of, keeps_rightly};
+ghost use Rattle.zt_check_keeping.specs.Keeping.{may_hear_all};
 ghost use Rattle.zt_check_keeping.specs.Keeping.{opened_keeps_all, unheld_may_hear};
 ghost use Rattle.zt_check_keeping.specs.Owing.{keeps_all};
 
 use crate::changed::Changed;
 use crate::heard::Heard;
 use crate::owing::keeps_all;
-use crate::seen::{has_expression, is_owed, is_seen, is_seen_and_admitted, may_hear};
+use crate::seen::{is_owed, may_hear};
+use crate::showing::{is_among_changed, is_shown, shown_to, shown_to_face};
 use zt_check_fabric::ShownFabric;
 use zt_check_faces::ShownFace;
 use zt_check_rows::ShownRows;
 use zt_keys::Key;
+use zt_region::Region;
 
 // The two bounds on what faces keep.
 #[derive(Clone, Copy, PartialEq, Eq)]
-enum Bound {
+pub(crate) enum Bound {
     Upper,
     Lower,
 }
 
 // The face keeps the expression only if it is visible to it and it may hear of it.
-fn keeps_no_more_of<K: Key>(rows: &ShownRows<K>, face: &ShownFace<K>, expr: &K) -> bool
+fn keeps_no_more_of<K: Key>(rows: &ShownRows<K>, face: &ShownFace<K>, shown: bool, expr: &K) -> bool
+    requires { shown ≡ is_seen K.cmp rows.now face.now.region expr.now }
     ensures { result ≡ keeps_no_more_of K.cmp K.matching rows.now face.now expr.now }
 {
-    (may_hear(face, expr) && is_seen(rows, face.region(), expr))
-        || !has_expression(face.told(), expr)
+    if !face.has_told(expr) {
+        return true;
+    }
+    shown && may_hear(face, expr)
 }
 
 // The face keeps the expression if it is admitted and owed to it.
-fn keeps_no_less_of<K: Key>(rows: &ShownRows<K>, face: &ShownFace<K>, expr: &K) -> bool
+fn keeps_no_less_of<K: Key>(rows: &ShownRows<K>, face: &ShownFace<K>, shown: bool, expr: &K) -> bool
+    requires { shown ≡ is_seen_and_admitted K.cmp rows.now face.now.region expr.now }
     ensures { result ≡ keeps_no_less_of K.cmp K.matching rows.now face.now expr.now }
 {
-    !is_owed(face, expr)
-        || !is_seen_and_admitted(rows, face.region(), expr)
-        || has_expression(face.told(), expr)
+    if !shown {
+        return true;
+    }
+    !is_owed(face, expr) || face.has_told(expr)
+}
+
+// The face keeps of the expression what this bound asks for, where it is known whether the
+// expression is shown to it.
+fn keeps_shown<K: Key>(
+    bound: Bound,
+    rows: &ShownRows<K>,
+    face: &ShownFace<K>,
+    shown: bool,
+    expr: &K,
+) -> bool
+    requires { shown ≡ is_shown K.cmp K.matching bound rows.now face.now.region expr.now }
+    ensures { result ≡ keeps_bound K.cmp K.matching bound rows.now face.now expr.now }
+{
+    match bound {
+        Bound::Upper => keeps_no_more_of(rows, face, shown, expr),
+        Bound::Lower => keeps_no_less_of(rows, face, shown, expr),
+    }
 }
 
 // The face keeps of the expression what this bound asks for.
 fn keeps_bound<K: Key>(bound: Bound, rows: &ShownRows<K>, face: &ShownFace<K>, expr: &K) -> bool
     ensures { result ≡ keeps_bound K.cmp K.matching bound rows.now face.now expr.now }
 {
-    match bound {
-        Bound::Upper => keeps_no_more_of(rows, face, expr),
-        Bound::Lower => keeps_no_less_of(rows, face, expr),
-    }
+    let shown = is_shown(bound, rows, face.region(), expr);
+    keeps_shown(bound, rows, face, shown, expr)
 }
 
 // The face keeps of the expression what it should, if it is outside router regions.
-fn keeps_rightly<K: Key>(bound: Bound, rows: &ShownRows<K>, face: &ShownFace<K>, expr: &K) -> bool
+fn keeps_rightly<K: Key>(
+    bound: Bound,
+    rows: &ShownRows<K>,
+    face: &ShownFace<K>,
+    shown: bool,
+    expr: &K,
+) -> bool
+    requires { is_routed rows.now face.now ≡ false
+        → shown ≡ is_shown K.cmp K.matching bound rows.now face.now.region expr.now }
     ensures { result ≡ keeps_rightly K.cmp K.matching bound rows.now face.now expr.now }
 {
-    rows.is_routed(face) || keeps_bound(bound, rows, face, expr)
+    if rows.is_routed(face) {
+        return true;
+    }
+    keeps_shown(bound, rows, face, shown, expr)
 }
 
-// All of these faces of a gateway keep of the expression what they should.
+// All of these faces of a gateway keep of the expression what they should. Whether it is shown to a
+// region is asked once for faces of that region that follow one another.
 fn faces_keep_rightly<K: Key>(
     bound: Bound,
     rows: &ShownRows<K>,
@@ -71,8 +107,10 @@ fn faces_keep_rightly<K: Key>(
     ensures { result ≡ list_all
         (λ f. keeps_rightly K.cmp K.matching bound rows.now f expr.now) faces.now }
 {
+    let mut last = shown_to(bound, rows, Region::Local, expr);
     for face in faces {
-        if !keeps_rightly(bound, rows, face, expr) {
+        last = shown_to_face(bound, rows, face, last, expr);
+        if !keeps_rightly(bound, rows, face, last.1, expr) {
             return false;
         }
     }
@@ -152,20 +190,56 @@ fn heard_is_kept<'a, K: Key>(
     }
 }
 
+// The same, where faces keep what they should of the tokens that the line changes: those were
+// looked at.
+fn heard_is_kept_beside<'a, K: Key>(
+    bound: Bound,
+    fabric: &ShownFabric<'a, K>,
+    changed: &[(u32, K)],
+    token: &(u32, u32, K),
+) -> bool
+    requires { changed_are_kept K.cmp K.matching bound fabric.now changed.now ≡ true }
+    ensures { result ≡ heard_is_kept K.cmp K.matching bound fabric.now token.now }
+{
+    if is_among_changed(changed, token.0, &token.2) {
+        return true;
+    }
+    heard_is_kept(bound, fabric, token)
+}
+
 // Of the tokens of which they heard faces keep what they should.
 fn heard_are_kept<'a, K: Key>(
     bound: Bound,
     fabric: &ShownFabric<'a, K>,
+    changed: &[(u32, K)],
     tokens: &[(u32, u32, K)],
 ) -> bool
+    requires { changed_are_kept K.cmp K.matching bound fabric.now changed.now ≡ true }
     ensures { result ≡ heard_are_kept K.cmp K.matching bound fabric.now tokens.now }
 {
     for token in tokens {
-        if !heard_is_kept(bound, fabric, token) {
+        if !heard_is_kept_beside(bound, fabric, changed, token) {
             return false;
         }
     }
     true
+}
+
+// Of the tokens that the line changes, and of those of which they heard, faces keep what they
+// should.
+fn tokens_are_kept<'a, K: Key>(
+    bound: Bound,
+    fabric: &ShownFabric<'a, K>,
+    changed: &[(u32, K)],
+    heard: &[(u32, u32, K)],
+) -> bool
+    ensures { result ≡ (changed_are_kept K.cmp K.matching bound fabric.now changed.now
+        && heard_are_kept K.cmp K.matching bound fabric.now heard.now) }
+{
+    if !changed_are_kept(bound, fabric, changed) {
+        return false;
+    }
+    heard_are_kept(bound, fabric, changed, heard)
 }
 
 // The face may hear of all these tokens.
@@ -303,9 +377,12 @@ pub fn keeps_no_more<'a, K: Key>(
     ensures { result ≡ are_no_more K.cmp K.matching fabric.now
         changed.now.tokens.items heard.now.tokens.items changed.now.unheld.items }
 {
-    changed_are_kept(Bound::Upper, fabric, changed.tokens.as_slice())
-        && heard_are_kept(Bound::Upper, fabric, heard.tokens.as_slice())
-        && all_unheld_may_hear(fabric, changed.unheld.as_slice())
+    tokens_are_kept(
+        Bound::Upper,
+        fabric,
+        changed.tokens.as_slice(),
+        heard.tokens.as_slice(),
+    ) && all_unheld_may_hear(fabric, changed.unheld.as_slice())
 }
 
 // Faces that open, and faces that begin to hold an interest, keep all that is owed to them then.
@@ -332,7 +409,10 @@ pub fn keeps_no_less<'a, K: Key>(
         changed.now.tokens.items heard.now.tokens.items
         changed.now.opened.items changed.now.held.items }
 {
-    changed_are_kept(Bound::Lower, fabric, changed.tokens.as_slice())
-        && heard_are_kept(Bound::Lower, fabric, heard.tokens.as_slice())
-        && asked_are_kept(fabric, changed.opened.as_slice(), changed.held.as_slice())
+    tokens_are_kept(
+        Bound::Lower,
+        fabric,
+        changed.tokens.as_slice(),
+        heard.tokens.as_slice(),
+    ) && asked_are_kept(fabric, changed.opened.as_slice(), changed.held.as_slice())
 }

@@ -11,6 +11,7 @@ mod keeping;
 mod owing;
 mod seeking;
 mod seen;
+mod showing;
 mod tokens;
 
 pub use changed::{Changed, changed_by};

@@ -5,7 +5,7 @@ ghost use Rattle.zt_check_keeping.specs.Owing.{is_asked, is_concerned, keeps_all
 ghost use Rattle.zt_check_keeping.specs.Owing.{keeps_concerned, keeps_declared, keeps_of_faces};
 ghost use Rattle.zt_check_keeping.specs.Owing.{keeps_routed};
 
-use crate::seen::{concerns, has_expression, is_owed, is_shown_and_admitted};
+use crate::seen::{concerns, is_owed, is_shown_and_admitted};
 use zt_check_faces::{ShownFace, ShownInterest};
 use zt_check_rows::{ShownRouted, ShownRows};
 use zt_keys::Key;
@@ -37,7 +37,7 @@ fn is_asked<K: Key>(face: &ShownFace<K>, id: Option<u32>, expr: &K) -> bool
 fn keeps_concerned<K: Key>(face: &ShownFace<K>, id: Option<u32>, expr: &K) -> bool
     ensures { result ≡ keeps_concerned K.cmp K.matching face.now id expr.now }
 {
-    !is_asked(face, id, expr) || !is_owed(face, expr) || has_expression(face.told(), expr)
+    !is_asked(face, id, expr) || !is_owed(face, expr) || face.has_told(expr)
 }
 
 // Whether a face keeps all that another declares and that is owed to it.
