@@ -64,7 +64,8 @@ pub fn remove<T: Drop>(rows: &mut Vec<(u32, T)>, id: u32)
     rows.retain(|row| id != row.0);
 }
 
-/// Near which place a row of the id stands if ids rise: there, or else it is nowhere.
+/// A place to look at first for a row of the id: where ids rise, it stands there or nowhere. Nothing
+/// is promised of the place, so whoever asks looks for the row elsewhere too.
 pub fn near<T>(rows: &[(u32, T)], id: u32) -> usize {
     match rows.binary_search_by(|row| row.0.cmp(&id)) {
         Ok(place) | Err(place) => place,
