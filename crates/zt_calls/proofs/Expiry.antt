@@ -1,12 +1,13 @@
 -- What expires, face by face, is what the list of it says.
-use Rattle.std.proofs.Common.{◌≡◌, ℕ, true, false, if◌then◌else◌, List, [], ◌∷◌, ◌++◌, filter, map, refl, sym, ap, ◌∙◌}
+use Rattle.std.proofs.Common.{◌≡◌, ℕ, List, [], ◌∷◌, ◌++◌, filter, map, refl, sym, ap, ◌∙◌}
 use Rattle.std.proofs.lemmas.Grind.{flat_map-append}
 use Rattle.std.specs.List.{flat_map}
-use Rattle.zt_calls.specs.Expired.{ending_each, expired_at, expired_in, expired_of}
+use Rattle.zt_calls.specs.Expired.{ending_each, expired_in}
+use Rattle.zt_faces.specs.Timed.{expired_at}
 use Rattle.zt_model.specs.Closing.{is_expired}
 use Rattle.zt_model.specs.Parts.{Part}
 use Rattle.zt_model.specs.Routing.{ending}
-use Rattle.zt_model.specs.Rows.{ById, Face, Pending, Rows}
+use Rattle.zt_model.specs.Rows.{Face, Pending, Rows}
 
 at_rows : {K : Type 0} (n : ℕ) (rows : List (ℕ × Pending)) → flat_map (λ row. ending {K = K} n row.0) rows ≡ flat_map ending_each (map (λ row. (n, row.0)) rows)
 at_rows n [] = refl
@@ -22,15 +23,3 @@ at_faces {K} now timeout (f ∷ fs) =
 
 pub expiring-pendings : {K : Type 0} (now : ℕ) (g : Rows K) → flat_map (λ (f : Face K). flat_map (λ row. ending {K = K} f.number row.0) (filter (is_expired now g.timeout) f.pendings)) g.faces ≡ flat_map ending_each (expired_in now g)
 expiring-pendings now g = at_faces now g.timeout g.faces
-
--- a pending that hasn't waited for the timeout gives nothing
-pub expired_not : (now timeout n : ℕ) (rest left : ById Pending) (row : ℕ × Pending) → is_expired now timeout row ≡ false → rest ≡ row ∷ left → expired_of now timeout n rest ≡ expired_of now timeout n left
-expired_not now timeout n rest left row fails first =
-    ap (expired_of now timeout n) first
-    ∙ ap (λ b. map (λ (r : ℕ × Pending). (n, r.0)) (if b then row ∷ filter (is_expired now timeout) left else filter (is_expired now timeout) left)) fails
-
--- one that has stands before the others
-pub expired_first : (now timeout n : ℕ) (rest left : ById Pending) (row : ℕ × Pending) → is_expired now timeout row ≡ true → rest ≡ row ∷ left → expired_of now timeout n rest ≡ (n, row.0) ∷ expired_of now timeout n left
-expired_first now timeout n rest left row passes first =
-    ap (expired_of now timeout n) first
-    ∙ ap (λ b. map (λ (r : ℕ × Pending). (n, r.0)) (if b then row ∷ filter (is_expired now timeout) left else filter (is_expired now timeout) left)) passes

@@ -83,7 +83,7 @@ pub(crate) fn ask<K: Key>(
 {
     let pendings = sent_as(alloc, g, asker, interest.mode())?;
     number_interest(alloc, g, interest)?;
-    let routed = route(alloc, g, asker, interest)?;
+    let routed = route(alloc, interest, &pendings)?;
     say(alloc, g, speech, routed)?;
     let entities = answer_entities(alloc, g, face, id, interest)?;
     say(alloc, g, speech, entities)?;

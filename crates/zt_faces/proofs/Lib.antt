@@ -1,3 +1,4 @@
+mod Expiring
 mod Gaps
 mod Highest
 mod Known
@@ -5,3 +6,4 @@ pub mod Rising
 mod Routers
 pub mod Said
 mod Standings
+mod Times

@@ -17,12 +17,12 @@ use Rattle.zt_faces.specs.declared.by_router.Standing.{Standing}
 use Rattle.zt_faces.specs.Routers.{HasNoneFrom, HasNoneOf, IsFirstOf, IsLeastFrom, has, is_kept, standing_at, standing_cmp}
 
 -- ---- regions tie where they are equal
-is_eq-then : (a b : Ordering) → is_eq (ordering_then a b) ≡ (is_eq a && is_eq b)
+pub is_eq-then : (a b : Ordering) → is_eq (ordering_then a b) ≡ (is_eq a && is_eq b)
 is_eq-then Less b = refl
 is_eq-then Equal b = refl
 is_eq-then Greater b = refl
 
-nat_ties : (a b : ℕ) → is_eq (nat_cmp a b) ≡ (a == b)
+pub nat_ties : (a b : ℕ) → is_eq (nat_cmp a b) ≡ (a == b)
 nat_ties a b = grind (arith, nat_tests)
 
 region_ties : (a b : Region) → is_eq (by_region.cmp a b) ≡ region_eq a b

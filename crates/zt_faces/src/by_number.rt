@@ -1,6 +1,7 @@
 // The open faces, found and changed by their numbers, and found by the routers behind them.
 ghost use Rattle.std.specs.Prelude.{◌≡◌, ◌==◌, ◌<◌, ◌++◌, ◌∷◌, ◌&&◌, [], filter, if◌then◌else◌, get_or};
 ghost use Rattle.std.specs.Prelude.{length, map, not, set, true, IfNone, IfOk, IfSome, OnErr, OnOk};
+ghost use Rattle.std.specs.Prelude.{Some};
 ghost use Rattle.std.specs.Option.{option_copied};
 ghost use Rattle.zt_model.specs.Lists.{first_where};
 ghost use Rattle.zt_model.specs.Rows.{Face};
@@ -11,6 +12,7 @@ ghost use Rattle.zt_faces.specs.Asked.{AreAsked, IsAskerOf, IsKnown, asked_in};
 ghost use Rattle.zt_faces.specs.Rising.{AreBelow, AreUpTo, HasNone, IsPlace, IsRising};
 ghost use Rattle.zt_faces.specs.Routers.{AreStandings, HasMore, is_kept, standing_of};
 ghost use Rattle.zt_faces.specs.Slots.{IsFoundIn, LosesStanding, faces_in, number_of, with_face, without_face};
+ghost use Rattle.zt_faces.specs.Timed.{AreTimed, expired_among, has, timed_at};
 ghost use Rattle.zt_faces.specs.declared.slots.Slot.{Slot};
 ghost use Rattle.zt_faces.specs.declared.slots.Slot.TheVariants.{Open};
 
@@ -18,6 +20,7 @@ use crate::asked::{Asker, Askers};
 use crate::by_router::{
     Standing, add_standing, copy_standings, drop_standing, first_of_router, is_kept, standing_of,
 };
+use crate::by_time::Times;
 use crate::changes::{FaceAddition, FaceChange};
 use crate::slots::{Slot, close_gaps};
 use crate::walk::OpenFaces;
@@ -122,7 +125,7 @@ fn search_face<K: Key>(slots: &[Slot<K>], number: u32) -> Option<&FaceState<K>>
 }
 
 // The face of a number. It stands at its own place where no gap below it was closed.
-fn find_in<K: Key>(slots: &[Slot<K>], number: u32) -> Option<&FaceState<K>>
+pub(crate) fn find_in<K: Key>(slots: &[Slot<K>], number: u32) -> Option<&FaceState<K>>
     requires { IsRising number_of slots.now }
     ensures { option_copied result ≡ first_where (λ f. number == f.number) (faces_in slots.now) }
 {
@@ -184,6 +187,7 @@ fn change_in<K: Key, C: FaceChange<K>>(slots: &mut Vec<Slot<K>>, number: u32, ch
 }
 
 // Changes the face of a number, whose next id may be higher then. After an error no face is left.
+#[inline(always)]
 fn add_in<K: Key, C: FaceAddition<K>>(
     alloc: Global,
     slots: &mut Vec<Slot<K>>,
@@ -203,6 +207,100 @@ fn add_in<K: Key, C: FaceAddition<K>>(
     match place_of(slots.as_slice(), number) {
         Some(place) => add_at(alloc, slots, highest_next, place, addition),
         None => Ok(()),
+    }
+}
+
+// Interests that wait no more are dropped, where they are many.
+fn tidy_times<K: Key>(alloc: Global, slots: &[Slot<K>], times: &mut Times) -> Result<(), Memory>
+    requires { AreTimed times.old.rows.keys (faces_in slots.now) }
+    ensures { OnOk result (AreTimed times.new.rows.keys (faces_in slots.now)) }
+{
+    if !times.are_many() {
+        return Ok(());
+    }
+    *times = Times::new(alloc);
+    *times = Times::of_faces(alloc, OpenFaces::new(slots), slots.len())?;
+    Ok(())
+}
+
+// The interest that a face is sent at a moment under an id is known from here on.
+fn await_final<K: Key>(
+    alloc: Global,
+    slots: &[Slot<K>],
+    times: &mut Times,
+    number: u32,
+    since: u64,
+    id: u32,
+) -> Result<(), Memory>
+    requires { AreTimed times.old.rows.keys (faces_in slots.now) }
+    ensures here { OnOk result (has (timed_at since number id) times.new.rows.keys ≡ true) }
+    ensures timed { OnOk result (AreTimed times.new.rows.keys (faces_in slots.now)) }
+{
+    tidy_times(alloc, slots, times)?;
+    times.note(since, number, id)
+}
+
+// Changes the face of a number, whose next id may be higher then, and which awaits a final.
+#[inline(never)]
+fn add_awaiting<K: Key, C: FaceAddition<K>>(
+    alloc: Global,
+    slots: &mut Vec<Slot<K>>,
+    highest_next: &mut u32,
+    times: &mut Times,
+    number: u32,
+    addition: &C,
+    since: u64,
+    id: u32,
+) -> Result<(), Memory>
+    requires awaited { C.awaited addition.now ≡ Some (since, id) }
+    requires rising { IsRising number_of slots.old.items }
+    requires up_to { AreUpTo (λ f. f.next) highest_next.old (faces_in slots.old.items) }
+    requires timed { AreTimed times.old.rows.keys (faces_in slots.old.items) }
+    ensures ok { OnOk result (faces_in slots.new.items
+        ≡ map (λ f. if number == f.number then C.added addition.now f else f)
+        (faces_in slots.old.items)) }
+    ensures rising { OnOk result (IsRising number_of slots.new.items) }
+    ensures up_to { OnOk result (AreUpTo (λ f. f.next) highest_next.new
+        (faces_in slots.new.items)) }
+    ensures timed { OnOk result (AreTimed times.new.rows.keys (faces_in slots.new.items)) }
+{
+    await_final(alloc, slots.as_slice(), times, number, since, id)?;
+    add_in(alloc, slots, highest_next, number, addition)
+}
+
+// Changes the face of a number, whose next id may be higher then, and which may await a final.
+#[inline(always)]
+fn add_timed<K: Key, C: FaceAddition<K>>(
+    alloc: Global,
+    slots: &mut Vec<Slot<K>>,
+    highest_next: &mut u32,
+    times: &mut Times,
+    number: u32,
+    addition: &C,
+) -> Result<(), Memory>
+    requires rising { IsRising number_of slots.old.items }
+    requires up_to { AreUpTo (λ f. f.next) highest_next.old (faces_in slots.old.items) }
+    requires timed { AreTimed times.old.rows.keys (faces_in slots.old.items) }
+    ensures ok { OnOk result (faces_in slots.new.items
+        ≡ map (λ f. if number == f.number then C.added addition.now f else f)
+        (faces_in slots.old.items)) }
+    ensures rising { OnOk result (IsRising number_of slots.new.items) }
+    ensures up_to { OnOk result (AreUpTo (λ f. f.next) highest_next.new
+        (faces_in slots.new.items)) }
+    ensures timed { OnOk result (AreTimed times.new.rows.keys (faces_in slots.new.items)) }
+{
+    match addition.awaits() {
+        None => add_in(alloc, slots, highest_next, number, addition),
+        Some((since, id)) => add_awaiting(
+            alloc,
+            slots,
+            highest_next,
+            times,
+            number,
+            addition,
+            since,
+            id,
+        ),
     }
 }
 
@@ -481,6 +579,7 @@ pub struct Faces<K: Key> {
     // The faces by the routers behind them.
     routers: BTreeSet<Standing>,
     askers: Askers,
+    times: Times,
 }
 
 impl<K: Key> Model for Faces<K> {
@@ -495,7 +594,7 @@ impl<K: Key> Model for Faces<K> {
     ghost view = { λ a. faces_in a.slots.items };
 
     ghost invariant = { λ a. AreFound a.highest_next a.routers.keys (asked_in a.askers.rows)
-        a.slots.items };
+        a.times.rows.keys a.slots.items };
 }
 
 impl<K: Key> Faces<K> {
@@ -509,6 +608,7 @@ impl<K: Key> Faces<K> {
             highest_next: 0,
             routers: BTreeSet::new(alloc),
             askers: Askers::new(alloc),
+            times: Times::new(alloc),
         }
     }
 
@@ -562,15 +662,17 @@ impl<K: Key> Faces<K> {
             ≡ map (λ f. if number == f.number then C.added addition.now f else f) self.old) }
         ensures err { OnErr result (self.new ≡ []) }
     {
-        match add_in(
+        match add_timed(
             alloc,
             &mut self.slots,
             &mut self.highest_next,
+            &mut self.times,
             number,
             addition,
         ) {
             Ok(()) => Ok(()),
             Err(error) => {
+                self.slots.clear();
                 self.open = 0;
                 self.routers.clear();
                 Err(error)
@@ -584,6 +686,23 @@ impl<K: Key> Faces<K> {
         ensures rising { IsRising (λ f. f.number) self.now }
     {
         self.askers.find(face, id)
+    }
+
+    /// The pendings that have waited for the timeout, by face and id. A walk over the interests that
+    /// were sent so long ago, and over those that were sent before and wait no more: each of these
+    /// is passed once or twice.
+    pub fn expired(
+        &mut self,
+        alloc: Global,
+        now: u64,
+        timeout: u64,
+    ) -> Result<Vec<(u32, u32)>, Memory>
+        ensures expired { IfOk result (λ expired. expired.items
+            ≡ expired_among now timeout self.old) }
+        ensures kept { self.new ≡ self.old }
+    {
+        self.times.drop_ended(&self.slots);
+        self.times.expired(alloc, &self.slots, now, timeout)
     }
 
     /// The face of a number asks by an interest that was sent upstream as these. After an error no
@@ -628,6 +747,7 @@ impl<K: Key> Faces<K> {
     {
         let next = face.next();
         self.askers.note_face(&face)?;
+        self.times.time_face(&face)?;
         push_in(&mut self.slots, &mut self.routers, face)?;
         self.open = self.open.saturating_add(1);
         self.highest_next = self.highest_next.max(next);
@@ -652,6 +772,7 @@ impl<K: Key> Faces<K> {
             highest_next: self.highest_next,
             routers: copy_standings(&self.routers)?,
             askers: Askers::of_faces(alloc, self.iter(), self.open)?,
+            times: self.times.copy()?,
         })
     }
 }

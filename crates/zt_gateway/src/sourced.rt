@@ -12,7 +12,7 @@ use crate::ordering::{insert_key, insert_zid};
 use std::alloc::Global;
 use zt_keys::{Key, Memory};
 use zt_protocol::{CallError, Refusal};
-use zt_refusals::is_region_of;
+use zt_refusals::has_region;
 use zt_region::{Region, WhatAmI, Zid};
 use zt_state::GatewayState;
 
@@ -138,7 +138,7 @@ fn sources_in<K: Key>(
     ensures sourced { IfOk result
         (λ found. plain_found found.items ≡ sourced K.cmp state.now region) }
 {
-    if !is_region_of(state.regions(), region) {
+    if !has_region(state, region) {
         return Err(CallError::Refused(Refusal::NoSuchRegion));
     }
     match find_sources(alloc, state, region) {

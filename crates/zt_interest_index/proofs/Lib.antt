@@ -4,3 +4,4 @@ mod Found
 mod InBucket
 mod InOrder
 mod Kept
+mod Rising

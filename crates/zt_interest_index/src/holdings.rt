@@ -1,13 +1,15 @@
 // The interests of one bucket.
 ghost use Rattle.std.specs.Prelude.{◌≡◌, ℕ, ◌∷◌, ◌++◌, ◌&&◌, ◌||◌, ◌==◌, [], filter, length, not};
-ghost use Rattle.std.specs.Prelude.{true, IfOk, IfSome, OnErr, OnOk};
+ghost use Rattle.std.specs.Prelude.{true, IfOk, IfSome, OnErr, OnOk, Option};
 ghost use Rattle.std.specs.List.{list_any};
-ghost use Rattle.zt_interest_index.specs.Holdings.{AreAlike, asks_from, is_about, is_among};
+ghost use Rattle.zt_interest_index.specs.Holdings.{AreAlike, AreRising, asks_from};
+ghost use Rattle.zt_interest_index.specs.Holdings.{is_about, is_among};
 ghost use Rattle.zt_interest_index.specs.Holdings.{is_by, is_of};
 
 use std::alloc::Global;
 use std::marker::Model;
 use zt_keys::{Key, Memory};
+use zt_ordered::place_of;
 
 // Whether an interest in this expression, or in all keys, is about the key.
 fn is_about<K: Key>(about: &Option<K>, expr: &K) -> bool
@@ -26,11 +28,50 @@ fn is_other<K: Key>(row: &((u32, u32), Option<K>), face: u32, id: u32) -> bool
     !(face == row.0.0 && id == row.0.1)
 }
 
-// The interest that the face holds under the id goes.
-fn drop_in<K: Key>(rows: &mut Vec<((u32, u32), Option<K>)>, face: u32, id: u32)
+// The interest that the face holds under the id goes, wherever it stands.
+fn drop_anywhere<K: Key>(rows: &mut Vec<((u32, u32), Option<K>)>, face: u32, id: u32)
     ensures { rows.new.items ≡ filter (λ row. not (is_of face id row)) rows.old.items }
 {
     rows.retain(|row| is_other(row, face, id));
+}
+
+// The same among interests in order of face and id. It is found by a search by halves.
+fn drop_rising<K: Key>(rows: &mut Vec<((u32, u32), Option<K>)>, face: u32, id: u32)
+    requires { AreRising rows.old.items }
+    ensures { rows.new.items ≡ filter (λ row. not (is_of face id row)) rows.old.items }
+{
+    if let Ok(place) = place_of(rows.as_slice(), &(face, id)) {
+        rows.remove(place);
+    }
+}
+
+// The same among interests that may be known to stand in order.
+fn drop_in<K: Key>(rows: &mut Vec<((u32, u32), Option<K>)>, are_rising: bool, face: u32, id: u32)
+    requires { are_rising ≡ true → AreRising rows.old.items }
+    ensures { rows.new.items ≡ filter (λ row. not (is_of face id row)) rows.old.items }
+{
+    if are_rising {
+        drop_rising(rows, face, id);
+    } else {
+        drop_anywhere(rows, face, id);
+    }
+}
+
+// Whether interests in order of face and id stay so after one more.
+fn stay_rising<K: Key>(
+    rows: &[((u32, u32), Option<K>)],
+    are_rising: bool,
+    face: u32,
+    id: u32,
+) -> bool
+    requires { are_rising ≡ true → AreRising rows.now }
+    ensures { (about : Option K) → result ≡ true
+        → AreRising (rows.now ++ ((face, id), about) ∷ []) }
+{
+    match rows.last() {
+        Some(last) => are_rising && last.0.cmp(&(face, id)).is_lt(),
+        None => true,
+    }
 }
 
 // Whether all interests are still known to be in one expression after one in this expression is
@@ -177,17 +218,21 @@ pub struct Holdings<K: Key> {
 
     // Whether the interests are known to be in one expression.
     are_alike: bool,
+
+    // Whether they are known to stand in order of face and id, as they mostly come.
+    are_rising: bool,
 }
 
 impl<K: Key> Model for Holdings<K> {
     ghost use Rattle.std.specs.Prelude.{◌≡◌, ℕ, List, Option, true};
-    ghost use Rattle.zt_interest_index.specs.Holdings.{AreAlike};
+    ghost use Rattle.zt_interest_index.specs.Holdings.{AreAlike, AreRising};
 
     ghost Value = { List ((ℕ × ℕ) × Option K) };
 
     ghost view = { λ a. a.rows.items };
 
-    ghost invariant = { λ a. a.are_alike ≡ true → AreAlike a.rows.items };
+    ghost invariant = { λ a. (a.are_alike ≡ true → AreAlike a.rows.items)
+        × (a.are_rising ≡ true → AreRising a.rows.items) };
 }
 
 impl<K: Key> Holdings<K> {
@@ -198,6 +243,7 @@ impl<K: Key> Holdings<K> {
         Holdings {
             rows: Vec::new(alloc),
             are_alike: true,
+            are_rising: true,
         }
     }
 
@@ -210,6 +256,7 @@ impl<K: Key> Holdings<K> {
         Ok(Holdings {
             rows,
             are_alike: true,
+            are_rising: true,
         })
     }
 
@@ -223,9 +270,12 @@ impl<K: Key> Holdings<K> {
         ensures ok { OnOk result (self.new ≡ self.old ++ ((face, id), about) ∷ []) }
         ensures err { OnErr result (self.new ≡ self.old) }
     {
-        let are_alike = stay_alike(&self.rows, self.are_alike, &about);
+        let rows = self.rows.as_slice();
+        let are_alike = stay_alike(rows, self.are_alike, &about);
+        let are_rising = stay_rising(rows, self.are_rising, face, id);
         self.rows.push(((face, id), about))?;
         self.are_alike = are_alike;
+        self.are_rising = are_rising;
         Ok(())
     }
 
@@ -233,7 +283,7 @@ impl<K: Key> Holdings<K> {
     pub fn remove(&mut self, face: u32, id: u32)
         ensures { self.new ≡ filter (λ row. not (is_of face id row)) self.old }
     {
-        drop_in(&mut self.rows, face, id);
+        drop_in(&mut self.rows, self.are_rising, face, id);
     }
 
     /// Whether there is no interest.
@@ -271,6 +321,7 @@ impl<K: Key> Holdings<K> {
         Ok(Holdings {
             rows: copy_rows(alloc, &self.rows)?,
             are_alike: self.are_alike,
+            are_rising: self.are_rising,
         })
     }
 }

@@ -1,5 +1,5 @@
--- An interest in tokens that a south-bound face holds is found among those in its expression.
-use Rattle.std.proofs.Common.{◌≡◌, ℕ, ◌==◌, Bool, true, false, ◌&&◌, ◌||◌, not, List, [], ◌∷◌, Option, Some, None, ap, arith, filter, flat_map, map, refl, subst, sym, ◌∙◌}
+-- An interest that a south-bound face holds is found among those of its kind in its expression.
+use Rattle.std.proofs.Common.{◌≡◌, ℕ, ◌==◌, Bool, true, false, ◌&&◌, ◌||◌, not, List, [], ◌∷◌, Option, Some, None, ap, arith, filter, flat_map, map, refl, sym, ◌∙◌}
 use Rattle.std.proofs.lemmas.Bool.Decides.{nat_tests}
 use Rattle.std.proofs.lemmas.List.Folds.{list_any-append}
 use Rattle.std.proofs.lemmas.Option.{same_Some}
@@ -15,7 +15,7 @@ use Rattle.zt_region.specs.Region.{is_north}
 use Rattle.zt_protocol.specs.Interest.{has_tokens}
 use Rattle.zt_rows.specs.ById.{IsInOrder}
 use Rattle.zt_interest_index.specs.Held.{any_kept}
-use Rattle.zt_token_index.specs.Seekers.{TokenRow, token_rows}
+use Rattle.zt_token_index.specs.Seekers.{HeldRow, in_others, in_tokens, kind_rows}
 use Rattle.zt_model.specs.Lists.{at_id, first_where, is_some_and}
 use Rattle.zt_model.specs.Parts.{find_face}
 use Rattle.zt_model.specs.Routing.{asks_same, expression_order, is_held_south}
@@ -134,19 +134,25 @@ module _ {K : Type 0} (cmp : K → K → Ordering) (matching : K → K → Bool)
   same_expression exact (Some a) (Some b) h = ap Some (sym (exact a b (equal-from (cmp a b) h)))
 
   -- a row that is of such an interest has its expression
-  pub held-in : ((a b : K) → cmp a b ≡ Equal → a ≡ b) → (g : Rows K) (interest : InterestRow K) (row : TokenRow K) → is_held_as cmp matching g interest row ≡ true → row.1 ≡ interest.expr
+  pub held-in : ((a b : K) → cmp a b ≡ Equal → a ≡ b) → (g : Rows K) (interest : InterestRow K) (row : HeldRow K) → is_held_as cmp matching g interest row ≡ true → row.1 ≡ interest.expr
   held-in exact g interest row h = same_expression exact interest.expr row.1 (and_first (is_eq (expression_order cmp matching interest.expr row.1)) _ h)
 
-  module _ (interest : InterestRow K) (tokens : has_tokens interest.options ≡ true) where
-    -- ---- an interest that asks for the same
-    in_expression : (other : InterestRow K) → asks_same cmp matching interest other ≡ true → is_eq (expression_order cmp matching interest.expr other.expr) ≡ true
-    in_expression other h = first-equal (expression_order cmp matching interest.expr other.expr) (nat_cmp interest.options.0 other.options.0) h
+  in_expression : (interest other : InterestRow K) → asks_same cmp matching interest other ≡ true → is_eq (expression_order cmp matching interest.expr other.expr) ≡ true
+  in_expression interest other h = first-equal (expression_order cmp matching interest.expr other.expr) (nat_cmp interest.options.0 other.options.0) h
 
-    in_tokens : (other : InterestRow K) → asks_same cmp matching interest other ≡ true → has_tokens other.options ≡ true
-    in_tokens other h =
-        let same = tied interest.options.0 other.options.0 (equal-from (nat_cmp interest.options.0 other.options.0) (second-equal (expression_order cmp matching interest.expr other.expr) (nat_cmp interest.options.0 other.options.0) h)) in
-        subst (λ (bits : ℕ). (bit_and bits 8 == 8) ≡ true) same tokens
+  -- an interest that asks for the same is one of the same kind
+  same_kind : (interest other : InterestRow K) → asks_same cmp matching interest other ≡ true → has_tokens interest.options ≡ has_tokens other.options
+  same_kind interest other h =
+      ap (λ (bits : ℕ). bit_and bits 8 == 8)
+      (tied interest.options.0 other.options.0 (equal-from (nat_cmp interest.options.0 other.options.0) (second-equal (expression_order cmp matching interest.expr other.expr) (nat_cmp interest.options.0 other.options.0) h)))
 
+  pub alike-tokens : (interest : InterestRow K) → has_tokens interest.options ≡ true → (other : InterestRow K) → asks_same cmp matching interest other ≡ true → in_tokens other ≡ true
+  alike-tokens interest is other h = sym (same_kind interest other h) ∙ is
+
+  pub alike-others : (interest : InterestRow K) → has_tokens interest.options ≡ false → (other : InterestRow K) → asks_same cmp matching interest other ≡ true → in_others other ≡ true
+  alike-others interest is other h = ap not (sym (same_kind interest other h) ∙ is)
+
+  module _ (kind : InterestRow K → Bool) (interest : InterestRow K) (alike : (other : InterestRow K) → asks_same cmp matching interest other ≡ true → kind other ≡ true) where
     -- ---- the interests of one face
     module _ (held : ById (InterestRow K)) where
       abbrev asks : ℕ × InterestRow K → Bool
@@ -155,9 +161,9 @@ module _ {K : Type 0} (cmp : K → K → Ordering) (matching : K → K → Bool)
       abbrev is_under : ℕ → Bool
       is_under id = list_any (λ row. id == row.0 && asks row) held
 
-      -- the row is found, in tokens
+      -- the row is found, as one of the kind
       abbrev is_seen : ℕ × InterestRow K → Bool
-      is_seen row = (is_eq (expression_order cmp matching interest.expr row.1.expr) && is_under row.0) && has_tokens row.1.options
+      is_seen row = (is_eq (expression_order cmp matching interest.expr row.1.expr) && is_under row.0) && kind row.1
 
       seen-each : (rows : ById (InterestRow K)) → ((p : ℕ × InterestRow K → Bool) → list_any p rows ≡ true → list_any p held ≡ true) → list_any asks rows ≡ true → list_any is_seen rows ≡ true
       seen-each [] among h = cc
@@ -166,7 +172,7 @@ module _ {K : Type 0} (cmp : K → K → Ordering) (matching : K → K → Bool)
           (λ t.
           let here : list_any (λ r. row.0 == r.0 && asks r) (row ∷ rows) ≡ true = or_first (row.0 == row.0 && asks row) (list_any (λ r. row.0 == r.0 && asks r) rows) (and_true (row.0 == row.0) (asks row) (itself row.0) t) in
           let seen : is_seen row ≡ true =
-          and_true _ _ (and_true _ _ (in_expression row.1 t) (among (λ r. row.0 == r.0 && asks r) here)) (in_tokens row.1 t) in
+          and_true _ _ (and_true _ _ (in_expression interest row.1 t) (among (λ r. row.0 == r.0 && asks r) here)) (alike row.1 t) in
           or_first (is_seen row) (list_any is_seen rows) seen)
           (λ t. or_second (is_seen row) (list_any is_seen rows) (seen-each rows (λ p k. among p (or_second (p row) (list_any p rows) k)) (rw t at h)))
 
@@ -174,7 +180,7 @@ module _ {K : Type 0} (cmp : K → K → Ordering) (matching : K → K → Bool)
       unseen none row =
           by_test (is_under row.0)
           (λ t. let some : list_any asks held ≡ true = any_weaker (λ r. row.0 == r.0 && asks r) asks (λ r k. and_second (row.0 == r.0) (asks r) k) held t in cc)
-          (λ t. nothing (is_eq (expression_order cmp matching interest.expr row.1.expr)) (is_under row.0) (has_tokens row.1.options) t)
+          (λ t. nothing (is_eq (expression_order cmp matching interest.expr row.1.expr)) (is_under row.0) (kind row.1) t)
 
       seen-all : list_any is_seen held ≡ list_any asks held
       seen-all =
@@ -184,16 +190,16 @@ module _ {K : Type 0} (cmp : K → K → Ordering) (matching : K → K → Bool)
 
     module _ (g : Rows K) where
       of_face : (f : Face K) → find_face f.number g ≡ Some f
-          → list_any (is_held_as cmp matching g interest) (token_rows f) ≡ (not (is_north f.region) && list_any (λ row. asks_same cmp matching interest row.1) f.held)
+          → list_any (is_held_as cmp matching g interest) (kind_rows kind f) ≡ (not (is_north f.region) && list_any (λ row. asks_same cmp matching interest row.1) f.held)
       of_face f found =
-          any_mapped (is_held_as cmp matching g interest) (λ row. ((f.number, row.0), row.1.expr)) (filter (λ row. has_tokens row.1.options) f.held)
-          ∙ any_kept (λ row. is_held_as cmp matching g interest ((f.number, row.0), row.1.expr)) (λ row. has_tokens row.1.options) f.held
+          any_mapped (is_held_as cmp matching g interest) (λ row. ((f.number, row.0), row.1.expr)) (filter (λ row. kind row.1) f.held)
+          ∙ any_kept (λ row. is_held_as cmp matching g interest ((f.number, row.0), row.1.expr)) (λ row. kind row.1) f.held
           ∙ by_test (is_north f.region)
           (λ t.
-          any_none is_found (λ row. nothing (in_it row) (is_some_and (find_face f.number g) (holds_south_as cmp matching interest row.0)) (has_tokens row.1.options) (here row ∙ north_none (is_north f.region) (is_under f.held row.0) t)) f.held
+          any_none is_found (λ row. nothing (in_it row) (is_some_and (find_face f.number g) (holds_south_as cmp matching interest row.0)) (kind row.1) (here row ∙ north_none (is_north f.region) (is_under f.held row.0) t)) f.held
           ∙ sym (north_none (is_north f.region) (list_any (asks f.held) f.held) t))
           (λ t.
-          any_same is_found (is_seen f.held) (λ row. ap (λ b. (in_it row && b) && has_tokens row.1.options) (here row ∙ south_all (is_north f.region) (is_under f.held row.0) t)) f.held
+          any_same is_found (is_seen f.held) (λ row. ap (λ b. (in_it row && b) && kind row.1) (here row ∙ south_all (is_north f.region) (is_under f.held row.0) t)) f.held
           ∙ seen-all f.held
           ∙ sym (south_all (is_north f.region) (list_any (asks f.held) f.held) t))
         where
@@ -201,19 +207,19 @@ module _ {K : Type 0} (cmp : K → K → Ordering) (matching : K → K → Bool)
           in_it row = is_eq (expression_order cmp matching interest.expr row.1.expr)
 
           is_found : ℕ × InterestRow K → Bool
-          is_found row = is_held_as cmp matching g interest ((f.number, row.0), row.1.expr) && has_tokens row.1.options
+          is_found row = is_held_as cmp matching g interest ((f.number, row.0), row.1.expr) && kind row.1
 
           here : (row : ℕ × InterestRow K) → is_some_and (find_face f.number g) (holds_south_as cmp matching interest row.0) ≡ holds_south_as cmp matching interest row.0 f
           here row = ap (λ (o : Option (Face K)). is_some_and o (holds_south_as cmp matching interest row.0)) found
 
       each : (fs : List (Face K)) → AllByRecursion (λ f. first_where (λ x. f.number == x.number) g.faces ≡ Some f) fs
-          → list_any (is_held_as cmp matching g interest) (flat_map token_rows fs) ≡ list_any (λ f. not (is_north f.region) && list_any (λ row. asks_same cmp matching interest row.1) f.held) fs
+          → list_any (is_held_as cmp matching g interest) (flat_map (kind_rows kind) fs) ≡ list_any (λ f. not (is_north f.region) && list_any (λ row. asks_same cmp matching interest row.1) f.held) fs
       each [] found = refl
       each (f ∷ fs) found =
-          list_any-append (is_held_as cmp matching g interest) (token_rows f) (flat_map token_rows fs)
+          list_any-append (is_held_as cmp matching g interest) (kind_rows kind f) (flat_map (kind_rows kind) fs)
           ∙ (λ i. of_face f found.0 i || each fs found.1 i)
 
       -- they are found by face, id and expression
-      pub held-south-found : IsRising (λ f. f.number) g.faces → list_any (is_held_as cmp matching g interest) (flat_map token_rows g.faces) ≡ is_held_south cmp matching g interest
+      pub held-south-found : IsRising (λ f. f.number) g.faces → list_any (is_held_as cmp matching g interest) (flat_map (kind_rows kind) g.faces) ≡ is_held_south cmp matching g interest
       unfolding is_held_south
       held-south-found rising = each g.faces (all-found g.faces rising)

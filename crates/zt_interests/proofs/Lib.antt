@@ -5,3 +5,4 @@ mod HeldSouth
 mod Numbered
 mod North
 mod Asked
+mod Ordered

@@ -1,3 +1,5 @@
 pub mod Chosen
+pub mod Ended
 pub mod Held
+pub mod Lowest
 pub mod Untold

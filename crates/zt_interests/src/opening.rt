@@ -10,11 +10,11 @@ ghost use Rattle.zt_model.specs.Routing.{tokens_from};
 ghost use Rattle.zt_protocol.specs.declared.messages.Message.TheVariants as message;
 ghost use Rattle.zt_tokens.specs.Gathered.{with_keys};
 
-use crate::ordering::insert_interest;
+use crate::ordering::InterestsInOrder;
 use crate::routing::{is_north, leads_up};
 use std::alloc::Global;
 use zt_keys::{Key, Memory};
-use zt_protocol::{InterestMode, Message, copy_expression};
+use zt_protocol::{Message, copy_expression};
 use zt_state::{FaceState, GatewayState, OpenFaces, RemoteInterest, RowsById};
 use zt_tokens::{find_face, hat_of_face, visible_expressions};
 
@@ -26,32 +26,18 @@ fn is_greeted<K: Key>(g: &GatewayState<K>, f: &FaceState<K>) -> bool
     !hat.goes_by_trees() && hat.is_told_unasked(f.region())
 }
 
-// Puts an interest in its place, asked for now and later.
-fn insert_held<K: Key>(
-    alloc: Global,
-    interest: &RemoteInterest<K>,
-    interests: &mut Vec<RemoteInterest<K>>,
-) -> Result<(), Memory>
-    ensures { OnOk result (interests.new.items
-        ≡ with_key (interest_order K.cmp K.matching) (in_both interest.now) interests.old.items) }
-{
-    let expr = copy_expression(interest.expr(), alloc)?;
-    let both = RemoteInterest::new(InterestMode::CurrentFuture, interest.options(), expr);
-    insert_interest(interests, both)
-}
-
 // Puts these interests in their places, asked for now and later.
 fn insert_rows<K: Key>(
     alloc: Global,
     rows: &RowsById<RemoteInterest<K>>,
-    interests: &mut Vec<RemoteInterest<K>>,
+    interests: &mut InterestsInOrder<K>,
 ) -> Result<(), Memory>
-    ensures { OnOk result (interests.new.items
+    ensures { OnOk result (interests.new
         ≡ with_keys (interest_order K.cmp K.matching) (map (λ row. in_both row.1) rows.now)
-        interests.old.items) }
+        interests.old) }
 {
     for (_, interest) in rows.iter().rev() {
-        insert_held(alloc, interest, interests)?;
+        interests.insert(alloc, interest)?;
     }
     Ok(())
 }
@@ -60,10 +46,10 @@ fn insert_rows<K: Key>(
 fn insert_held_by<K: Key>(
     alloc: Global,
     f: &FaceState<K>,
-    interests: &mut Vec<RemoteInterest<K>>,
+    interests: &mut InterestsInOrder<K>,
 ) -> Result<(), Memory>
-    ensures { OnOk result (interests.new.items
-        ≡ with_keys (interest_order K.cmp K.matching) (held_by f.now) interests.old.items) }
+    ensures { OnOk result (interests.new
+        ≡ with_keys (interest_order K.cmp K.matching) (held_by f.now) interests.old) }
 {
     if !is_north(f) {
         insert_rows(alloc, f.held(), interests)?;
@@ -75,11 +61,11 @@ fn insert_held_by<K: Key>(
 fn insert_faces<K: Key>(
     alloc: Global,
     faces: OpenFaces<'_, K>,
-    interests: &mut Vec<RemoteInterest<K>>,
+    interests: &mut InterestsInOrder<K>,
 ) -> Result<(), Memory>
-    ensures { OnOk result (interests.new.items
+    ensures { OnOk result (interests.new
         ≡ with_keys (interest_order K.cmp K.matching) (flat_map held_by faces.entry)
-        interests.old.items) }
+        interests.old) }
 {
     for f in faces.rev() {
         insert_held_by(alloc, f, interests)?;
@@ -92,9 +78,9 @@ fn insert_faces<K: Key>(
 fn held_south<K: Key>(alloc: Global, g: &GatewayState<K>) -> Result<Vec<RemoteInterest<K>>, Memory>
     ensures { IfOk result (λ interests. interests.items ≡ held_south K.cmp K.matching g.now) }
 {
-    let mut interests = Vec::new(alloc);
+    let mut interests = InterestsInOrder::new(alloc);
     insert_faces(alloc, g.faces(), &mut interests)?;
-    Ok(interests)
+    interests.into_vec(alloc)
 }
 
 /// The interests that a new face is sent: where it leads to a gateway above, what south-bound faces

@@ -1,11 +1,15 @@
 // Interests in order of expression and options, each once.
-ghost use Rattle.std.specs.Prelude.{◌≡◌, ◌≤◌, IfNone, IfSome, OnOk, insert, length};
+ghost use Rattle.std.specs.Prelude.{◌≡◌, [], IfOk, OnOk};
+ghost use Rattle.zt_interests.specs.Held.{in_both};
 ghost use Rattle.zt_model.specs.Lists.{with_key};
 ghost use Rattle.zt_model.specs.Routing.{expression_order, interest_order};
 
-use bitflags::Flags;
+use std::alloc::Global;
 use std::cmp::Ordering;
+use std::collections::BTreeSet;
+use std::marker::Model;
 use zt_keys::{Key, Memory};
+use zt_protocol::{InterestMode, InterestOptions, copy_expression};
 use zt_state::RemoteInterest;
 
 /// No expression comes first, then expressions in key order.
@@ -20,48 +24,55 @@ pub(crate) fn expression_order<K: Key>(a: &Option<K>, b: &Option<K>) -> Ordering
     }
 }
 
-// Interests stand in order of expression and then of options, whatever their modes.
-fn interest_order<K: Key>(a: &RemoteInterest<K>, b: &RemoteInterest<K>) -> Ordering
-    ensures { result ≡ interest_order K.cmp K.matching a.now b.now }
-{
-    let by_options = a.options().bits().cmp(&b.options().bits());
-    expression_order(a.expr(), b.expr()).then(by_options)
+// Interests that are asked for now and later, in order of expression and then of options, each pair
+// of these once.
+#[derive(Drop)]
+pub(crate) struct InterestsInOrder<K: Key> {
+    asked: BTreeSet<(Option<K>, InterestOptions)>,
 }
 
-// The place of an interest among interests in order, unless one that asks for the same is there.
-fn place_for<K: Key>(interests: &[RemoteInterest<K>], interest: &RemoteInterest<K>) -> Option<usize>
-    ensures bound { IfSome result (λ place. place ≤ length interests.now) }
-    ensures place { IfSome result (λ place.
-        with_key (interest_order K.cmp K.matching) interest.now interests.now
-        ≡ insert interests.now place interest.now) }
-    ensures there { IfNone result (
-        with_key (interest_order K.cmp K.matching) interest.now interests.now
-        ≡ interests.now) }
-{
-    for (place, other) in interests.iter().enumerate() {
-        match interest_order(interest, other) {
-            Ordering::Less => return Some(place),
-            Ordering::Equal => return None,
-            Ordering::Greater => {}
+impl<K: Key> Model for InterestsInOrder<K> {
+    ghost use Rattle.std.specs.Prelude.{List, map};
+    ghost use Rattle.zt_model.specs.Rows.{InterestRow};
+    ghost use Rattle.zt_interests.specs.Held.{asking_both};
+
+    ghost Value = { List (InterestRow K) };
+
+    ghost view = { λ i. map asking_both i.asked.keys };
+}
+
+impl<K: Key> InterestsInOrder<K> {
+    // No interest.
+    pub(crate) fn new(alloc: Global) -> Self
+        ensures { result ≡ [] }
+    {
+        InterestsInOrder {
+            asked: BTreeSet::new(alloc),
         }
     }
-    Some(interests.len())
-}
 
-// Puts an interest in its place among interests in order, unless one that asks for the same is
-// there.
-pub(crate) fn insert_interest<K: Key>(
-    interests: &mut Vec<RemoteInterest<K>>,
-    interest: RemoteInterest<K>,
-) -> Result<(), Memory>
-    ensures { OnOk result (interests.new.items
-        ≡ with_key (interest_order K.cmp K.matching) interest interests.old.items) }
-{
-    match place_for(interests.as_slice(), &interest) {
-        None => Ok(()),
-        Some(place) => {
-            interests.insert(place, interest)?;
-            Ok(())
+    // Puts an interest in its place, whatever its mode, unless one that asks for the same is there.
+    pub(crate) fn insert(
+        &mut self,
+        alloc: Global,
+        interest: &RemoteInterest<K>,
+    ) -> Result<(), Memory>
+        ensures { OnOk result (self.new
+            ≡ with_key (interest_order K.cmp K.matching) (in_both interest.now) self.old) }
+    {
+        let expr = copy_expression(interest.expr(), alloc)?;
+        self.asked.insert((expr, interest.options()))?;
+        Ok(())
+    }
+
+    // The interests as a list.
+    pub(crate) fn into_vec(self, alloc: Global) -> Result<Vec<RemoteInterest<K>>, Memory>
+        ensures { IfOk result (λ interests. interests.items ≡ self) }
+    {
+        let mut interests = Vec::new(alloc);
+        for (expr, options) in self.asked {
+            interests.push(RemoteInterest::new(InterestMode::CurrentFuture, options, expr))?;
         }
+        Ok(interests)
     }
 }

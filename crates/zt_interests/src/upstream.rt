@@ -23,29 +23,6 @@ use zt_protocol::{InterestId, InterestOptions, Message};
 use zt_state::{AskState, Asker, FaceState, GatewayState, RemoteInterest};
 use zt_tokens::{FaceRule, find_face, say_at};
 
-// Whether the face holds such an interest.
-fn holds<K: Key>(f: &FaceState<K>, interest: &RemoteInterest<K>) -> bool
-    ensures { result ≡ list_any (λ row. asks_same K.cmp K.matching interest.now row.1) f.now.held }
-{
-    f.held().iter().any(|(_, held)| interest.asks_same(held))
-}
-
-// Whether the face, to the south, holds such an interest.
-fn holds_south<K: Key>(f: &FaceState<K>, interest: &RemoteInterest<K>) -> bool
-    ensures { result ≡ (not (is_north f.now.region)
-        && list_any (λ row. asks_same K.cmp K.matching interest.now row.1) f.now.held) }
-{
-    !is_north(f) && holds(f, interest)
-}
-
-// Whether some south-bound face holds such an interest, in any mode, asking each.
-#[tactic(auto, unfolding(zt_model::specs::Routing::is_held_south))]
-fn does_any_hold_south<K: Key>(g: &GatewayState<K>, interest: &RemoteInterest<K>) -> bool
-    ensures { result ≡ is_held_south K.cmp K.matching g.now interest.now }
-{
-    g.faces().any(|f| holds_south(f, interest))
-}
-
 // Whether the face holds such an interest under the id.
 fn holds_as<K: Key>(f: &FaceState<K>, id: InterestId, interest: &RemoteInterest<K>) -> bool
     ensures { result ≡ list_any (λ row. id == row.0
@@ -100,15 +77,14 @@ fn is_in_tokens<K: Key>(interest: &RemoteInterest<K>) -> bool
     interest.options().contains(InterestOptions::TOKENS)
 }
 
-// Whether some south-bound face holds such an interest, in any mode. One in tokens can be looked
-// up.
+// Whether some south-bound face holds such an interest, in any mode. A look-up.
 fn is_held_south<K: Key>(g: &GatewayState<K>, interest: &RemoteInterest<K>) -> bool
     ensures { result ≡ is_held_south K.cmp K.matching g.now interest.now }
 {
     if is_in_tokens(interest) {
         is_one_held_as(g, interest, g.interests_in(interest.expr()))
     } else {
-        does_any_hold_south(g, interest)
+        is_one_held_as(g, interest, g.others_in(interest.expr()))
     }
 }
 
@@ -142,43 +118,35 @@ fn end_same<K: Key>(
     end_all(f, ids.as_slice(), sends)
 }
 
-// Whether the face is to the north, and no south-bound face holds such an interest.
-fn ends_at<K: Key>(g: &GatewayState<K>, interest: &RemoteInterest<K>, f: &FaceState<K>) -> bool
-    ensures { result
-        ≡ (is_north f.now.region && not (is_held_south K.cmp K.matching g.now interest.now)) }
-{
-    is_north(f) && !is_held_south(g, interest)
-}
-
-// An interest that may end upstream.
+// An interest that ends at the faces to the north that were sent it.
 #[derive(Drop)]
 struct Ends<'a, K: Key>(&'a RemoteInterest<K>);
 
 impl<'a, K: Key> FaceRule<K> for Ends<'a, K> {
-    ghost use Rattle.zt_model.specs.Routing.{end_upstream_to};
+    ghost use Rattle.zt_interests.specs.Ended.{ended_at};
 
-    ghost given = { λ t g. end_upstream_to K.cmp K.matching g t.0.now };
+    ghost given = { λ t g. ended_at K.cmp K.matching t.0.now };
 
-    #[tactic(auto, unfolding(zt_model::specs::Routing::end_upstream_to))]
     fn say(
         &self,
         alloc: Global,
-        g: &GatewayState<K>,
+        _g: &GatewayState<K>,
         f: &FaceState<K>,
         sends: &mut Vec<(u32, Message<K>)>,
     ) -> Result<(), Memory> {
+        if !is_north(f) {
+            return Ok(());
+        }
         if !f.locals().has_same(self.0) {
             return Ok(());
         }
-        if ends_at(g, self.0, f) {
-            end_same(alloc, self.0, f, sends)?;
-        }
+        end_same(alloc, self.0, f, sends)?;
         Ok(())
     }
 }
 
 /// An interest ends upstream when no south-bound face holds it any more: Zenoh's
-/// `route_interest_final`.
+/// `route_interest_final`. Where there is no face to the north this isn't asked.
 pub fn end_upstream<K: Key>(
     alloc: Global,
     g: &GatewayState<K>,
@@ -187,7 +155,14 @@ pub fn end_upstream<K: Key>(
     ensures { IfOk result (λ sends. sends.items
         ≡ end_upstream K.cmp K.matching interest.now g.now) }
 {
-    say_at(alloc, g, g.north(), &Ends(interest))
+    let north = g.north();
+    if north.is_empty() {
+        return Ok(Vec::new(alloc));
+    }
+    if is_held_south(g, interest) {
+        return Ok(Vec::new(alloc));
+    }
+    say_at(alloc, g, north, &Ends(interest))
 }
 
 // Whether the pending stands: its face is open, and it is neither finalised nor expired.

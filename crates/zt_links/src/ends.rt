@@ -10,7 +10,7 @@ use crate::linking::{climbs_to, has_one_north};
 use zt_fabric_state::{FabricState, NodeState};
 use zt_hats::hat_of;
 use zt_keys::{Key, Memory};
-use zt_refusals::{is_north_taken, is_region_of};
+use zt_refusals::{has_region, is_north_taken};
 use zt_region::{Bound, Region, RegionError};
 use zt_state::GatewayState;
 
@@ -24,7 +24,7 @@ pub(crate) fn names_no_region<K: Key>(
 {
     let rows = node.rows()?;
     match answer {
-        Ok((region, _)) => Ok(!is_region_of(rows.regions(), *region)),
+        Ok((region, _)) => Ok(!has_region(rows, *region)),
         Err(_) => Ok(false),
     }
 }

@@ -1,3 +1,5 @@
+mod Listed
 mod Numbers
 mod Pairs
-mod Regions
+mod RegionOrder
+mod Searched

@@ -1,16 +1,14 @@
 -- Pairs of regions in order, each once, and a search among them.
 use Rattle.std.proofs.Common.{◌≡◌, ℕ, zero, suc, ◌<◌, ◌&&◌, ◌||◌, Bool, true, false, List, [], ◌∷◌, length, get_or, nat_eq, refl, subst, sym, ap, arith, ◌∙◌}
-use Rattle.std.proofs.Common.{Result, Ok, Err, add-one, ap₂, is_ok, ⊎_elim}
-use Rattle.std.proofs.lemmas.Bool.{and_parts, cases_lt, false≢true}
-use Rattle.std.proofs.lemmas.List.Folds.{list_any_at, list_any_none}
+use Rattle.std.proofs.Common.{Result, add-one, ap₂, is_ok}
+use Rattle.std.proofs.lemmas.Bool.{and_parts, false≢true}
 use Rattle.std.proofs.lemmas.List.Kept.{IsStrictlySortedBy-dedup}
-use Rattle.std.proofs.lemmas.List.Sorted.{list_any-IsPermutation, searchable_from_sorted}
+use Rattle.std.proofs.lemmas.List.Sorted.{list_any-IsPermutation}
 use Rattle.std.specs.Cmp.{IsTotalOrder, on_total, then_total}
 use Rattle.std.specs.List.{dedup, dedup_from, list_any}
 use Rattle.std.specs.List.Sorted.{IsBinarySearchResult, IsPermutation, IsSearchInRange, IsSorted, IsStrictlySortedBy}
 use Rattle.std.specs.Ordering.{is_eq, is_lt, ordering_reverse}
-use Rattle.std.specs.declared.cmp.Ordering.{Ordering}
-use Rattle.std.specs.declared.cmp.Ordering.TheVariants.{Less, Equal, Greater}
+use Rattle.std.specs.declared.cmp.Ordering.TheVariants.{Less}
 use Rattle.zt_keys.specs.Test.{by_test}
 use Rattle.zt_region.specs.Admission.{is_pair}
 use Rattle.zt_region.specs.Region.{region_eq, region_eq-refl, region_eq-same, whatami_eq}
@@ -23,7 +21,8 @@ use Rattle.zt_region.specs.declared.region.Region.TheVariants.{North, Local, Sou
 use Rattle.zt_region.specs.declared.region.WhatAmI.{WhatAmI}
 use Rattle.zt_region.specs.declared.region.WhatAmI.TheVariants.{Router, Peer, Client}
 use Rattle.zt_lookups.specs.Refused.{ArePairsOf, pair_cmp}
-use Rattle.zt_lookups.proofs.Regions.{is_eq-then, region_cmp-order, region_order_eq}
+use Rattle.zt_lookups.proofs.Searched.{is_found}
+use Rattle.zt_lookups.proofs.RegionOrder.{is_eq-then, region_cmp-order, region_order_eq}
 
 abbrev Pairs : Type 0
 Pairs = List (Region × Region)
@@ -34,7 +33,7 @@ region_total = total-law
 pair_total : IsTotalOrder pair_cmp
 pair_total = then_total (on_total (λ p. p.0) region_total) (on_total (λ p. p.1) region_total)
 
-region_sym : (a b : Region) → region_eq a b ≡ region_eq b a
+pub region_sym : (a b : Region) → region_eq a b ≡ region_eq b a
 region_sym a b =
     by_test (region_eq a b)
     (λ t. t ∙ sym (subst (λ r. region_eq b r ≡ true) (sym (region_eq-same a b t)) (region_eq-refl b)))
@@ -43,7 +42,7 @@ region_sym a b =
     (λ t. absurd (false≢true (sym f ∙ subst (λ r. region_eq a r ≡ true) (sym (region_eq-same b a t)) (region_eq-refl a))))
     (λ g. f ∙ sym g))
 
-region_at : (a b : Region) → is_eq (ghosts.cmp a b) ≡ region_eq b a
+pub region_at : (a b : Region) → is_eq (ghosts.cmp a b) ≡ region_eq b a
 region_at a b = ap is_eq (region_cmp-order a b) ∙ region_order_eq a b ∙ region_sym a b
 
 -- a pair is the one that it ties with
@@ -131,24 +130,4 @@ pairs_once listed sorted permuted rises = record {
 -- a search by halves finds a pair where it is among pairs in order
 pub pair_found : (src dst : Region) (xs : Pairs) (r : Result ℕ ℕ) → IsSorted pair_cmp xs → IsSearchInRange r (length xs)
     → IsBinarySearchResult (λ y. pair_cmp y (src, dst)) xs r → is_ok r ≡ list_any (is_pair src dst) xs
-pair_found src dst xs (Ok i) sorted within found =
-    let d : Region × Region = (src, dst) in
-    sym (list_any_at (is_pair src dst) xs i d within (pair_at src dst (get_or xs i d) ∙ turned (pair_total.antisymm d (get_or xs i d)) (found d)))
-  where
-    turned : {o p : Ordering} → o ≡ ordering_reverse p → p ≡ Equal → is_eq o ≡ true
-    turned is equal = cc
-pair_found src dst xs (Err i) sorted within found =
-    let q : Region × Region = (src, dst) in
-    let parts = found (searchable_from_sorted pair_total (λ y. y) xs q sorted) in
-    sym (list_any_none (is_pair src dst) xs (λ k d lt.
-    pair_at src dst (get_or xs k d)
-    ∙ ⊎_elim
-    (λ below. other (pair_total.antisymm q (get_or xs k d)) (parts.0 k d (omega arith) below))
-    (λ above. other_greater (pair_total.antisymm q (get_or xs k d)) (parts.1 k d above lt))
-    (cases_lt k i)))
-  where
-    other : {o p : Ordering} → o ≡ ordering_reverse p → p ≡ Less → is_eq o ≡ false
-    other is less = cc
-
-    other_greater : {o p : Ordering} → o ≡ ordering_reverse p → p ≡ Greater → is_eq o ≡ false
-    other_greater is greater = cc
+pair_found src dst = is_found pair_cmp pair_total (is_pair src dst) (src, dst) (pair_at src dst)

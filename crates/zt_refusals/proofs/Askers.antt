@@ -29,7 +29,7 @@ zero_add : (k : ℕ) → 0 + k ≡ k
 zero_add k = omega arith
 
 -- one that passes is among those that do
-any_of_found : {A : Type 0} (p q : A → Bool) (xs : List A) (x : A) → first_where p xs ≡ Some x → q x ≡ true → list_any q xs ≡ true
+pub any_of_found : {A : Type 0} (p q : A → Bool) (xs : List A) (x : A) → first_where p xs ≡ Some x → q x ≡ true → list_any q xs ≡ true
 any_of_found p q [] x is t = cc
 any_of_found p q (y ∷ ys) x is t =
     by_test (p y)

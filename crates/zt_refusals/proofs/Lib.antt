@@ -1,3 +1,4 @@
+mod Answering
 mod Askers
 pub mod LeftIds
 mod Listing

@@ -47,6 +47,12 @@ module _ {K : Type 0} where
     any_same [] are = refl
     any_same (f ∷ fs) are = let rest = any_same fs are.1 in λ i. lacks_same f are.0 i || rest i
 
+    -- the one that is found too
+    pub one_same : (p : Face K → Bool) (fs : List (Face K)) → AllByRecursion (λ f. id_of f.number pairs ≡ told_id cmp e f.told) fs
+        → is_some_and (first_where p fs) (lacks_among cmp matching n interest e g pairs) ≡ is_some_and (first_where p fs) (lacks_for_token cmp matching n interest e g)
+    one_same p [] are = refl
+    one_same p (f ∷ fs) are = by_test (p f) (λ t. rw t (lacks_same f are.0)) (λ t. rw t (one_same p fs are.1))
+
   module _ (cmp : K → K → Ordering) (matching : K → K → Bool) (n : ℕ) (e : K) (from : Face K) (g : Rows K) (is : find_face n g ≡ Some from) (pairs : List (ℕ × ℕ)) where
     no_ids : (f : Face K) → seeks matching g.mode f e ≡ false → ids_among cmp matching n None e g pairs f ≡ 0
     no_ids f h =

@@ -15,4 +15,4 @@ mod undeclaring;
 
 pub use making::cause_of_making;
 pub use refusing::{cause_of, spends_ids};
-pub use regions::{is_north_taken, is_region_of};
+pub use regions::{has_region, is_north_taken};

@@ -7,7 +7,7 @@ ghost use Rattle.zt_model.specs.Routing.{face_opened, opened};
 ghost use Rattle.zt_protocol.specs.Plain.{NewSession, NewTransport};
 
 use crate::dictionary::are_above;
-use crate::regions::{are_numbers_spent, is_north_taken, is_region_of};
+use crate::regions::{are_numbers_spent, has_region, is_north_taken};
 use crate::spending::left_ids;
 use std::alloc::Global;
 use zt_hats::hat_of;
@@ -87,7 +87,7 @@ pub(crate) fn transport_cause<K: Key>(
     ensures { IfOk result (λ cause. cause
         ≡ cause_of K.cmp K.matching (NewTransport zid whatami region bound first) g.now) }
 {
-    if !is_region_of(g.regions(), region) {
+    if !has_region(g, region) {
         return Ok(Some(Refusal::NoSuchRegion));
     }
     if !hat_of(g.mode(), region).fits(region, whatami, bound) {

@@ -27,6 +27,16 @@ pub fn is_region_of(listed: &[Region], region: Region) -> bool
     }
 }
 
+/// Whether the gateway has the region. A look-up.
+pub fn has_region<K: Key>(g: &GatewayState<K>, region: Region) -> bool
+    ensures { result ≡ is_region_of g.now.regions region }
+{
+    match region {
+        Region::North | Region::Local => true,
+        Region::South { .. } => g.lists(region),
+    }
+}
+
 // Whether the face is of the region.
 fn is_in<K: Key>(f: &FaceState<K>, region: Region) -> bool
     ensures { result ≡ region_eq f.now.region region }

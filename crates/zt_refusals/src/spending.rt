@@ -10,7 +10,7 @@ ghost use Rattle.zt_model.specs.Parts.{find_face};
 ghost use Rattle.zt_model.specs.Refusals.{left_ids};
 ghost use Rattle.zt_model.specs.Rows.{Face};
 ghost use Rattle.zt_model.specs.Says.{row_of};
-ghost use Rattle.zt_model.specs.Telling.{answered_expressions, is_answered_by};
+ghost use Rattle.zt_model.specs.Telling.{answered_expressions, is_answered_by, registers};
 ghost use Rattle.zt_model.specs.Visible.{keeps};
 ghost use Rattle.zt_token_index.specs.Told.{AreRising};
 
@@ -21,7 +21,7 @@ use zt_interests::is_target;
 use zt_keys::{Key, Memory};
 use zt_protocol::{InterestId, InterestMode, InterestOptions, TokenId};
 use zt_region::Region;
-use zt_state::{AskState, FaceState, GatewayState};
+use zt_state::{AskState, Asker, FaceState, GatewayState};
 use zt_token_index::id_in;
 use zt_tokens::{answered_expressions, find_face, is_answered_by, is_routed, is_told};
 
@@ -117,6 +117,7 @@ fn lacks_token_id<K: Key>(
 fn lacks_token_id_at<K: Key>(
     g: &GatewayState<K>,
     face: u32,
+    interest: Option<InterestId>,
     expr: &K,
     from: &FaceState<K>,
     told: &[(u32, TokenId)],
@@ -125,11 +126,11 @@ fn lacks_token_id_at<K: Key>(
     requires found { find_face face g.now ≡ Some from.now }
     requires in_order { AreRising told.now }
     ensures { result ≡ is_some_and (find_face number g.now)
-        (lacks_among K.cmp K.matching face None expr.now g.now told.now) }
+        (lacks_among K.cmp K.matching face interest expr.now g.now told.now) }
 {
     match find_face(g, number) {
         None => false,
-        Some(f) => lacks_token_id(g, face, None, expr, from, told, f),
+        Some(f) => lacks_token_id(g, face, interest, expr, from, told, f),
     }
 }
 
@@ -147,7 +148,7 @@ fn do_numbers_lack<K: Key>(
     ensures { result ≡ list_any (λ n. is_some_and (find_face n g.now)
         (lacks_among K.cmp K.matching face None expr.now g.now told.now)) numbers.now }
 {
-    numbers.iter().any(|number| lacks_token_id_at(g, face, expr, from, told, *number))
+    numbers.iter().any(|number| lacks_token_id_at(g, face, None, expr, from, told, *number))
 }
 
 // Whether the token needs an id of some face that has none left, asking each. `told` has the faces
@@ -205,6 +206,68 @@ fn do_seekers_lack<K: Key>(
     }
 }
 
+// Whether a token that is declared for an interest needs an id of some face that has none left,
+// apart from the face whose ask it answers.
+fn do_others_lack<K: Key>(
+    alloc: Global,
+    g: &GatewayState<K>,
+    face: u32,
+    id: InterestId,
+    expr: &K,
+    from: &FaceState<K>,
+) -> Result<bool, Memory>
+    requires { find_face face g.now ≡ Some from.now }
+    ensures { IfOk result (λ lack. lack ≡ (registers from.now (Some id)
+        && list_any (lacks_for_token K.cmp K.matching face None expr.now g.now) g.now.faces)) }
+{
+    if !registers(from, Some(id)) {
+        return Ok(false);
+    }
+    do_seekers_lack(alloc, g, face, expr, from)
+}
+
+// Whether a token needs an id of the face of this number, which has none left.
+fn does_asker_lack<K: Key>(
+    g: &GatewayState<K>,
+    face: u32,
+    id: InterestId,
+    expr: &K,
+    from: &FaceState<K>,
+    asker: u32,
+) -> bool
+    requires { find_face face g.now ≡ Some from.now }
+    ensures { result ≡ is_some_and (find_face asker g.now)
+        (lacks_for_token K.cmp K.matching face (Some id) expr.now g.now) }
+{
+    lacks_token_id_at(g, face, Some(id), expr, from, g.told_at(expr), asker)
+}
+
+// Whether a token that is declared for an interest needs an id of some face that has none left. It
+// is looked up whose ask it answers.
+fn do_answers_spend<K: Key>(
+    alloc: Global,
+    g: &GatewayState<K>,
+    face: u32,
+    id: InterestId,
+    expr: &K,
+    from: &FaceState<K>,
+) -> Result<bool, Memory>
+    requires { find_face face g.now ≡ Some from.now }
+    ensures { IfOk result (λ lack. lack
+        ≡ list_any (lacks_for_token K.cmp K.matching face (Some id) expr.now g.now) g.now.faces) }
+{
+    match g.asker(face, id) {
+        Asker::Nobody => do_others_lack(alloc, g, face, id, expr, from),
+        Asker::One { face: asker, .. } => {
+            if does_asker_lack(g, face, id, expr, from, asker) {
+                return Ok(true);
+            }
+            do_others_lack(alloc, g, face, id, expr, from)
+        }
+        Asker::Several => Ok(does_any_lack(g, face, Some(id), expr, from)),
+    }
+}
+
 /// Whether a token that a face declares needs an id of some face that has none left. Nearly always
 /// each face has one, and then none is looked up.
 pub(crate) fn do_tokens_spend<K: Key>(
@@ -225,7 +288,7 @@ pub(crate) fn do_tokens_spend<K: Key>(
     };
     match interest {
         None => do_seekers_lack(alloc, g, face, expr, from),
-        Some(_) => Ok(does_any_lack(g, face, interest, expr, from)),
+        Some(id) => do_answers_spend(alloc, g, face, id, expr, from),
     }
 }
 

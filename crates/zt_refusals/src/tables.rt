@@ -11,7 +11,7 @@ ghost use Rattle.zt_refusals.specs.Unlisted.{names_others};
 ghost use Rattle.zt_link_state.specs.Listed.{is_among};
 
 use crate::dictionary::is_filled_by_entities;
-use crate::regions::is_region_of;
+use crate::regions::has_region;
 use std::alloc::Global;
 use std::collections::HashMap;
 use zt_hats::hat_of;
@@ -86,7 +86,7 @@ fn lacks_region<K: Key>(g: &GatewayState<K>, region: Region) -> bool
         ≡ (not (is_region_of g.now.regions region)
         || not (hat_of g.now.mode region).goes_by_trees) }
 {
-    !is_region_of(g.regions(), region) || !hat_of(g.mode(), region).goes_by_trees()
+    !has_region(g, region) || !hat_of(g.mode(), region).goes_by_trees()
 }
 
 // Whether no open face has the number.

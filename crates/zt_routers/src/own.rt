@@ -204,7 +204,7 @@ pub fn newly_shown<K: Key>(
 {
     let mut regions = Vec::new(alloc);
     add_newly_shown(g, source, expr, Region::North, &mut regions)?;
-    for region in g.regions() {
+    for region in g.regions_of_routers() {
         add_newly_shown(g, source, expr, *region, &mut regions)?;
     }
     Ok(regions)

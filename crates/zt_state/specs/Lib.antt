@@ -1,4 +1,5 @@
 pub mod Indexed
 pub mod Keeps
 pub mod OwnRows
+pub mod Pendings
 pub mod Told

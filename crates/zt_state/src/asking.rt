@@ -31,6 +31,8 @@ impl<K: Key> FaceChange<K> for Unhold {
 
     ghost keeps_asks = { λ _ _ _ known. known };
 
+    ghost keeps_pendings = { λ _ _ _ _ waits. waits };
+
     fn change(&self, f: &mut FaceState<K>) {
         f.unhold(self.0);
     }

@@ -30,7 +30,7 @@ impl<K: Key> GatewayState<K> {
         Ok(GatewayState {
             mode: self.mode,
             zid: self.zid,
-            regions: self.regions.to_vec(alloc)?,
+            regions: self.regions.copy(alloc)?,
             admission: self.admission.copy(alloc)?,
             timeout: self.timeout,
             moment: self.moment,

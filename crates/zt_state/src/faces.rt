@@ -17,6 +17,7 @@ struct EndPending(InterestId);
 impl<K: Key> FaceChange<K> for EndPending {
     ghost use Rattle.std.specs.Prelude.{refl};
     ghost use Rattle.zt_model.specs.Routing.{ended};
+    ghost use Rattle.zt_state.specs.Pendings.{ended-keeps};
 
     ghost changed = { λ c. ended c.0 };
 
@@ -27,6 +28,8 @@ impl<K: Key> FaceChange<K> for EndPending {
     ghost keeps_next = { λ _ _. refl };
 
     ghost keeps_asks = { λ _ _ _ known. known };
+
+    ghost keeps_pendings = { λ c f. ended-keeps c.0 f };
 
     fn change(&self, f: &mut FaceState<K>) {
         f.end_pending(self.0);
@@ -57,6 +60,8 @@ impl<K: Key> FaceChange<K> for FinaliseInitial {
 
     ghost keeps_asks = { λ _ _ _ known. known };
 
+    ghost keeps_pendings = { λ _ _ _ _ waits. waits };
+
     fn change(&self, f: &mut FaceState<K>) {
         f.finalise_initial(self.0);
     }
@@ -85,6 +90,8 @@ impl<K: Key> FaceChange<K> for DropAsks {
     ghost keeps_next = { λ _ _. refl };
 
     ghost keeps_asks = { λ _ _ _ _. tt };
+
+    ghost keeps_pendings = { λ _ _ _ _ waits. waits };
 
     fn change(&self, f: &mut FaceState<K>) {
         f.drop_asks();

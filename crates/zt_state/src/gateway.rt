@@ -1,6 +1,6 @@
 // A gateway with its faces.
 ghost use Rattle.std.specs.Prelude.{◌≡◌, ◌&&◌, [], count_by, filter, map, IfNone, IfOk, IfSome};
-ghost use Rattle.std.specs.List.{flat_map};
+ghost use Rattle.std.specs.List.{flat_map, list_any};
 ghost use Rattle.std.specs.Option.{option_copied};
 ghost use Rattle.zt_faces.specs.Asked.{IsAskerOf};
 ghost use Rattle.zt_faces.specs.Rising.{AreUpTo, IsRising};
@@ -12,7 +12,8 @@ ghost use Rattle.zt_model.specs.Visible.{live_rows};
 ghost use Rattle.zt_model.specs.Wants.{seeks};
 ghost use Rattle.zt_indexes.specs.Rows.{AreCountsOf, is_row_at};
 ghost use Rattle.zt_interest_index.specs.Holders.{HasAllIn};
-ghost use Rattle.zt_token_index.specs.Seekers.{token_rows};
+ghost use Rattle.zt_lookups.specs.Listed.{may_go_by_trees};
+ghost use Rattle.zt_token_index.specs.Seekers.{other_rows, token_rows};
 ghost use Rattle.zt_token_index.specs.Retold.{told_id_at};
 ghost use Rattle.zt_region.specs.Admission.{admits};
 ghost use Rattle.zt_region.specs.Region.{is_north, region_eq, zid_eq};
@@ -27,7 +28,7 @@ use zt_faces::{Asker, Faces, OpenFaces};
 use zt_indexes::LiveCounts;
 use zt_keys::{Key, Memory};
 use zt_link_state::{KeptTable, RoutedTokens};
-use zt_lookups::{Dictionary, RefusedPairs};
+use zt_lookups::{Dictionary, ListedRegions, RefusedPairs};
 use zt_protocol::InterestId;
 use zt_region::{Admission, Region, WhatAmI, Zid};
 use zt_token_index::Seekers;
@@ -39,7 +40,7 @@ use zt_token_index::Seekers;
 pub struct GatewayState<K: Key> {
     pub(crate) mode: WhatAmI,
     pub(crate) zid: Zid,
-    pub(crate) regions: Vec<Region>,
+    pub(crate) regions: ListedRegions,
     pub(crate) admission: RefusedPairs,
     pub(crate) timeout: u64,
     pub(crate) moment: u64,
@@ -61,7 +62,7 @@ impl<K: Key> Model for GatewayState<K> {
     ghost view = { λ g. record {
       mode = g.mode;
       zid = g.zid;
-      regions = g.regions.items;
+      regions = g.regions;
       refused = g.admission;
       timeout = g.timeout;
       moment = g.moment;
@@ -91,7 +92,7 @@ impl<K: Key> GatewayState<K> {
         GatewayState {
             mode,
             zid,
-            regions,
+            regions: ListedRegions::new(alloc, regions),
             admission: RefusedPairs::new(alloc, admission),
             timeout,
             moment: 0,
@@ -123,7 +124,22 @@ impl<K: Key> GatewayState<K> {
     pub fn regions(&self) -> &[Region]
         ensures { result.now ≡ self.now.regions }
     {
-        &self.regions
+        self.regions.as_slice()
+    }
+
+    /// Whether the south region is listed. A look-up.
+    pub fn lists(&self, region: Region) -> bool
+        ensures { result ≡ list_any (region_eq region) self.now.regions }
+    {
+        self.regions.has(region)
+    }
+
+    /// Listed regions among which are all those that can be router regions, in the order listed,
+    /// and mostly no others.
+    pub fn regions_of_routers(&self) -> &[Region]
+        ensures { filter may_go_by_trees result.now ≡ filter may_go_by_trees self.now.regions }
+    {
+        self.regions.of_routers()
     }
 
     /// Whether tokens of `src` may be told to faces of `dst`: whether the pair isn't refused. A
@@ -262,6 +278,16 @@ impl<K: Key> GatewayState<K> {
         ensures all { HasAllIn about.now (flat_map token_rows self.now.faces) result.now }
     {
         self.seekers.interests_in(about)
+    }
+
+    /// The interests in the expression, or in all where it is `None`, that aren't in tokens, each
+    /// under its face and id, and maybe interests in other expressions among them. A look-up, which
+    /// takes no memory.
+    pub fn others_in(&self, about: &Option<K>) -> &[((u32, u32), Option<K>)]
+        ensures rising { IsRising (λ f. f.number) self.now.faces }
+        ensures all { HasAllIn about.now (flat_map other_rows self.now.faces) result.now }
+    {
+        self.seekers.others_in(about)
     }
 
     /// The open face of this number. Found at once where none below it was closed, else by binary

@@ -2,6 +2,7 @@
 ghost use Rattle.std.specs.Prelude.{◌≡◌, ◌==◌, ◌∷◌, [], if◌then◌else◌, map, OnOk};
 ghost use Rattle.zt_model.specs.Hearing.{heard, rows_heard};
 ghost use Rattle.zt_model.specs.Parts.{with_face};
+ghost use Rattle.zt_state.specs.Pendings.{awaits_final};
 ghost use Rattle.zt_token_index.specs.Seekers.{AreSeekers};
 
 use crate::changes::empty;
@@ -12,6 +13,18 @@ use zt_faces::{FaceAddition, Faces};
 use zt_keys::{Key, Memory};
 use zt_protocol::Message;
 use zt_token_index::Seekers;
+
+// The interest that a message is, if it asks for what is there now: from this moment on it waits for
+// its final.
+#[inline(always)]
+fn awaited_by<K: Key>(moment: u64, message: &Message<K>) -> Option<(u64, u32)>
+    ensures { result ≡ awaits_final moment message.now }
+{
+    match message {
+        Message::Interest { id, mode, .. } => mode.is_current().then_some((moment, *id)),
+        _ => None,
+    }
+}
 
 // A message that is sent to a face at a moment. Of one that says of an expression that it is gone,
 // `known` is the id under which the face was told the expression, if it was.
@@ -25,14 +38,23 @@ struct Hears<'a, K: Key> {
 impl<'a, K: Key> FaceAddition<K> for Hears<'a, K> {
     ghost use Rattle.zt_face.specs.Told.{heard_known};
     ghost use Rattle.zt_state.specs.Keeps.{known-keeps, known-keeps-asks, known-keeps-router};
+    ghost use Rattle.zt_state.specs.Pendings.{awaits_final, known-awaits};
 
     ghost added = { λ c. heard_known K.cmp c.moment c.message.now c.known };
+
+    ghost awaited = { λ c. awaits_final c.moment c.message.now };
 
     ghost keeps_number = { λ c f. (known-keeps K.cmp c.moment c.message.now c.known f).number };
 
     ghost keeps_router = { λ c f. known-keeps-router K.cmp c.moment c.message.now c.known f };
 
     ghost keeps_asks = { λ c f. known-keeps-asks K.cmp c.moment c.message.now c.known f };
+
+    ghost awaits_only = { λ c f. known-awaits K.cmp c.moment c.message.now c.known f };
+
+    fn awaits(&self) -> Option<(u64, u32)> {
+        awaited_by(self.moment, self.message)
+    }
 
     fn add(&self, alloc: Global, f: &mut FaceState<K>) -> Result<(), Memory> {
         f.hear(alloc, self.moment, self.message, self.known)

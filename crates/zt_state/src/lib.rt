@@ -12,6 +12,7 @@ mod live;
 mod numbers;
 mod opening;
 mod routed;
+mod timing;
 
 pub use gateway::GatewayState;
 pub use zt_face::{

@@ -32,16 +32,24 @@ struct Registers<'a, K: Key> {
 }
 
 impl<'a, K: Key> FaceAddition<K> for Registers<'a, K> {
-    ghost use Rattle.std.specs.Prelude.{refl};
+    ghost use Rattle.std.specs.Prelude.{None, refl};
     ghost use Rattle.zt_model.specs.Telling.{registered};
 
     ghost added = { λ c. registered c.id c.expr.now };
+
+    ghost awaited = { λ _. None };
 
     ghost keeps_number = { λ _ _. refl };
 
     ghost keeps_router = { λ _ _. record { region = refl; zid = refl } };
 
     ghost keeps_asks = { λ _ _ _ known. known };
+
+    ghost awaits_only = { λ _ _ _ _ waits. waits };
+
+    fn awaits(&self) -> Option<(u64, u32)> {
+        None
+    }
 
     fn add(&self, alloc: Global, f: &mut FaceState<K>) -> Result<(), Memory> {
         f.register(alloc, self.id, self.expr)
@@ -65,6 +73,8 @@ impl<K: Key> FaceChange<K> for Unregisters {
     ghost keeps_next = { λ _ _. refl };
 
     ghost keeps_asks = { λ _ _ _ known. known };
+
+    ghost keeps_pendings = { λ _ _ _ _ waits. waits };
 
     fn change(&self, f: &mut FaceState<K>) {
         f.unregister(self.0);

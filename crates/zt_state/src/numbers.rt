@@ -53,16 +53,24 @@ struct SetsEntities<'a, K: Key> {
 }
 
 impl<'a, K: Key> FaceAddition<K> for SetsEntities<'a, K> {
-    ghost use Rattle.std.specs.Prelude.{refl};
+    ghost use Rattle.std.specs.Prelude.{None, refl};
 
     ghost added = { λ c f.
         record f { subscribers = c.subscribers.now; queryables = c.queryables.now } };
+
+    ghost awaited = { λ _. None };
 
     ghost keeps_number = { λ _ _. refl };
 
     ghost keeps_router = { λ _ _. record { region = refl; zid = refl } };
 
     ghost keeps_asks = { λ _ _ _ known. known };
+
+    ghost awaits_only = { λ _ _ _ _ waits. waits };
+
+    fn awaits(&self) -> Option<(u64, u32)> {
+        None
+    }
 
     fn add(&self, alloc: Global, f: &mut FaceState<K>) -> Result<(), Memory> {
         f.set_entities(alloc, self.subscribers, self.queryables)

@@ -14,8 +14,8 @@ use Rattle.zt_interest_index.specs.Holdings.{asks_from, is_about}
 use Rattle.zt_model.specs.Rows.{ById, Face, InterestRow}
 use Rattle.zt_model.specs.Wants as model
 use Rattle.zt_model.specs.Wants.{wants}
-use Rattle.zt_token_index.specs.Seekers.{may_seek, token_rows, token_rows_of}
-use Rattle.zt_token_index.proofs.Held.{any_tokens}
+use Rattle.zt_token_index.specs.Seekers.{in_tokens, may_seek, rows_of, token_rows}
+use Rattle.zt_token_index.proofs.Held.{any_rows}
 
 by_ordering : {G : Type 0} (r : Ordering) → (r ≡ Less → G) → (r ≡ Equal → G) → (r ≡ Greater → G) → G
 by_ordering Less less equal greater = less refl
@@ -128,8 +128,8 @@ module _ {K : Type 0} (matching : K → K → Bool) (e : K) where
   about_same None = refl
   about_same (Some k) = refl
 
-  held_asks : (n m : ℕ) (held : ById (InterestRow K)) → list_any (asks_from matching e n) (token_rows_of m held) ≡ ((n == m) && list_any (λ row. model.asks_token matching row.1 e) held)
-  held_asks n m held = any_tokens (asks_from matching e n) m held ∙ each held
+  held_asks : (n m : ℕ) (held : ById (InterestRow K)) → list_any (asks_from matching e n) (rows_of in_tokens m held) ≡ ((n == m) && list_any (λ row. model.asks_token matching row.1 e) held)
+  held_asks n m held = any_rows in_tokens (asks_from matching e n) m held ∙ each held
     where
       turned : (t a b c : Bool) → ((a && (t && b)) || (t && c)) ≡ (t && ((a && b) || c))
       turned true a b c = refl

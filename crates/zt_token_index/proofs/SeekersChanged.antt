@@ -29,7 +29,8 @@ use Rattle.zt_interest_index.specs.Index.{Interests}
 use Rattle.zt_model.specs.Hearing.{put_if, untold}
 use Rattle.zt_model.specs.Parts.{told_id}
 use Rattle.zt_model.specs.Routing.{asked_as, unheld}
-use Rattle.zt_token_index.specs.Seekers.{AreSeekers, IsKnown, IsOnlyOne, Leaves, Reseeks, Seeking, TokenRow, may_seek, no_seekers, north_numbers, token_rows, token_rows_of}
+use Rattle.zt_token_index.specs.Seekers.{AreSeekers, DropsAll, DropsOf, IsKnown, IsOnlyOne, Leaves, PutsOf, Reseeks, Seeking}
+use Rattle.zt_token_index.specs.Seekers.{in_others, in_tokens, kind_rows, may_seek, no_seekers, north_numbers, rows_of, token_rows}
 use Rattle.zt_token_index.specs.Told.{id_of, told_at}
 use Rattle.zt_token_index.specs.Retold.{IsRetold, gone_id}
 use Rattle.zt_token_index.proofs.AmongFaces.{all-changed, all-kept, all-less, all-more, at-changed, at-kept, at-less, at-more, at-own, of-one}
@@ -71,20 +72,21 @@ module _ {K : Type 0} where
       ap (map (λ (x : Face K). x.number)) (filter-append (λ (x : Face K). is_north x.region) fs (f ∷ []))
       ∙ map-append (λ (x : Face K). x.number) (filter (λ x. is_north x.region) fs) (filter (λ x. is_north x.region) (f ∷ []))
 
-  rows_more : (fs : List (Face K)) (f : Face K) → f.held ≡ [] → flat_map token_rows (fs ++ f ∷ []) ≡ flat_map token_rows fs
-  rows_more [] f none = ap (λ (held : ById (InterestRow K)). token_rows_of f.number held ++ []) none
-  rows_more (x ∷ xs) f none = ap (λ rows. token_rows x ++ rows) (rows_more xs f none)
+  rows_more : (kind : InterestRow K → Bool) (fs : List (Face K)) (f : Face K) → f.held ≡ [] → flat_map (kind_rows kind) (fs ++ f ∷ []) ≡ flat_map (kind_rows kind) fs
+  rows_more kind [] f none = ap (λ (held : ById (InterestRow K)). rows_of kind f.number held ++ []) none
+  rows_more kind (x ∷ xs) f none = ap (λ rows. kind_rows kind x ++ rows) (rows_more kind xs f none)
 
   module _ (cmp : K → K → Ordering) (anchored : Anchor → K → Option ℕ) where
     pub seekers-none : AreSeekers cmp anchored no_seekers []
-    seekers-none = record { north = refl; index = indexed-none cmp; told = λ e n. refl; apart = tt }
+    seekers-none = record { north = refl; index = indexed-none cmp; others = indexed-none cmp; told = λ e n. refl; apart = tt }
 
     -- a change that keeps the number, the region, what the face holds and what it was told
     pub seekers-quiet : (n : ℕ) (change : Face K → Face K) → ((x : Face K) → (change x).number ≡ x.number) → ((x : Face K) → (change x).region ≡ x.region) → ((x : Face K) → (change x).held ≡ x.held) → ((x : Face K) → (change x).told ≡ x.told)
         → (seeking : Seeking K) (fs : List (Face K)) → AreSeekers cmp anchored seeking fs → AreSeekers cmp anchored seeking (map (λ x. if n == x.number then change x else x) fs)
     seekers-quiet n change number region held told seeking fs are = record {
       north = are.north ∙ sym (north_kept n change number region fs);
-      index = subst (IsIndexOf cmp seeking.index) (sym (kept n change number held fs)) are.index;
+      index = subst (IsIndexOf cmp seeking.index) (sym (kept in_tokens n change number held fs)) are.index;
+      others = subst (IsIndexOf cmp seeking.others) (sym (kept in_others n change number held fs)) are.others;
       told = λ e m. are.told e m ∙ at-kept cmp e n change number told m fs;
       apart = all-kept (λ (x : Face K). AreApart cmp x.told) n change (λ x apart. subst (AreApart cmp) (sym (told x)) apart) fs are.apart;
     }
@@ -94,42 +96,50 @@ module _ {K : Type 0} where
         → AreSeekers cmp anchored (record seeking { north = seeking.north ++ north_numbers (f ∷ []) }) (fs ++ f ∷ [])
     seekers-opened f none untold seeking fs are = record {
       north = ap (λ ns. ns ++ north_numbers (f ∷ [])) are.north ∙ sym (north_more fs f);
-      index = subst (IsIndexOf cmp seeking.index) (sym (rows_more fs f none)) are.index;
+      index = subst (IsIndexOf cmp seeking.index) (sym (rows_more in_tokens fs f none)) are.index;
+      others = subst (IsIndexOf cmp seeking.others) (sym (rows_more in_others fs f none)) are.others;
       told = λ e m. are.told e m ∙ at-more cmp e f untold m fs;
       apart = all-more (λ (x : Face K). AreApart cmp x.told) fs f are.apart (subst (AreApart cmp) (sym untold) tt);
     }
 
     -- the interest of an id goes
     pub seekers-unheld : (f : Face K) (id : ℕ) (old new : Seeking K) → new.north ≡ old.north → new.told ≡ old.told
-        → ((fs : List (Face K)) → IsOnlyOne f fs → IsIndexOf cmp old.index (flat_map token_rows fs) → IsIndexOf cmp new.index (filter (λ row. not (is_of f.number id row)) (flat_map token_rows fs)))
-        → Reseeks cmp anchored f (unheld id) old new
-    seekers-unheld f id old new same still drops = record {
+        → DropsOf cmp in_tokens f id old.index new.index → DropsOf cmp in_others f id old.others new.others → Reseeks cmp anchored f (unheld id) old new
+    seekers-unheld f id old new same still drops drops_other = record {
       at = λ fs one are. record {
         north = same ∙ are.north ∙ sym (north_kept f.number (unheld id) (λ x. refl) (λ x. refl) fs);
-        index = subst (IsIndexOf cmp new.index) (dropped f.number id (unheld id) (λ x. refl) (λ x. refl) fs) (drops fs one are.index);
+        index = subst (IsIndexOf cmp new.index) (dropped in_tokens f.number id (unheld id) (λ x. refl) (λ x. refl) fs) (drops fs one are.index);
+        others = subst (IsIndexOf cmp new.others) (dropped in_others f.number id (unheld id) (λ x. refl) (λ x. refl) fs) (drops_other fs one are.others);
         told = λ e m. ap (λ told. id_of m (told_at cmp e told)) still ∙ are.told e m ∙ at-kept cmp e f.number (unheld id) (λ x. refl) (λ x. refl) m fs;
         apart = all-kept (λ (x : Face K). AreApart cmp x.told) f.number (unheld id) (λ x apart. apart) fs are.apart;
       };
     }
 
+    -- an index of a kind, where an interest comes in place of the one of its id
+    index-held : (kind : InterestRow K → Bool) (f : Face K) (id : ℕ) (i : InterestRow K) (change : Face K → Face K) → ((x : Face K) → (change x).number ≡ x.number) → ((x : Face K) → (change x).held ≡ put nat_cmp id i x.held)
+        → (old mid new : Interests K) → DropsOf cmp kind f id old mid → PutsOf cmp kind f.number id i mid new → (fs : List (Face K)) → IsOnlyOne f fs → AllByRecursion (λ x. (f.number == x.number) ≡ true → IsInOrder x.held) fs
+        → IsIndexOf cmp old (flat_map (kind_rows kind) fs) → IsIndexOf cmp new (flat_map (kind_rows kind) (map (λ x. if f.number == x.number then change x else x) fs))
+    index-held kind f id i change number held old mid new drops puts fs one ordered was =
+        index_alike cmp new (rows_of kind f.number ((id, i) ∷ []) ++ filter (λ row. not (is_of f.number id row)) (flat_map (kind_rows kind) fs)) (flat_map (kind_rows kind) (map (λ x. if f.number == x.number then change x else x) fs))
+        (λ test.
+        list_any-append test (rows_of kind f.number ((id, i) ∷ [])) (filter (λ row. not (is_of f.number id row)) (flat_map (kind_rows kind) fs))
+        ∙ ap (λ b. (b && list_any test (rows_of kind f.number ((id, i) ∷ []))) || list_any test (filter (λ row. not (is_of f.number id row)) (flat_map (kind_rows kind) fs))) (sym one.found)
+        ∙ sym (put_all kind test f.number id i change number held fs ordered))
+        (puts (filter (λ row. not (is_of f.number id row)) (flat_map (kind_rows kind) fs)) (drops fs one was))
+
     -- an interest comes in place of the one of its id
-    pub seekers-held : (f : Face K) (id : ℕ) (i : InterestRow K) (pendings : List (ℕ × ℕ)) → is_future i.mode ≡ true → IsInOrder f.held → (old : Seeking K) (mid : Interests K) (new : Seeking K) → new.north ≡ old.north → new.told ≡ old.told
-        → ((fs : List (Face K)) → IsOnlyOne f fs → IsIndexOf cmp old.index (flat_map token_rows fs) → IsIndexOf cmp mid (filter (λ row. not (is_of f.number id row)) (flat_map token_rows fs)))
-        → ((held : List (TokenRow K)) → IsIndexOf cmp mid held → IsIndexOf cmp new.index (token_rows_of f.number ((id, i) ∷ []) ++ held))
+    pub seekers-held : (f : Face K) (id : ℕ) (i : InterestRow K) (pendings : List (ℕ × ℕ)) → is_future i.mode ≡ true → IsInOrder f.held → (old : Seeking K) (mid mid_other : Interests K) (new : Seeking K) → new.north ≡ old.north → new.told ≡ old.told
+        → DropsOf cmp in_tokens f id old.index mid → DropsOf cmp in_others f id old.others mid_other
+        → PutsOf cmp in_tokens f.number id i mid new.index → PutsOf cmp in_others f.number id i mid_other new.others
         → Reseeks cmp anchored f (asked_as pendings id i) old new
-    seekers-held f id i pendings future sorted old mid new same still drops puts =
+    seekers-held f id i pendings future sorted old mid mid_other new same still drops drops_other puts puts_other =
         let change = asked_as pendings id i in
         let held : (x : Face K) → (change x).held ≡ put nat_cmp id i x.held = λ x. ap (λ b. put_if b id i x.held) future in
         record {
           at = λ fs one are. record {
             north = same ∙ are.north ∙ sym (north_kept f.number change (λ x. refl) (λ x. refl) fs);
-            index =
-                index_alike cmp new.index (token_rows_of f.number ((id, i) ∷ []) ++ filter (λ row. not (is_of f.number id row)) (flat_map token_rows fs)) (flat_map token_rows (map (λ x. if f.number == x.number then change x else x) fs))
-                (λ test.
-                list_any-append test (token_rows_of f.number ((id, i) ∷ [])) (filter (λ row. not (is_of f.number id row)) (flat_map token_rows fs))
-                ∙ ap (λ b. (b && list_any test (token_rows_of f.number ((id, i) ∷ []))) || list_any test (filter (λ row. not (is_of f.number id row)) (flat_map token_rows fs))) (sym one.found)
-                ∙ sym (put_all test f.number id i change (λ x. refl) held fs (ordered fs one.only)))
-                (puts (filter (λ row. not (is_of f.number id row)) (flat_map token_rows fs)) (drops fs one are.index));
+            index = index-held in_tokens f id i change (λ x. refl) held old.index mid new.index drops puts fs one (ordered fs one.only) are.index;
+            others = index-held in_others f id i change (λ x. refl) held old.others mid_other new.others drops_other puts_other fs one (ordered fs one.only) are.others;
             told = λ e m. ap (λ told. id_of m (told_at cmp e told)) still ∙ are.told e m ∙ at-kept cmp e f.number change (λ x. refl) (λ x. refl) m fs;
             apart = all-kept (λ (x : Face K). AreApart cmp x.told) f.number change (λ x apart. apart) fs are.apart;
           };
@@ -154,14 +164,15 @@ module _ {K : Type 0} where
 
     -- what the face was told changes, and nothing else that is looked up
     pub seekers-retold : (f : Face K) (change : Face K → Face K) → ((x : Face K) → (change x).number ≡ x.number) → ((x : Face K) → (change x).region ≡ x.region) → ((x : Face K) → (change x).held ≡ x.held)
-        → (old new : Seeking K) → new.north ≡ old.north → new.index ≡ old.index → IsRetold cmp f.number f.told (change f).told old.told new.told → Reseeks cmp anchored f change old new
-    seekers-retold f change number region held old new same still retold = record {
+        → (old new : Seeking K) → new.north ≡ old.north → new.index ≡ old.index → new.others ≡ old.others → IsRetold cmp f.number f.told (change f).told old.told new.told → Reseeks cmp anchored f change old new
+    seekers-retold f change number region held old new same still still_other retold = record {
       at = λ fs one are.
           let apart = its-apart f old fs one are in
           let finds = its-found f old fs one are in
           record {
             north = same ∙ are.north ∙ sym (north_kept f.number change number region fs);
-            index = rw still (subst (IsIndexOf cmp old.index) (sym (kept f.number change number held fs)) are.index);
+            index = rw still (subst (IsIndexOf cmp old.index) (sym (kept in_tokens f.number change number held fs)) are.index);
+            others = rw still_other (subst (IsIndexOf cmp old.others) (sym (kept in_others f.number change number held fs)) are.others);
             told = λ e m. retold.at apart finds e m ∙ ap (λ o. if f.number == m then told_id cmp e (change f).told else o) (are.told e m) ∙ at-changed cmp e f change number fs one.found one.only m;
             apart = all-changed (λ (x : Face K). AreApart cmp x.told) f change (retold.apart apart finds) fs one.only are.apart;
           };
@@ -169,12 +180,12 @@ module _ {K : Type 0} where
 
     -- the face goes
     pub seekers-closed : (f : Face K) (old new : Seeking K) → new.north ≡ filter (λ m. not (f.number == m)) old.north → IsRetold cmp f.number f.told [] old.told new.told
-        → ((fs : List (Face K)) → IsOnlyOne f fs → IsIndexOf cmp old.index (flat_map token_rows fs) → IsIndexOf cmp new.index (flat_map token_rows (filter (λ x. not (f.number == x.number)) fs)))
-        → Leaves cmp anchored f old new
-    seekers-closed f old new less retold drops = record {
+        → DropsAll cmp in_tokens f old.index new.index → DropsAll cmp in_others f old.others new.others → Leaves cmp anchored f old new
+    seekers-closed f old new less retold drops drops_other = record {
       at = λ fs one are. record {
         north = less ∙ ap (filter (λ m. not (f.number == m))) are.north ∙ north_less f.number fs;
         index = drops fs one are.index;
+        others = drops_other fs one are.others;
         told = λ e m. retold.at (its-apart f old fs one are) (its-found f old fs one are) e m ∙ ap (λ o. if f.number == m then told_id cmp e [] else o) (are.told e m) ∙ at-less cmp e f.number fs m;
         apart = all-less (λ (x : Face K). AreApart cmp x.told) f.number fs are.apart;
       };

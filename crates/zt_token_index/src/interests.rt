@@ -1,12 +1,9 @@
-// The interests in tokens, as they come and go.
-ghost use Rattle.std.specs.Prelude.{◌≡◌, ◌++◌, ◌∷◌, ◌==◌, [], filter, not, List, OnOk};
-ghost use Rattle.std.specs.List.{flat_map};
-ghost use Rattle.zt_interest_index.specs.Holders.{IsIndexOf};
-ghost use Rattle.zt_interest_index.specs.Holdings.{is_of};
-ghost use Rattle.zt_model.specs.Rows.{Face};
+// The interests that faces hold, as they come and go: those in tokens, and the others.
+ghost use Rattle.std.specs.Prelude.{◌≡◌, OnOk};
 ghost use Rattle.zt_protocol.specs.Interest.{has_tokens};
 ghost use Rattle.zt_rows.specs.ById.{IsInOrder};
-ghost use Rattle.zt_token_index.specs.Seekers.{IsOnlyOne, TokenRow, token_rows, token_rows_of};
+ghost use Rattle.zt_token_index.specs.Seekers.{DropsAll, DropsOf, PutsOf, RemovesOf};
+ghost use Rattle.zt_token_index.specs.Seekers.{in_others, in_tokens};
 
 use bitflags::Flags;
 use std::alloc::Global;
@@ -15,19 +12,6 @@ use zt_interest_index::InterestIndex;
 use zt_keys::{Key, Memory};
 use zt_protocol::InterestOptions;
 
-/// The interest that the face holds under the id, if any, goes.
-pub(crate) fn drop_held<K: Key>(index: &mut InterestIndex<K>, f: &FaceState<K>, id: u32)
-    ensures ordered { IsInOrder f.now.held }
-    ensures drops { (fs : List (Face K)) → IsOnlyOne f.now fs
-        → IsIndexOf K.cmp index.old (flat_map token_rows fs)
-        → IsIndexOf K.cmp index.new
-        (filter (λ row. not (is_of f.now.number id row)) (flat_map token_rows fs)) }
-{
-    if let Some(held) = f.held().at(id) {
-        index.remove(f.number(), id, held.expr());
-    }
-}
-
 // Whether an interest is one in tokens.
 fn is_in_tokens<K: Key>(interest: &RemoteInterest<K>) -> bool
     ensures { result ≡ has_tokens interest.now.options }
@@ -35,31 +19,71 @@ fn is_in_tokens<K: Key>(interest: &RemoteInterest<K>) -> bool
     interest.options().contains(InterestOptions::TOKENS)
 }
 
-/// An interest comes, if it is one in tokens.
+// The interest that a face holds under an id goes.
+fn remove_held<K: Key>(
+    tokens: &mut InterestIndex<K>,
+    others: &mut InterestIndex<K>,
+    face: u32,
+    id: u32,
+    interest: &RemoteInterest<K>,
+)
+    ensures tokens { RemovesOf K.cmp in_tokens face id interest.now tokens.old tokens.new }
+    ensures others { RemovesOf K.cmp in_others face id interest.now others.old others.new }
+{
+    if is_in_tokens(interest) {
+        tokens.remove(face, id, interest.expr());
+    } else {
+        others.remove(face, id, interest.expr());
+    }
+}
+
+/// The interest that the face holds under the id, if any, goes.
+pub(crate) fn drop_held<K: Key>(
+    tokens: &mut InterestIndex<K>,
+    others: &mut InterestIndex<K>,
+    f: &FaceState<K>,
+    id: u32,
+)
+    ensures ordered { IsInOrder f.now.held }
+    ensures tokens { DropsOf K.cmp in_tokens f.now id tokens.old tokens.new }
+    ensures others { DropsOf K.cmp in_others f.now id others.old others.new }
+{
+    if let Some(held) = f.held().at(id) {
+        remove_held(tokens, others, f.number(), id, held);
+    }
+}
+
+/// An interest comes.
 pub(crate) fn put_held<K: Key>(
     alloc: Global,
-    index: &mut InterestIndex<K>,
+    tokens: &mut InterestIndex<K>,
+    others: &mut InterestIndex<K>,
     face: u32,
     id: u32,
     interest: &RemoteInterest<K>,
 ) -> Result<(), Memory>
-    ensures { OnOk result ((held : List (TokenRow K)) → IsIndexOf K.cmp index.old held
-        → IsIndexOf K.cmp index.new (token_rows_of face ((id, interest.now) ∷ []) ++ held)) }
+    ensures tokens { OnOk result (PutsOf K.cmp in_tokens face id interest.now
+        tokens.old tokens.new) }
+    ensures others { OnOk result (PutsOf K.cmp in_others face id interest.now
+        others.old others.new) }
 {
     if is_in_tokens(interest) {
-        index.put(alloc, face, id, interest.expr())?;
+        tokens.put(alloc, face, id, interest.expr())
+    } else {
+        others.put(alloc, face, id, interest.expr())
     }
-    Ok(())
 }
 
 /// All interests that the face holds go.
-pub(crate) fn drop_all<K: Key>(index: &mut InterestIndex<K>, f: &FaceState<K>)
-    ensures { (fs : List (Face K)) → IsOnlyOne f.now fs
-        → IsIndexOf K.cmp index.old (flat_map token_rows fs)
-        → IsIndexOf K.cmp index.new
-        (flat_map token_rows (filter (λ x. not (f.now.number == x.number)) fs)) }
+pub(crate) fn drop_all<K: Key>(
+    tokens: &mut InterestIndex<K>,
+    others: &mut InterestIndex<K>,
+    f: &FaceState<K>,
+)
+    ensures tokens { DropsAll K.cmp in_tokens f.now tokens.old tokens.new }
+    ensures others { DropsAll K.cmp in_others f.now others.old others.new }
 {
     for (id, held) in f.held().iter() {
-        index.remove(f.number(), *id, held.expr());
+        remove_held(tokens, others, f.number(), *id, held);
     }
 }

@@ -9,7 +9,7 @@ ghost use Rattle.zt_model.specs.Hearing.{heard};
 ghost use Rattle.zt_model.specs.Routing.{asked_as, unheld};
 ghost use Rattle.zt_model.specs.Rows.{Face};
 ghost use Rattle.zt_token_index.specs.Seekers.{AreSeekers, IsKnown, Leaves, Reseeks, no_seekers};
-ghost use Rattle.zt_token_index.specs.Seekers.{may_seek, north_numbers, token_rows};
+ghost use Rattle.zt_token_index.specs.Seekers.{may_seek, north_numbers, other_rows, token_rows};
 ghost use Rattle.zt_token_index.specs.Told.{AreRising, id_of, told_at};
 
 use crate::ToldIndex;
@@ -31,11 +31,12 @@ fn drop_number(numbers: &mut Vec<u32>, number: u32)
 }
 
 /// The numbers of the faces to the north, in order, an index of the interests in tokens that faces
-/// hold, and an index of what faces were told.
+/// hold, one of their other interests, and an index of what faces were told.
 #[derive(Drop)]
 pub struct Seekers<K: Key> {
     north: Vec<u32>,
     index: InterestIndex<K>,
+    others: InterestIndex<K>,
     told: ToldIndex<K>,
 }
 
@@ -44,7 +45,12 @@ impl<K: Key> Model for Seekers<K> {
 
     ghost Value = { Seeking K };
 
-    ghost view = { λ s. record { north = s.north.items; index = s.index; told = s.told } };
+    ghost view = { λ s. record {
+      north = s.north.items;
+      index = s.index;
+      others = s.others;
+      told = s.told;
+    } };
 }
 
 impl<K: Key> Seekers<K> {
@@ -55,6 +61,7 @@ impl<K: Key> Seekers<K> {
         Seekers {
             north: Vec::new(alloc),
             index: InterestIndex::new(alloc),
+            others: InterestIndex::new(alloc),
             told: ToldIndex::new(alloc),
         }
     }
@@ -77,7 +84,7 @@ impl<K: Key> Seekers<K> {
         ensures { Leaves K.cmp K.anchored f.now self.old self.new }
     {
         drop_number(&mut self.north, f.number());
-        drop_all(&mut self.index, f);
+        drop_all(&mut self.index, &mut self.others, f);
         untell_all(&mut self.told, f);
     }
 
@@ -93,8 +100,15 @@ impl<K: Key> Seekers<K> {
             Reseeks K.cmp K.anchored f.now (asked_as pendings id interest.now) self.old self.new) }
     {
         if interest.mode().is_future() {
-            drop_held(&mut self.index, f, id);
-            put_held(alloc, &mut self.index, f.number(), id, interest)?;
+            drop_held(&mut self.index, &mut self.others, f, id);
+            put_held(
+                alloc,
+                &mut self.index,
+                &mut self.others,
+                f.number(),
+                id,
+                interest,
+            )?;
         }
         Ok(())
     }
@@ -103,7 +117,7 @@ impl<K: Key> Seekers<K> {
     pub fn unhold(&mut self, f: &FaceState<K>, id: u32)
         ensures { Reseeks K.cmp K.anchored f.now (unheld id) self.old self.new }
     {
-        drop_held(&mut self.index, f, id);
+        drop_held(&mut self.index, &mut self.others, f, id);
     }
 
     /// The face hears a message. Where this says that an expression is gone, the answer is the id
@@ -171,6 +185,16 @@ impl<K: Key> Seekers<K> {
         self.index.interests_in(about)
     }
 
+    /// The interests in the expression, or in all where it is `None`, that aren't in tokens, each
+    /// under its face and id, and maybe interests in other expressions among them. A look-up, which
+    /// takes no memory.
+    pub fn others_in(&self, about: &Option<K>) -> &[((u32, u32), Option<K>)]
+        ensures { (fs : List (Face K)) → AreSeekers K.cmp K.anchored self.now fs →
+            HasAllIn about.now (flat_map other_rows fs) result.now }
+    {
+        self.others.interests_in(about)
+    }
+
     /// Equal look-ups.
     pub fn copy(&self, alloc: Global) -> Result<Self, Memory>
         ensures { IfOk result (λ copy. copy ≡ self.now) }
@@ -178,6 +202,7 @@ impl<K: Key> Seekers<K> {
         Ok(Seekers {
             north: self.north.to_vec(alloc)?,
             index: self.index.copy(alloc)?,
+            others: self.others.copy(alloc)?,
             told: self.told.copy(alloc)?,
         })
     }

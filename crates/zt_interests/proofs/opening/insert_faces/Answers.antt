@@ -7,4 +7,4 @@ use Rattle.zt_interests.proofs.opening.insert_faces.Goals as goal
 pub loop-f-preserved : goal.loop-f-preserved
 loop-f-preserved g c =
     rw c.in_ok-insert_held_by.ensures
-    (with_keys-last_of (interest_order g.K.Ord.cmp g.K.Key.matching) held_by c.loop-f.f-iterator.iter c.next.new.self.iter c.in-Some.f.now c.loop-f.interests.items c.in-Some.ensures.steps ∙ c.loop-f.invariant)
+    (with_keys-last_of (interest_order g.K.Ord.cmp g.K.Key.matching) held_by c.loop-f.f-iterator.iter c.next.new.self.iter c.in-Some.f.now c.loop-f.interests c.in-Some.ensures.steps ∙ c.loop-f.invariant)

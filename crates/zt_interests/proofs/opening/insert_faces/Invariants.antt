@@ -7,5 +7,5 @@ use Rattle.zt_interests.proofs.opening.insert_faces.Given as goal
 -- with what the faces left hold, from the last on, all is in its places
 abbrev pub invariant-loop-f : goal.invariant-loop-f
 invariant-loop-f g l =
-    with_keys (interest_order g.K.Ord.cmp g.K.Key.matching) (flat_map held_by l.f-iterator.iter) l.interests.items
-    ≡ with_keys (interest_order g.K.Ord.cmp g.K.Key.matching) (flat_map held_by l.fn.faces) l.fn.interests.items
+    with_keys (interest_order g.K.Ord.cmp g.K.Key.matching) (flat_map held_by l.f-iterator.iter) l.interests
+    ≡ with_keys (interest_order g.K.Ord.cmp g.K.Key.matching) (flat_map held_by l.fn.faces) l.fn.interests

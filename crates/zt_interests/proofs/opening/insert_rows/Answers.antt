@@ -6,5 +6,5 @@ use Rattle.zt_interests.proofs.opening.insert_rows.Goals as goal
 
 pub loop-interest-preserved : goal.loop-interest-preserved
 loop-interest-preserved g c =
-    rw c.in_ok-insert_held.ensures
-    (with_keys-last (interest_order g.K.Ord.cmp g.K.Key.matching) (λ row. in_both row.1) c.loop-interest.interest-iterator.iter c.next.new.self.iter (c.in-Some.field-0-0.now, c.in-Some.interest.now) c.loop-interest.interests.items c.in-Some.ensures.steps ∙ c.loop-interest.invariant)
+    rw c.in_ok-insert.ensures
+    (with_keys-last (interest_order g.K.Ord.cmp g.K.Key.matching) (λ row. in_both row.1) c.loop-interest.interest-iterator.iter c.next.new.self.iter (c.in-Some.field-0-0.now, c.in-Some.interest.now) c.loop-interest.interests c.in-Some.ensures.steps ∙ c.loop-interest.invariant)

@@ -7,5 +7,5 @@ use Rattle.zt_interests.proofs.opening.insert_rows.Given as goal
 -- with those left, from the last on, all are in their places
 abbrev pub invariant-loop-interest : goal.invariant-loop-interest
 invariant-loop-interest g l =
-    with_keys (interest_order g.K.Ord.cmp g.K.Key.matching) (map (λ row. in_both row.1) l.interest-iterator.iter) l.interests.items
-    ≡ with_keys (interest_order g.K.Ord.cmp g.K.Key.matching) (map (λ row. in_both row.1) l.rows) l.fn.interests.items
+    with_keys (interest_order g.K.Ord.cmp g.K.Key.matching) (map (λ row. in_both row.1) l.interest-iterator.iter) l.interests
+    ≡ with_keys (interest_order g.K.Ord.cmp g.K.Key.matching) (map (λ row. in_both row.1) l.rows) l.fn.interests

@@ -1,19 +1,14 @@
-use Rattle.std.proofs.Common.{ap, flat_map, ◌∙◌}
-use Rattle.std.proofs.lemmas.Result.{IfOk-weaker}
-use Rattle.zt_region.specs.Region.{is_north}
-use Rattle.zt_model.specs.Routing.{route_to}
-use Rattle.zt_tokens.specs.Walks.{given_at, sent_to}
-use Rattle.zt_tokens.proofs.Chosen.{chosen_each}
-use Rattle.zt_interests.proofs.North.{south-unrouted}
+use Rattle.std.proofs.Common.{◌≡◌, ap, map, take, ◌∙◌}
+use Rattle.std.proofs.lemmas.List.{take_all}
+use Rattle.zt_interests.specs.Lowest.{interest_to}
+use Rattle.zt_interests.proofs.North.{routed-is}
 use Rattle.zt_interests.proofs.routing.route.Goals as goal
 
-pub returns : goal.returns
-returns g c =
-    let rows = c.args.g.now in
-    let rule = route_to rows c.args.asker c.args.interest.now in
-    IfOk-weaker c.say_at.result _ _
-    (λ sends given.
-    given
-    ∙ ap (flat_map (given_at (sent_to rule) rows.faces)) c.north.ensures.north
-    ∙ chosen_each rule rows.faces (λ f. is_north f.region) c.north.ensures.rising (south-unrouted rows c.args.asker c.args.interest.now))
-    c.say_at.ensures
+pub returns-clause-sent : goal.returns-clause-sent
+returns-clause-sent g c = c.loop-target.invariant ∙ ap (map (interest_to c.args.interest.now)) (take_all c.loop-target.target-index c.args.targets.now c.loop-target-test.false)
+
+pub returns-clause-routed : goal.returns-clause-routed
+returns-clause-routed g c = λ asker rows are.
+    c.loop-target.invariant
+    ∙ ap (map (interest_to c.args.interest.now)) (take_all c.loop-target.target-index c.args.targets.now c.loop-target-test.false ∙ are)
+    ∙ routed-is rows asker c.args.interest.now

@@ -17,4 +17,5 @@ invariant_of-self g c =
       up_to = made.up_to;
       routers = rw made.ok (changed c.args.number added same (g.met.C.FaceAddition.keeps_router c.args.addition.now) s.routers.keys faces c.self.invariant.routers);
       asked = rw made.ok (asked-changed askers c.args.number added same (λ f here known. g.met.C.FaceAddition.keeps_asks c.args.addition.now f askers known) faces c.self.invariant.asked);
+      timed = made.timed;
     }

@@ -16,7 +16,7 @@ returns-clause-seeks g c =
     on_ok_weaker c.hear_message.result
     (λ retold moment.
     rw (← c.self.view_is)
-    (seekers-retold cmp g.K.Key.anchored c.args.f.now (heard cmp moment m) (λ x. (heard-place cmp moment m x).number) (λ x. (heard-place cmp moment m x).region) (λ x. (heard-place cmp moment m x).held) _ _ refl refl (retold moment)))
+    (seekers-retold cmp g.K.Key.anchored c.args.f.now (heard cmp moment m) (λ x. (heard-place cmp moment m x).number) (λ x. (heard-place cmp moment m x).region) (λ x. (heard-place cmp moment m x).held) _ _ refl refl refl (retold moment)))
     c.hear_message.ensures.retold
 
 pub returns-clause-known : goal.returns-clause-known
