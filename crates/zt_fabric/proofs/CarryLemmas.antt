@@ -14,8 +14,8 @@ use Rattle.std.proofs.Math.Seq.{take-append-add}
 use Rattle.zt_streams.specs.Streams.{AppendsPart, HasRisen}
 use Rattle.zt_streams.specs.Lines.{last_line, rest_of, TakesRest}
 use Rattle.zt_text.specs.Sent.{EntryFits}
-use Rattle.zt_wire.specs.Reading.{line_read}
-use Rattle.zt_wire.specs.Text.{entries_text, entry_text, report_text}
+use Rattle.zt_lines.specs.Reading.{line_read}
+use Rattle.zt_text.specs.Text.{entries_text, entry_text, report_text}
 use Rattle.zt_model.specs.Fabric.{Fabric, entries_from, entry_of, fabric_after}
 use Rattle.zt_model.specs.Transcript.{Each, messages_in, refusals_in}
 use Rattle.zt_laws.proofs.Lists.{each_append}

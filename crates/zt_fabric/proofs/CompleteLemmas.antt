@@ -9,7 +9,7 @@ use Rattle.zt_protocol.specs.Plain.{PlainLine}
 use Rattle.zt_protocol.specs.declared.entries.Report.{Report}
 use Rattle.zt_protocol.specs.declared.errors.RunError.{RunError}
 use Rattle.zt_protocol.specs.declared.errors.RunError.TheVariants as errors
-use Rattle.zt_wire.specs.Reading.{line_read}
+use Rattle.zt_lines.specs.Reading.{line_read}
 use Rattle.zt_fabric.specs.Transcripts.{Answers, BeginsWith, GivesComplete, HasNoFault, IsComplete, Streams, most_bytes, status_of}
 
 -- what was read of a text, and what is left of it

@@ -24,11 +24,11 @@ use Rattle.zt_fields.specs.Numbers.{hex_number, number_up_to}
 use Rattle.zt_fields.specs.Values.{region_of}
 use Rattle.zt_text.specs.Text.{spaced}
 use Rattle.zt_text.proofs.Clean.{AllClean, Clean, clean_decimal, clean_key_bytes, clean_plain, feedless_line, fields_of_line, is_plain, text_of_line}
-use Rattle.zt_wire.specs.Grammar.{IsLine}
+use Rattle.zt_lines.specs.Grammar.{IsLine}
 use Rattle.zt_lines.specs.Words.{word_of}
 use Rattle.zt_lines.specs.Lists.{list_read, south_regions_read}
-use Rattle.zt_wire.specs.Reading.{gateway_at, interest_at, kind_at, line_at, line_read, link_at, session_at, step_at}
-use Rattle.zt_wire.proofs.ReadingLaw.{read_exactly}
+use Rattle.zt_lines.specs.Reading.{gateway_at, interest_at, kind_at, line_at, line_read, link_at, session_at, step_at}
+use Rattle.zt_lines.proofs.ReadingLaw.{read_exactly}
 use Rattle.zt_model.specs.Transcript.{Each}
 use Rattle.zt_laws.proofs.Lists.{each_append}
 use Rattle.zt_fabric.specs.Making.{closing_line, coming_lines, declaring_line, first_lines, going_lines, lines_up_to, made_lines, made_script, text_of}

@@ -2,11 +2,11 @@
 use Rattle.std.proofs.Common.{◌≡◌, ℕ, ◌≤◌, ◌<◌, List, [], ◌∷◌, map, codes, Option, Some, None, Result, Ok, unwrap_or, sym, subst, arith}
 use Rattle.zt_keys.specs.declared.error.KeyError.{KeyError}
 use Rattle.zt_protocol.specs.Plain.{NewSession, NewTransport, DeclareToken, UndeclareToken, Interest, InterestFinal, DeclareFinal, CloseFace, Expire, SetTrees, SetEntities, PlainLine, Gateway, Session, Face, Link, Unlink, Step, Speak, Moment, SetTreesAt}
-use Rattle.zt_wire.specs.Fields.{Fields, fields_of}
-use Rattle.zt_wire.specs.Spellings.{IsFirst, MayStand, StandsOr}
-use Rattle.zt_wire.specs.Grammar.{IsLine}
-use Rattle.zt_wire.specs.Reading.{line_read}
-use Rattle.zt_wire.proofs.ReadingLaw.{read_exactly}
+use Rattle.zt_lines.specs.Fields.{Fields, fields_of}
+use Rattle.zt_lines.specs.Spellings.{IsFirst, MayStand, StandsOr}
+use Rattle.zt_lines.specs.Grammar.{IsLine}
+use Rattle.zt_lines.specs.Reading.{line_read}
+use Rattle.zt_lines.proofs.ReadingLaw.{read_exactly}
 use Rattle.zt_laws.specs.Sound.{HasFirstIds}
 use Rattle.zt_theorem_transcript.specs.Named.{HasNamedOptions}
 use Rattle.zt_model.specs.Transcript.{Each}

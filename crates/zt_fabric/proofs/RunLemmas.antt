@@ -14,7 +14,7 @@ use Rattle.zt_protocol.specs.Plain.{PlainEntry, PlainLine}
 use Rattle.zt_protocol.specs.declared.entries.Report.{Report}
 use Rattle.zt_protocol.specs.declared.errors.RunError.{RunError}
 use Rattle.zt_protocol.specs.declared.errors.RunError.TheVariants as errors
-use Rattle.zt_wire.specs.Text.{entries_text, report_text}
+use Rattle.zt_text.specs.Text.{entries_text, report_text}
 use Rattle.zt_model.specs.Fabric.{Fabric, empty_fabric, entries_from}
 use Rattle.zt_model.specs.Transcript.{Each, report_of}
 use Rattle.zt_laws.specs.Sound.{HasFirstIds}

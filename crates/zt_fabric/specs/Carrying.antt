@@ -9,8 +9,8 @@ use Rattle.zt_protocol.specs.declared.entries.Report.{Report}
 use Rattle.zt_protocol.specs.declared.errors.RunError.{RunError}
 use Rattle.zt_protocol.specs.declared.errors.RunError.TheVariants as errors
 use Rattle.zt_text.specs.Sent.{EntryFits}
-use Rattle.zt_wire.specs.Reading.{line_read}
-use Rattle.zt_wire.specs.Text.{entries_text, report_text}
+use Rattle.zt_lines.specs.Reading.{line_read}
+use Rattle.zt_text.specs.Text.{entries_text, report_text}
 use Rattle.zt_model.specs.Fabric.{Fabric, empty_fabric, entries_from, entry_of, fabric_after}
 use Rattle.zt_model.specs.Transcript.{Each, messages_in, refusals_in}
 

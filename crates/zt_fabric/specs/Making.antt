@@ -12,7 +12,7 @@ use Rattle.zt_protocol.specs.declared.entries.Report.{Report}
 use Rattle.zt_protocol.specs.declared.errors.RunError.{RunError}
 use Rattle.zt_protocol.specs.declared.errors.RunError.TheVariants as errors
 use Rattle.zt_fields.specs.Numbers.{u32_of}
-use Rattle.zt_wire.specs.Text.{report_text}
+use Rattle.zt_text.specs.Text.{report_text}
 use Rattle.zt_model.specs.Transcript.{report_of}
 use Rattle.zt_fabric.specs.Transcripts.{IsTranscript}
 

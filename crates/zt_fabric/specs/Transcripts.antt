@@ -11,8 +11,8 @@ use Rattle.zt_protocol.specs.declared.entries.Report.{Report}
 use Rattle.zt_protocol.specs.declared.errors.RunError.{RunError}
 use Rattle.zt_protocol.specs.declared.errors.RunError.TheVariants as errors
 use Rattle.zt_text.specs.Sent.{ArePrinted}
-use Rattle.zt_wire.specs.Reading.{line_read}
-use Rattle.zt_wire.specs.Text.{entries_text, report_text}
+use Rattle.zt_lines.specs.Reading.{line_read}
+use Rattle.zt_text.specs.Text.{entries_text, report_text}
 use Rattle.zt_model.specs.Fabric.{empty_fabric, entries_from}
 use Rattle.zt_model.specs.Promises.{MeetsPromises, MeetsStricterPromises, turns_from}
 use Rattle.zt_model.specs.Transcript.{Each, IsFaithfulFrom, IsStrictFrom, report_of}

@@ -5,17 +5,18 @@ ghost use Rattle.std.specs.Io.KnownBytes.{Appends};
 ghost use Rattle.zt_streams.specs.Streams.{AppendsPart, HasRisen};
 ghost use Rattle.zt_streams.specs.Lines.{whole_lines, rest_of, last_line};
 ghost use Rattle.zt_protocol.specs.Plain.{plain_entry, plain_line};
-ghost use Rattle.zt_wire.specs.Reading.{line_read};
+ghost use Rattle.zt_lines.specs.Reading.{line_read};
 ghost use Rattle.zt_fabric.specs.Carrying.{Carries, IsInRange, IsNew, LineStops, Stops};
 ghost use Rattle.zt_fabric.specs.Carrying.{StopsWriting};
 ghost use Rattle.zt_fabric.specs.Carrying.{Writes, with_entry};
 
 use std::alloc::Global;
 use zt_keys::Key;
+use zt_lines::read_line;
 use zt_links::Fabric;
 use zt_protocol::{Entry, Line, LineError, Report, RunError};
 use zt_streams::{Failed, Feeder, SCRIPT_BYTES, Sink, write_all};
-use zt_wire::{read_line, write_entry};
+use zt_text::write_entry;
 
 // What a run has come to: the fabric, the totals, and the text of the entries that isn't written
 // yet.

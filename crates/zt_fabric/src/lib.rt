@@ -8,8 +8,6 @@ mod carrying;
 mod making;
 mod program;
 mod running;
-#[cfg(test)]
-mod tests;
 
 pub use program::tool;
 pub use running::run;

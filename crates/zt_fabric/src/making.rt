@@ -3,7 +3,7 @@ ghost use Rattle.std.specs.Prelude.{◌≡◌, ◌++◌, ◌+◌, ◌≤◌, cod
 ghost use Rattle.std.specs.Prelude.{IfErr, IfSome, OnOk, map, string_bytes};
 ghost use Rattle.std.specs.Io.KnownBytes.{Appends};
 ghost use Rattle.zt_streams.specs.Lines.{with_feed};
-ghost use Rattle.zt_wire.specs.Text.{report_text};
+ghost use Rattle.zt_text.specs.Text.{report_text};
 ghost use Rattle.zt_fabric.specs.Carrying.{IsNew};
 ghost use Rattle.zt_fabric.specs.Making.{IsReportOf, NotWritten, WritesReport, closing_line};
 ghost use Rattle.zt_fabric.specs.Making.{coming_lines, declaring_line, first_lines, going_lines};
@@ -20,7 +20,7 @@ use zt_fields::Spelled;
 use zt_keys::{Key, KeyExpr, Memory};
 use zt_protocol::{Report, RunError};
 use zt_streams::{CountingSink, Failed, MemorySource, SCRIPT_BYTES, Sink, Source};
-use zt_wire::write_report;
+use zt_text::write_report;
 
 // The greatest number that can be asked for.
 const MOST: u32 = 2000;

@@ -10,7 +10,7 @@ use std::alloc::Global;
 use zt_keys::Key;
 use zt_protocol::{Report, RunError};
 use zt_streams::{Feeder, SCRIPT_BYTES, Sink, Source};
-use zt_wire::write_report;
+use zt_text::write_report;
 
 const PIECE_BYTES: usize = 4096;
 

@@ -11,8 +11,6 @@ mod kinds;
 mod numbers;
 mod shared;
 mod spelling;
-#[cfg(test)]
-mod tests;
 mod walk;
 
 pub use anchor::Anchor;

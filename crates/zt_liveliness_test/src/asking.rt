@@ -6,7 +6,7 @@ use zt_keys::{Key, KeyExpr};
 use zt_liveliness::{ApiError, Liveliness, Reply, Sample, Token};
 use zt_protocol::{Entry, Message, Sent};
 use zt_region::{Bound, WhatAmI, Zid};
-use zt_wire::{print_entry, read_sent};
+use zt_text::{print_entry, read_sent};
 
 // Carries out a row of calls over a gateway without faces, and answers the first line whose call
 // answers something else, with that answer; the empty text where there is none.

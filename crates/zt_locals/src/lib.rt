@@ -17,8 +17,6 @@ mod locals;
 mod results;
 mod rows;
 mod simple;
-#[cfg(test)]
-mod tests;
 mod traits;
 
 pub use locals::LocalResources;

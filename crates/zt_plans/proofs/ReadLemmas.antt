@@ -8,7 +8,7 @@ use Rattle.zt_streams.proofs.LineLemmas.{lines_of-parts, rest_of-rest_of}
 use Rattle.zt_protocol.specs.Plain.{PlainLine}
 use Rattle.zt_protocol.specs.declared.errors.RunError.{RunError}
 use Rattle.zt_protocol.specs.declared.errors.RunError.TheVariants as errors
-use Rattle.zt_wire.specs.Reading.{line_read}
+use Rattle.zt_lines.specs.Reading.{line_read}
 use Rattle.zt_laws.proofs.Lists.{map-append}
 use Rattle.zt_plans.specs.Plans.{AreInForm, LineStops, TextsStop, script_lines}
 use Rattle.zt_plans.specs.Reading.{HasRead, ReadingStops, TakesText}

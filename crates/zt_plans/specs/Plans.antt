@@ -4,7 +4,7 @@ use Rattle.zt_keys.specs.declared.error.KeyError.{KeyError}
 use Rattle.zt_protocol.specs.Plain.{PlainCall, PlainLine, plain_call, plain_line}
 use Rattle.zt_protocol.specs.declared.errors.RunError.{RunError}
 use Rattle.zt_protocol.specs.declared.errors.RunError.TheVariants as errors
-use Rattle.zt_wire.specs.Reading.{line_read}
+use Rattle.zt_lines.specs.Reading.{line_read}
 use Rattle.zt_model.specs.Journal.{is_driven, is_making}
 use Rattle.zt_model.specs.Transcript.{Each}
 use Rattle.zt_gateway.specs.Settings.{line_of}

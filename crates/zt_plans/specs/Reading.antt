@@ -5,7 +5,7 @@ use Rattle.zt_protocol.specs.Plain.{PlainLine}
 use Rattle.zt_protocol.specs.declared.errors.RunError.{RunError}
 use Rattle.zt_protocol.specs.declared.errors.RunError.TheVariants as errors
 use Rattle.zt_streams.specs.Lines.{lines_of, whole_lines}
-use Rattle.zt_wire.specs.Reading.{line_read}
+use Rattle.zt_lines.specs.Reading.{line_read}
 use Rattle.zt_model.specs.Journal.{is_driven}
 use Rattle.zt_plans.specs.Plans.{AreInForm, AreRead, HasBadText, script_lines}
 use Rattle.zt_plans.specs.declared.plan.Plan.{Plan}

@@ -9,9 +9,9 @@ ghost use Rattle.zt_plans.specs.Reading.{TakesText};
 use crate::plan::{Plan, add_line};
 use std::alloc::Global;
 use zt_keys::Key;
+use zt_lines::read_line;
 use zt_protocol::{LineError, RunError};
 use zt_streams::{Feeder, SCRIPT_BYTES, Script};
-use zt_wire::read_line;
 
 // What was read so far: the plan, and how many lines.
 #[derive(Drop)]

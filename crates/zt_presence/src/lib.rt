@@ -4,8 +4,6 @@
 
 mod monitor;
 mod tables;
-#[cfg(test)]
-mod tests;
 
 pub use monitor::{Monitor, PresenceError};
 pub use tables::Change;

@@ -6,8 +6,6 @@
 mod compute;
 mod matching;
 mod region;
-#[cfg(test)]
-mod tests;
 mod zid;
 
 pub use compute::{

@@ -7,8 +7,6 @@ mod outside;
 mod pieces;
 mod reading;
 mod standard;
-#[cfg(test)]
-mod tests;
 
 pub use memory::{CountingSink, MemorySink, MemorySource};
 pub use outside::{Failed, Sink, Source, write_all};

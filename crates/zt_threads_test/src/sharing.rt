@@ -14,7 +14,7 @@ use zt_region::{WhatAmI, Zid};
 use zt_shared::{CloseError, Journal, JournalEntry, Pass, Receipt, SharedGateway};
 
 // A gateway of a client without faces, shared, and its first pass.
-fn opened(alloc: Global) -> Result<(SharedGateway<KeyExpr>, Pass<KeyExpr>), Fail>
+pub fn opened(alloc: Global) -> Result<(SharedGateway<KeyExpr>, Pass<KeyExpr>), Fail>
     ensures { IfOk result (λ made. made.1.table ≡ made.0) }
 {
     let gateway = GatewayBuilder::new(alloc, WhatAmI::Client, Zid(1)).build::<KeyExpr>()?;
@@ -22,7 +22,7 @@ fn opened(alloc: Global) -> Result<(SharedGateway<KeyExpr>, Pass<KeyExpr>), Fail
 }
 
 // The face declares the key `k` with the id 1.
-fn declare(alloc: Global, face: u32) -> Result<Call<KeyExpr>, KeyError>
+pub fn declare(alloc: Global, face: u32) -> Result<Call<KeyExpr>, KeyError>
     ensures { IfOk result (λ call. CallHasFirstIds (plain_call call)) }
 {
     Ok(Call::DeclareToken {

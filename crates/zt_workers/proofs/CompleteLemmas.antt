@@ -11,7 +11,7 @@ use Rattle.zt_protocol.specs.Plain.{PlainLine, Gateway, Session, Face as FaceLin
 use Rattle.zt_protocol.specs.declared.entries.Report.{Report}
 use Rattle.zt_protocol.specs.declared.errors.RunError.{RunError}
 use Rattle.zt_protocol.specs.declared.errors.RunError.TheVariants as errors
-use Rattle.zt_wire.specs.Reading.{line_read}
+use Rattle.zt_lines.specs.Reading.{line_read}
 use Rattle.zt_model.specs.Journal.{are_makings_first, is_driven, is_making, is_speaking}
 use Rattle.zt_fabric.specs.Transcripts.{BeginsWith, HasNoFault, Streams, most_bytes, status_of}
 use Rattle.zt_workers.specs.Answers.{Answers, GivesDriven, IsDriven}

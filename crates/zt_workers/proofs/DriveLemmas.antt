@@ -13,10 +13,10 @@ use Rattle.zt_protocol.specs.Plain.{PlainCall, PlainEntry, PlainLine, plain_line
 use Rattle.zt_protocol.specs.declared.entries.Report.{Report}
 use Rattle.zt_protocol.specs.declared.errors.RunError.{RunError}
 use Rattle.zt_protocol.specs.declared.errors.RunError.TheVariants as errors
-use Rattle.zt_wire.specs.Fields.{Fields, fields_of}
-use Rattle.zt_wire.specs.Grammar.{IsLine}
-use Rattle.zt_wire.specs.Reading.{line_read}
-use Rattle.zt_wire.proofs.ReadingLaw.{read_exactly}
+use Rattle.zt_lines.specs.Fields.{Fields, fields_of}
+use Rattle.zt_lines.specs.Grammar.{IsLine}
+use Rattle.zt_lines.specs.Reading.{line_read}
+use Rattle.zt_lines.proofs.ReadingLaw.{read_exactly}
 use Rattle.zt_model.specs.Fabric.{empty_fabric, entries_from}
 use Rattle.zt_model.specs.Promises.{MeetsPromises, MeetsStricterPromises, turns_from}
 use Rattle.zt_model.specs.Transcript.{Each, IsFaithfulFrom, IsStrictFrom}

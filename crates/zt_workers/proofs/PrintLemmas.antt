@@ -4,7 +4,7 @@ use Rattle.std.proofs.lemmas.Grind.{flat_map-append}
 use Rattle.std.specs.List.{flat_map, fold, sum_by}
 use Rattle.zt_protocol.specs.Plain.{PlainEntry}
 use Rattle.zt_protocol.specs.declared.entries.Report.{Report}
-use Rattle.zt_wire.specs.Text.{entry_text, report_text}
+use Rattle.zt_text.specs.Text.{entry_text, report_text}
 use Rattle.zt_text.specs.Sent.{EntryFits}
 use Rattle.zt_model.specs.Transcript.{Each, messages_in, refusals_in, report_of}
 use Rattle.zt_laws.proofs.Lists.{each_append, map-append}

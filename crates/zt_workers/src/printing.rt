@@ -8,7 +8,7 @@ use crate::answering::Answer;
 use std::alloc::Global;
 use zt_keys::{Key, Memory};
 use zt_protocol::{Entry, Report};
-use zt_wire::{write_entry, write_report};
+use zt_text::{write_entry, write_report};
 
 // Counts an entry.
 fn count<K>(report: &mut Report, entry: &Entry<K>)

@@ -1,7 +1,7 @@
 use Rattle.std.proofs.Common.{string_bytes, inr, refl}
 use Rattle.zt_streams.specs.Lines.{last_line, rest_of}
 use Rattle.zt_streams.specs.Streams.{AppendsPart, HasRisen}
-use Rattle.zt_wire.specs.Text.{report_text}
+use Rattle.zt_text.specs.Text.{report_text}
 use Rattle.zt_fabric.proofs.CarryLemmas.{ends-in-part, on_err, printed_alone}
 use Rattle.zt_fabric.proofs.running.finish.Goals as goal
 

@@ -4,7 +4,7 @@ use Rattle.zt_protocol.specs.Plain.{plain_entry}
 use Rattle.zt_fabric.specs.Carrying.{with_entry}
 use Rattle.zt_workers.specs.Answers.{AnswersFit, answered, answers_text, totals_of}
 use Rattle.zt_protocol.specs.declared.entries.Report.{Report}
-use Rattle.zt_wire.specs.Text.{entry_text}
+use Rattle.zt_text.specs.Text.{entry_text}
 use Rattle.zt_dealing.proofs.LineLemmas.{front_more}
 use Rattle.zt_workers.proofs.PrintLemmas.{fit_more, in_range_none, text_more, totals_more, totals_none}
 use Rattle.zt_workers.proofs.printing.print_all.Goals as goal

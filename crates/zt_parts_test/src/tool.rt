@@ -1,6 +1,6 @@
 //! What no clause says: that runs succeed, on scripts and transcripts from outside.
-use super::*;
 use std::test::Fail;
+use zt_fabric::tool;
 use zt_protocol::RunError;
 use zt_streams::{MemorySink, MemorySource};
 

@@ -2,14 +2,14 @@
 ghost use Rattle.std.specs.Prelude.{◌≤◌};
 ghost use Rattle.zt_region.specs.South.{subregion_count};
 
-use crate::{
+use std::alloc::Global;
+use std::process::Abort;
+use std::test::Fail;
+use zt_region::{
     Admission, Bound, Region, RegionError, SouthConf, Subregion, TransportPeer, WhatAmI, Zid,
     compute_multicast_region, compute_multicast_region_of, compute_region_of,
     compute_transient_bound_of,
 };
-use std::alloc::Global;
-use std::process::Abort;
-use std::test::Fail;
 
 /// Own mode, the remote's mode, the remote's transient bound, the answer.
 type Row = (

@@ -1,10 +1,13 @@
 //! What no clause says: that calls succeed, and what lines are, on texts from outside.
-use super::*;
 use std::alloc::Allocator;
 use std::fmt::Display;
 use std::io;
 use std::io::BufRead;
 use std::test::Fail;
+use zt_streams::{
+    CountingSink, MemorySink, MemorySource, ScriptError, StdSink, StdSource, lines_in_pieces,
+    read_script, write_all,
+};
 
 // The pieces of `text`, each of `size` bytes but the last.
 fn cut(rt: &HostRuntime, text: &str, size: usize) -> Result<Vec<Vec<u8>>, Fail> {

@@ -1,5 +1,5 @@
-//! A monitor beside another pass.
-ghost use Rattle.std.specs.Prelude.{◌≡◌, ◌≤◌, IfOk, OnOk};
+//! What a monitor beside another pass is told.
+ghost use Rattle.std.specs.Prelude.{◌≡◌, ◌≤◌, OnOk};
 ghost use Rattle.zt_laws.specs.Sound.{CallHasFirstIds};
 ghost use Rattle.zt_protocol.specs.Plain.{plain_call};
 
@@ -7,19 +7,10 @@ use crate::{Change, Monitor, PresenceError};
 use std::alloc::Global;
 use std::sync::Wait;
 use std::test::Fail;
-use zt_gateway::GatewayBuilder;
-use zt_keys::{Key, KeyError, KeyExpr};
+use zt_keys::{Key, KeyExpr};
+use zt_presence::{Change, Monitor, PresenceError};
 use zt_protocol::{Call, Refusal};
-use zt_region::{WhatAmI, Zid};
 use zt_shared::{Pass, SharedGateway};
-
-// A gateway of a client without faces, shared, and its first pass.
-fn opened(alloc: Global) -> Result<(SharedGateway<KeyExpr>, Pass<KeyExpr>), Fail>
-    ensures { IfOk result (λ made. made.1.table ≡ made.0) }
-{
-    let gateway = GatewayBuilder::new(alloc, WhatAmI::Client, Zid(1)).build::<KeyExpr>()?;
-    Ok(SharedGateway::new(alloc, gateway)?)
-}
 
 // Makes the call, after which the pass is one of the gateway as before.
 fn call<R: Wait>(
@@ -34,19 +25,6 @@ fn call<R: Wait>(
 {
     shared.call(rt, pass, call)?;
     Ok(())
-}
-
-// The face declares the key `k` with the id 1.
-fn declare(alloc: Global, face: u32) -> Result<Call<KeyExpr>, KeyError>
-    ensures { IfOk result (λ call. CallHasFirstIds (plain_call call)) }
-{
-    Ok(Call::DeclareToken {
-        face,
-        id: 1,
-        expr: KeyExpr::read(alloc, "k")?,
-        node_id: 0,
-        interest_id: None,
-    })
 }
 
 // The face's token with the id 1 is gone.

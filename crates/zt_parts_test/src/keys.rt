@@ -2,10 +2,10 @@
 // at `KeyExpr`.
 ghost use Rattle.std.specs.Prelude.{◌≡◌, IfOk, IfErr};
 
-use crate::{Anchor, Key, KeyError, KeyExpr};
 use std::alloc::{AllocError, Global};
 use std::hash::{DefaultHasher, Hash, Hasher};
 use std::test::Fail;
+use zt_keys::{Anchor, Key, KeyError, KeyExpr};
 
 // A key's printed text is read as the key, by the laws alone.
 fn read_back<K: Key>(alloc: Global, key: &K) -> Result<K, KeyError>

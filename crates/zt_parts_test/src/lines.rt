@@ -1,9 +1,15 @@
-use super::*;
+//! What no clause says: which lines are read, and tables of lines and entries with their texts.
 use bitflags::Flags;
 use std::alloc::Global;
 use std::test::*;
 use zt_keys::{Key, KeyError, KeyExpr};
+use zt_lines::read_line;
+use zt_protocol::{
+    Entry, InterestMode, InterestOptions, Line, LineError, Message, QueryableInfo, Refusal, Report,
+    Sent,
+};
 use zt_region::{Region, WhatAmI};
+use zt_text::{print_entry, print_report, read_sent};
 
 const GOOD: [&str; 45] = [
     "gateway client 1",

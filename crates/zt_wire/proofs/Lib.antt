@@ -1,1 +1,0 @@
-pub use Rattle.zt_lines.proofs.ReadingLaw
