@@ -128,7 +128,38 @@ static void messages(zl_engine *engine) {
     HOLDS(zl_face_close(engine, uplink) == ZL_NO_SUCH_FACE);
 }
 
+/* A script with room for its transcript, for a part of it and for nothing, and scripts that no run carries out whole. */
+static void runs(void) {
+    static const struct {
+        const char *script;
+        size_t length, room;
+        uint32_t status;
+        size_t written;
+        const char *out;
+    } rows[] = {
+        {"gateway client 1\nsession 1\ndeclare 1 1 k\n", 41, 30, ZL_OK, 27, "1 ok\n2 ok\n3 ok\ntotal 3 0 0\nxxx"},
+        {"gateway client 1\nsession 1\ndeclare 1 1 k\n", 41, 27, ZL_OK, 27, "1 ok\n2 ok\n3 ok\ntotal 3 0 0\n"},
+        {"gateway client 1\nsession 1\ndeclare 1 1 k\n", 41, 26, ZL_SHORT_BUFFER, 27, "1 ok\n2 ok\n3 ok\ntotal 3 0 0"},
+        {"gateway client 1\nsession 1\ndeclare 1 1 k\n", 41, 5, ZL_SHORT_BUFFER, 27, "1 ok\n"},
+        {"gateway client 1\nsession 1\ndeclare 1 1 k\n", 41, 0, ZL_SHORT_BUFFER, 27, ""},
+        {"", 0, 0, ZL_SHORT_BUFFER, 12, ""},
+        {"", 0, 12, ZL_OK, 12, "total 0 0 0\n"},
+        {"gateway client 1\nsession\n", 25, 6, ZL_MALFORMED_LINE, 5, "1 ok\nx"},
+        {"\n", 1, 1, ZL_MALFORMED_LINE, 0, "x"},
+        {"\xff", 1, 1, ZL_MALFORMED_LINE, 0, "x"},
+    };
+    for (size_t i = 0; i < sizeof rows / sizeof *rows; i++) {
+        uint8_t out[30];
+        size_t written = 0;
+        memset(out, 'x', sizeof out);
+        HOLDS(zl_run(bytes(rows[i].script), rows[i].length, out, rows[i].room, &written) == rows[i].status);
+        HOLDS(written == rows[i].written && memcmp(out, rows[i].out, rows[i].room) == 0);
+        for (size_t k = rows[i].room; k < sizeof out; k++) HOLDS(out[k] == 'x');
+    }
+}
+
 int main(void) {
+    runs();
     zl_engine engine = ZL_CLOSED;
     uint32_t session = 0;
     without_an_engine(&engine);

@@ -8,8 +8,6 @@ mod opening;
 mod running;
 mod streams;
 mod taking;
-#[cfg(test)]
-mod tests;
 
 pub use declaring::{
     zl_liveliness_declare_subscriber, zl_liveliness_declare_token, zl_liveliness_get,

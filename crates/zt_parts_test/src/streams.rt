@@ -5,8 +5,8 @@ use std::io;
 use std::io::BufRead;
 use std::test::Fail;
 use zt_streams::{
-    CountingSink, MemorySink, MemorySource, ScriptError, StdSink, StdSource, lines_in_pieces,
-    read_script, write_all,
+    CountingSink, Failed, MemorySink, MemorySource, ScriptError, Sink, Source, StdSink, StdSource,
+    lines_in_pieces, read_script, write_all,
 };
 
 // The pieces of `text`, each of `size` bytes but the last.

@@ -3,7 +3,7 @@ ghost use Rattle.std.specs.Prelude.{◌≡◌, ◌≤◌, OnOk};
 ghost use Rattle.zt_laws.specs.Sound.{CallHasFirstIds};
 ghost use Rattle.zt_protocol.specs.Plain.{plain_call};
 
-use crate::{Change, Monitor, PresenceError};
+use crate::sharing::{declare, opened};
 use std::alloc::Global;
 use std::sync::Wait;
 use std::test::Fail;
