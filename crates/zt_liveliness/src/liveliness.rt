@@ -24,12 +24,23 @@ use zt_samples::{Sample, take_sample};
 
 /// A gateway with its sessions and uplinks. Sessions and uplinks are named by the numbers of their
 /// faces, from 1 in order of making; a number isn't used again.
-#[derive(Drop)]
 pub struct Liveliness<K: Key> {
     pub(crate) alloc: Global,
     pub(crate) gateway: Gateway<K>,
     pub(crate) books: Books<K>,
     pub(crate) mail: Mail<K>,
+}
+
+// A drop of its own: the crates above prove one call, and not the drop of each field.
+impl<K: Key> Drop for Liveliness<K> {
+    fn drop(self) {
+        let Liveliness {
+            alloc: _,
+            gateway: _,
+            books: _,
+            mail: _,
+        } = self;
+    }
 }
 
 impl<K: Key> Model for Liveliness<K> {

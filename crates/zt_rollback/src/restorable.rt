@@ -33,7 +33,6 @@ const HELD_FOR_A_ROW: usize = 4;
 /// and 64 more: when they hold as much as the rows allowed that were counted last, these are
 /// counted anew, and if the calls hold more than half of what they may then, all is copied, and
 /// they are forgotten. Where memory lacks for that, they go on growing, and so does the way back.
-#[derive(Drop)]
 pub struct RestorableState<K: Key> {
     // What the gateway kept earlier.
     earlier: GatewayState<K>,
@@ -46,6 +45,19 @@ pub struct RestorableState<K: Key> {
     // What the gateway keeps, unless a call ran out of memory or isn't committed yet. Where there
     // is none and no call came since, it is what was kept earlier.
     current: Option<BoxedState<K>>,
+}
+
+// A drop of its own: the crates above prove one call, and not the drop of each field.
+impl<K: Key> Drop for RestorableState<K> {
+    fn drop(self) {
+        let RestorableState {
+            earlier: _,
+            calls: _,
+            held: _,
+            most: _,
+            current: _,
+        } = self;
+    }
 }
 
 impl<K: Key> Model for RestorableState<K> {

@@ -20,12 +20,23 @@ use zt_protocol::{Call, CallError, Refusal};
 
 /// A gateway with the journal of the calls on it, from the gateway as it was handed in. No message
 /// waits at it: a call's messages go into its entry.
-#[derive(Drop)]
 pub struct Journaled<K: Key> {
     alloc: Global,
     opening: Gateway<K>,
     gateway: Gateway<K>,
     entries: Vec<JournalEntry<K>>,
+}
+
+// A drop of its own: the crates above prove one call, and not the drop of each field.
+impl<K: Key> Drop for Journaled<K> {
+    fn drop(self) {
+        let Journaled {
+            alloc: _,
+            opening: _,
+            gateway: _,
+            entries: _,
+        } = self;
+    }
 }
 
 impl<K: Key> Model for Journaled<K> {

@@ -36,7 +36,6 @@ use zt_token_index::Seekers;
 /// A gateway: its settings, its open faces in order of number, the tokens of its router regions,
 /// the tables of these, and the numbers of expressions. A change that ran out of memory may be half
 /// made: such changes are for a copy that is dropped then.
-#[derive(Drop)]
 pub struct GatewayState<K: Key> {
     pub(crate) mode: WhatAmI,
     pub(crate) zid: Zid,
@@ -51,6 +50,27 @@ pub struct GatewayState<K: Key> {
     pub(crate) faces: Faces<K>,
     pub(crate) live: LiveCounts<K>,
     pub(crate) seekers: Seekers<K>,
+}
+
+// A drop of its own: the crates above prove one call, and not the drop of each field.
+impl<K: Key> Drop for GatewayState<K> {
+    fn drop(self) {
+        let GatewayState {
+            mode: _,
+            zid: _,
+            regions: _,
+            admission: _,
+            timeout: _,
+            moment: _,
+            made: _,
+            trees: _,
+            routed: _,
+            dictionary: _,
+            faces: _,
+            live: _,
+            seekers: _,
+        } = self;
+    }
 }
 
 impl<K: Key> Model for GatewayState<K> {
