@@ -157,3 +157,20 @@ first_lines (x ∷ a) (y ∷ b) more rest p q h =
     let t : a ++ 10 ∷ more ≡ b ++ 10 ∷ rest = cc in
     let r = first_lines a b more rest p.1 q.1 t in
     (rw (e, r.0) refl, r.1)
+
+-- texts that begin with a field have the same field, and the same behind it
+pub first_fields : (a b more rest : List ℕ) → AllByRecursion (λ b. is_byte 32 b ≡ false) a → AllByRecursion (λ b. is_byte 32 b ≡ false) b → a ++ 32 ∷ more ≡ b ++ 32 ∷ rest → (a ≡ b) × (more ≡ rest)
+first_fields [] [] more rest p q h = (refl, cc)
+first_fields [] (y ∷ b) more rest p q h = let e : 32 ≡ y = cc in absurd (no_space y (sym e) q.0)
+  where
+    no_space : (y : ℕ) → y ≡ 32 → is_byte 32 y ≡ false → ⊥
+    no_space y e g = let f : is_byte 32 32 ≡ false = sym (ap (is_byte 32) e) ∙ g in cc
+first_fields (x ∷ a) [] more rest p q h = let e : x ≡ 32 = cc in absurd (no_space x e p.0)
+  where
+    no_space : (y : ℕ) → y ≡ 32 → is_byte 32 y ≡ false → ⊥
+    no_space y e g = let f : is_byte 32 32 ≡ false = sym (ap (is_byte 32) e) ∙ g in cc
+first_fields (x ∷ a) (y ∷ b) more rest p q h =
+    let e : x ≡ y = cc in
+    let t : a ++ 32 ∷ more ≡ b ++ 32 ∷ rest = cc in
+    let r = first_fields a b more rest p.1 q.1 t in
+    (rw (e, r.0) refl, r.1)

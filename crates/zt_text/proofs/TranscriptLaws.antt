@@ -1,7 +1,9 @@
 -- The text of a transcript tells it apart from every other.
-use Rattle.std.proofs.Common.{◌≡◌, ◌⊎◌, inl, inr, ℕ, zero, suc, ◌+◌, ◌<◌, ◌≤◌, ◌/◌, ◌%◌, Bool, true, false, cond, List, [], ◌∷◌, ◌++◌, get_or, Option, Some, None, Result, Ok, Err, refl, sym, ap, subst, ◌∙◌, append_assoc, arith}
+use Rattle.std.proofs.Common.{◌≡◌, ◌⊎◌, inl, inr, ℕ, zero, suc, ◌+◌, ◌<◌, ◌≤◌, ◌/◌, ◌%◌, ◌^◌, Bool, true, false, cond, List, [], ◌∷◌, ◌++◌, map, get_or, Option, Some, None, Result, Ok, Err, refl, sym, ap, subst, ◌∙◌, append_assoc, arith}
 use Rattle.std.proofs.lemmas.Bool.Decides.{nat_tests}
+use Rattle.std.proofs.lemmas.Fmt.{decimal_injective}
 use Rattle.std.proofs.lemmas.List.{append-nil, append_cancel_left}
+use Rattle.std.proofs.lemmas.List.Elements.{recursion_from_All}
 use Rattle.std.specs.Prelude.{codes, decimal, if◌then◌else◌, ◌==◌}
 use Rattle.std.specs.Fmt.{digits, digits_onto, digit_glyph}
 use Rattle.std.specs.List.{AllByRecursion, flat_map}
@@ -19,8 +21,8 @@ use Rattle.zt_protocol.specs.declared.errors.Refusal.TheVariants.{UnknownGateway
 use Rattle.zt_fields.proofs.Exact.{some_is}
 use Rattle.zt_fields.specs.Fields.{is_byte}
 use Rattle.zt_text.specs.Sent.{IsSent, IsPrinted, ArePrinted}
-use Rattle.zt_text.specs.Text.{spaced, line_of, message_fields, transcript_text, sent_text, entry_text, report_text, entries_text}
-use Rattle.zt_text.proofs.Clean.{is_plain, clean_plain, feedless_line, first_lines}
+use Rattle.zt_text.specs.Text.{NumbersFit, spaced, line_of, message_fields, transcript_text, sent_text, entry_text, report_text, entries_text, numbered_text}
+use Rattle.zt_text.proofs.Clean.{is_plain, clean_plain, clean_decimal, feedless_line, first_fields, first_lines}
 use Rattle.zt_text.proofs.SentLaws.{sent_line, line_feedless, same_sent}
 
 -- ---- refusals
@@ -219,6 +221,10 @@ module _ {K : Type 0} (cmp : K → K → Ordering) (matching : K → K → Bool)
   behind_number (Ok sents) = (spaced (codes "ok" ∷ []) ++ 10 ∷ []) ++ flat_map (sent_text printed) sents
   behind_number (Err refusal) = spaced (codes "refused" ∷ name_of refusal ∷ []) ++ 10 ∷ []
 
+  number_first : (n : ℕ) (entry : PlainEntry K) → entry_text printed n entry ≡ decimal n ++ behind_number entry
+  number_first n (Ok sents) = append_assoc (decimal n) (spaced (codes "ok" ∷ []) ++ 10 ∷ []) (flat_map (sent_text printed) sents)
+  number_first n (Err refusal) = refl
+
   numbered : (n : ℕ) (entry : PlainEntry K) (entries : List (PlainEntry K)) (end : List ℕ)
       → entries_text printed n (entry ∷ entries) ++ end ≡ decimal n ++ (behind_number entry ++ (entries_text printed (n + 1) entries ++ end))
   unfolding entries_text
@@ -226,10 +232,6 @@ module _ {K : Type 0} (cmp : K → K → Ordering) (matching : K → K → Bool)
       append_assoc (entry_text printed n entry) (entries_text printed (n + 1) entries) end
       ∙ (ap (λ (t : List ℕ). t ++ (entries_text printed (n + 1) entries ++ end)) (number_first n entry)
       ∙ append_assoc (decimal n) (behind_number entry) (entries_text printed (n + 1) entries ++ end))
-    where
-      number_first : (n : ℕ) (entry : PlainEntry K) → entry_text printed n entry ≡ decimal n ++ behind_number entry
-      number_first n (Ok sents) = append_assoc (decimal n) (spaced (codes "ok" ∷ []) ++ 10 ∷ []) (flat_map (sent_text printed) sents)
-      number_first n (Err refusal) = refl
 
   -- a refusal's line, behind its number and before the line feed
   abbrev refused : Refusal → List ℕ
@@ -277,3 +279,56 @@ module _ {K : Type 0} (cmp : K → K → Ordering) (matching : K → K → Bool)
 
   pub transcripts_apart : (es fs : List (PlainEntry K)) (one two : Report) → ArePrinted es → ArePrinted fs → transcript_text printed es one ≡ transcript_text printed fs two → es ≡ fs
   transcripts_apart es fs one two p q h = (entries_apart es fs 1 (report_text one) (report_text two) p q (inr (_, refl)) (inr (_, refl)) h).0
+
+  -- ---- entries with numbers of their own
+
+  -- the text of an entry, behind its number and a space
+  abbrev behind_space : PlainEntry K → List ℕ
+  behind_space (Ok sents) = ((codes "ok" ++ []) ++ 10 ∷ []) ++ flat_map (sent_text printed) sents
+  behind_space (Err refusal) = (codes "refused" ++ spaced (name_of refusal ∷ [])) ++ 10 ∷ []
+
+  space_first : (entry : PlainEntry K) → behind_number entry ≡ 32 ∷ behind_space entry
+  space_first (Ok sents) = refl
+  space_first (Err refusal) = refl
+
+  numbered_begin : (x : ℕ × PlainEntry K) (xs : List (ℕ × PlainEntry K)) (end : List ℕ) → BeginsWithDigit (numbered_text printed (x ∷ xs) ++ end)
+  numbered_begin x xs end = begins_more (numbered_text printed (x ∷ xs)) end (begins_more (entry_text printed x.0 x.1) (numbered_text printed xs) (entry_begins x.0 x.1))
+
+  numbered_message : (xs : List (ℕ × PlainEntry K)) (end : List ℕ) → IsEnd end → HasNoMessage (numbered_text printed xs ++ end)
+  numbered_message [] end h = no_message_at_end end h
+  numbered_message (x ∷ xs) end h = no_message_at_digit (numbered_text printed (x ∷ xs) ++ end) (numbered_begin x xs end)
+
+  first_numbered : (x : ℕ × PlainEntry K) (xs : List (ℕ × PlainEntry K)) (end : List ℕ)
+      → numbered_text printed (x ∷ xs) ++ end ≡ decimal x.0 ++ 32 ∷ (behind_space x.1 ++ (numbered_text printed xs ++ end))
+  first_numbered x xs end =
+      let more = numbered_text printed xs ++ end in
+      append_assoc (entry_text printed x.0 x.1) (numbered_text printed xs) end
+      ∙ (ap (λ (t : List ℕ). t ++ more) (number_first x.0 x.1)
+      ∙ (append_assoc (decimal x.0) (behind_number x.1) more
+      ∙ ap (λ (t : List ℕ). decimal x.0 ++ (t ++ more)) (space_first x.1)))
+
+  spaceless : (n : ℕ) → n < 2 ^ 64 → AllByRecursion (λ b. is_byte 32 b ≡ false) (decimal n)
+  spaceless n small = recursion_from_All (λ b. is_byte 32 b ≡ false) (decimal n) (clean_decimal n small).no_space
+
+  numbered_apart : (xs ys : List (ℕ × PlainEntry K)) (end last : List ℕ) → NumbersFit xs → NumbersFit ys → ArePrinted (map (λ x. x.1) xs) → ArePrinted (map (λ x. x.1) ys)
+      → IsEnd end → IsEnd last → numbered_text printed xs ++ end ≡ numbered_text printed ys ++ last → (xs ≡ ys) × (end ≡ last)
+  numbered_apart [] [] end last u v p q a b h = (refl, h)
+  numbered_apart [] (y ∷ ys) end last u v p q a b h = absurd (no_digit_at_end end (subst BeginsWithDigit (sym h) (numbered_begin y ys last)) a)
+  numbered_apart (x ∷ xs) [] end last u v p q a b h = absurd (no_digit_at_end last (subst BeginsWithDigit h (numbered_begin x xs end)) b)
+  numbered_apart (x ∷ xs) (y ∷ ys) end last u v p q a b h =
+      let more = numbered_text printed xs ++ end in
+      let rest = numbered_text printed ys ++ last in
+      let fields = first_fields (decimal x.0) (decimal y.0) (behind_space x.1 ++ more) (behind_space y.1 ++ rest) (spaceless x.0 u.0) (spaceless y.0 v.0)
+      (sym (first_numbered x xs end) ∙ (h ∙ first_numbered y ys last)) in
+      let behind : behind_number x.1 ++ more ≡ behind_number y.1 ++ rest =
+      ap (λ (t : List ℕ). t ++ more) (space_first x.1) ∙ (ap (λ (t : List ℕ). 32 ∷ t) fields.1 ∙ sym (ap (λ (t : List ℕ). t ++ rest) (space_first y.1))) in
+      let first = entry_apart x.1 y.1 more rest p.0 q.0 (numbered_message xs end a) (numbered_message ys last b) behind in
+      let others = numbered_apart xs ys end last u.1 v.1 p.1 q.1 a b first.1 in
+      (same_numbered x y xs ys (decimal_injective x.0 y.0 u.0 v.0 fields.0) first.0 others.0, others.1)
+    where
+      same_numbered : (x y : ℕ × PlainEntry K) (xs ys : List (ℕ × PlainEntry K)) → x.0 ≡ y.0 → x.1 ≡ y.1 → xs ≡ ys → x ∷ xs ≡ y ∷ ys
+      same_numbered (n, e) (m, f) xs ys h g t = rw (h, g, t) refl
+
+  pub numbered_transcripts_apart : (xs ys : List (ℕ × PlainEntry K)) (one two : Report) → NumbersFit xs → NumbersFit ys → ArePrinted (map (λ x. x.1) xs) → ArePrinted (map (λ x. x.1) ys)
+      → numbered_text printed xs ++ report_text one ≡ numbered_text printed ys ++ report_text two → xs ≡ ys
+  numbered_transcripts_apart xs ys one two u v p q h = (numbered_apart xs ys (report_text one) (report_text two) u v p q (inr (_, refl)) (inr (_, refl)) h).0

@@ -1,6 +1,6 @@
 -- The printed text: a transcript's entries, their messages and the report.
-use Rattle.std.specs.Prelude.{◌≡◌, ℕ, ◌+◌, List, [], ◌∷◌, ◌++◌, codes, decimal, Option, Some, None, Ok, Err}
-use Rattle.std.specs.List.{flat_map}
+use Rattle.std.specs.Prelude.{◌≡◌, ℕ, ◌+◌, ◌<◌, ◌^◌, List, [], ◌∷◌, ◌++◌, codes, decimal, Option, Some, None, Ok, Err}
+use Rattle.std.specs.List.{AllByRecursion, flat_map}
 use Rattle.zt_protocol.specs.declared.entries.Report.{Report}
 use Rattle.zt_protocol.specs.declared.entries.Sent.{Sent}
 use Rattle.zt_protocol.specs.declared.messages.Message.{Message}
@@ -52,6 +52,14 @@ report_text report = line_of (codes "total") (decimal report.lines ∷ decimal r
 unfoldable pub entries_text : {K : Type 0} → (K → List ℕ) → ℕ → List (PlainEntry K) → List ℕ
 entries_text printed number [] = []
 entries_text printed number (entry ∷ entries) = entry_text printed number entry ++ entries_text printed (number + 1) entries
+
+-- the text of entries, each with the number of its line, in any order
+abbrev pub numbered_text : {K : Type 0} → (K → List ℕ) → List (ℕ × PlainEntry K) → List ℕ
+numbered_text printed entries = flat_map (λ x. entry_text printed x.0 x.1) entries
+
+-- the numbers of their lines fit in 64 bits
+abbrev pub NumbersFit : {K : Type 0} → List (ℕ × PlainEntry K) → Type 0
+NumbersFit entries = AllByRecursion (λ x. x.0 < 2 ^ 64) entries
 
 -- the text of a transcript: its entries, and its totals
 abbrev pub transcript_text : {K : Type 0} → (K → List ℕ) → List (PlainEntry K) → Report → List ℕ

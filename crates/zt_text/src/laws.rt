@@ -1,10 +1,17 @@
-ghost use Rattle.std.specs.Prelude.{◌≡◌, ◌++◌, ◌∷◌, [], ℕ, List, Ok};
+ghost use Rattle.std.specs.Prelude.{◌≡◌, ◌++◌, ◌∷◌, [], ℕ, List, Ok, map};
 ghost use Rattle.zt_keys.specs.Key.{OneSpelling};
 ghost use Rattle.zt_protocol.specs.declared.entries.Sent.{Sent};
 ghost use Rattle.zt_protocol.specs.declared.entries.Report.{Report};
 ghost use Rattle.zt_protocol.specs.Plain.{PlainEntry};
 ghost use Rattle.zt_text.specs.Sent.{ArePrinted, IsSent, sent_read};
-ghost use Rattle.zt_text.specs.Text.{entries_text, sent_text, transcript_text};
+ghost use Rattle.zt_text.specs.Text.{
+  NumbersFit,
+  entries_text,
+  numbered_text,
+  report_text,
+  sent_text,
+  transcript_text,
+};
 
 use zt_keys::Key;
 
@@ -29,4 +36,15 @@ pub fn texts_tell_transcripts_apart<K: Key>()
         → transcript_text K.printed es one ≡ transcript_text K.printed fs two → es ≡ fs }
     ensures front { (es fs : List (PlainEntry K)) (number : ℕ) → ArePrinted es → ArePrinted fs
         → entries_text K.printed number es ≡ entries_text K.printed number fs → es ≡ fs }
+{}
+
+/// The text of entries whose lines were carried out in another order, each with the number of its
+/// line, names the entries and their numbers: no others have it, with totals behind them. Numbers
+/// of lines are below 2^64.
+pub fn numbered_texts_tell_entries_apart<K: Key>()
+    ensures { (es fs : List (ℕ × PlainEntry K)) (one two : Report)
+        → NumbersFit es → NumbersFit fs
+        → ArePrinted (map (λ x. x.1) es) → ArePrinted (map (λ x. x.1) fs)
+        → numbered_text K.printed es ++ report_text one
+        ≡ numbered_text K.printed fs ++ report_text two → es ≡ fs }
 {}

@@ -6,6 +6,6 @@ mod laws;
 mod printing;
 mod sent;
 
-pub use laws::{printing_is_read, texts_tell_transcripts_apart};
+pub use laws::{numbered_texts_tell_entries_apart, printing_is_read, texts_tell_transcripts_apart};
 pub use printing::{print_entry, print_report, write_entry, write_report};
 pub use sent::read_sent;
