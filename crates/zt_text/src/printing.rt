@@ -1,6 +1,6 @@
 // The printed text. The private functions add to a text, and leave a part of what they add where
 // memory runs out.
-ghost use Rattle.std.specs.Prelude.{◌≡◌, ◌+◌, ◌<◌, ◌≤◌, ◌++◌, ◌∷◌, [], take, decimal, IsUtf8, codes};
+ghost use Rattle.std.specs.Prelude.{◌≡◌, ◌+◌, ◌<◌, ◌≤◌, ◌++◌, ◌^◌, ◌∷◌, [], take, decimal, IsUtf8, codes};
 ghost use Rattle.std.specs.Prelude.{OnOk, OnErr, IfOk, is_ok, if◌then◌else◌, string_bytes};
 ghost use Rattle.std.specs.List.{AllByRecursion, flat_map};
 ghost use Rattle.std.specs.Option.{option_copied};
@@ -155,8 +155,8 @@ fn undo(out: &mut String, before: usize)
     out.truncate(before);
 }
 
-/// Appends an entry, with the number of its line. Its numbers are within their types, so that the
-/// text tells it apart from others.
+/// Appends an entry, with the number of its line. Its numbers and the line's are within their types,
+/// so that the text tells it apart from others.
 ///
 /// After an error `out` is as before.
 pub fn write_entry<K: Key>(out: &mut String, line: u64, entry: &Entry<K>) -> Result<(), Memory>
@@ -164,6 +164,7 @@ pub fn write_entry<K: Key>(out: &mut String, line: u64, entry: &Entry<K>) -> Res
         ≡ (if is_ok result then string_bytes out.old
         ++ entry_text K.printed line (plain_entry entry.now) else string_bytes out.old) }
     ensures fit { OnOk result (EntryFits (plain_entry entry.now)) }
+    ensures number { line < 2 ^ 64 }
 {
     let before = out.len();
     let result = put_entry(out, line, entry);
