@@ -78,7 +78,7 @@ fn driven<R: Threads + Wait + Sync, G: Gate + Sync>(
 #[test]
 fn one_worker_keeps_the_order(rt: HostRuntime) -> Result<(), Fail> {
     let text = driven(&rt, rt.alloc(), OWN_TOKEN, 1, &NoGate)?;
-    assert_eq!(rt; text.as_str(), OWN_TOKEN_OUT);
+    assert!(rt; text.as_str() == OWN_TOKEN_OUT);
     Ok(())
 }
 
@@ -88,7 +88,7 @@ fn workers_work_at_the_same_time(rt: HostRuntime) -> Result<(), Fail> {
         fifth_is_done: AtomicBool::new(false),
     };
     let text = driven(&rt, rt.alloc(), TWO_DECLARE, 2, &gate)?;
-    assert_eq!(rt; text.as_str(), SECOND_FIRST);
+    assert!(rt; text.as_str() == SECOND_FIRST);
     Ok(())
 }
 
@@ -113,11 +113,11 @@ fn tried<R: Threads + Wait + Sync>(
 #[test]
 fn words_name_the_workers(rt: HostRuntime) -> Result<(), Fail> {
     let (status, text) = tried(&rt, rt.alloc(), &["1"])?;
-    assert_eq!(rt; status, 0);
-    assert_eq!(rt; text.as_str(), OWN_TOKEN_OUT);
+    assert!(rt; status == 0);
+    assert!(rt; text.as_str() == OWN_TOKEN_OUT);
     for words in [[].as_slice(), &["0"], &["17"], &["x"]] {
         let (status, text) = tried(&rt, rt.alloc(), words)?;
-        assert_eq!(rt; status, 64);
+        assert!(rt; status == 64);
         assert!(rt; text.is_empty());
     }
     Ok(())

@@ -32,9 +32,8 @@ fn polls_are_printed_in_their_order(rt: HostRuntime) -> Result<(), Fail> {
     })?;
     let mut text = String::from_str(alloc, "total 1 0 0\n")?;
     write_polls(&mut text, polls.as_slice())?;
-    assert_eq!(rt;
-        text.as_str(),
-        "total 1 0 0\npoll 7\n+ a\n+ b/c\n- **\npoll 4096 refused UnknownFace\n"
+    assert!(rt;
+        text.as_str() == "total 1 0 0\npoll 7\n+ a\n+ b/c\n- **\npoll 4096 refused UnknownFace\n"
     );
     Ok(())
 }

@@ -110,14 +110,14 @@ fn two_passes_call_one_gateway(rt: HostRuntime) -> Result<(), Fail> {
     let alloc = rt.alloc();
     let (shared, mut first) = opened(alloc)?;
     let session = called(&rt, &shared, &mut first, Call::NewSession { first: 1 })?;
-    assert_eq!(rt; session, receipt(0, Ok(Some(1))));
+    assert!(rt; session == receipt(0, Ok(Some(1))));
     let token = called(&rt, &shared, &mut first, declare(alloc, 1)?)?;
-    assert_eq!(rt; token, receipt(1, Ok(None)));
+    assert!(rt; token == receipt(1, Ok(None)));
     let mut second = shared.pass(&mut first)?;
-    assert_eq!(rt; second.number(), 1);
-    assert_eq!(rt; shared.front(&mut second), 2);
+    assert!(rt; second.number() == 1);
+    assert!(rt; shared.front(&mut second) == 2);
     let unknown = called(&rt, &shared, &mut second, declare(alloc, 9)?)?;
-    assert_eq!(rt; unknown, receipt(2, Err(Refusal::UnknownFace)));
+    assert!(rt; unknown == receipt(2, Err(Refusal::UnknownFace)));
     let none = entry(&rt, alloc, &shared, &mut first, 3)?;
     assert!(rt; none.is_none());
     let copy = entry(&rt, alloc, &shared, &mut first, 2)?;
@@ -129,12 +129,12 @@ fn two_passes_call_one_gateway(rt: HostRuntime) -> Result<(), Fail> {
     };
     assert!(rt; copy == Some(made_by_second));
     let error = refused(alloc, shared, first)?;
-    assert_eq!(rt; (error.made, error.handed), (2, 1));
+    assert!(rt; (error.made, error.handed) == (2, 1));
     let journal = closed(error, second)?;
     let mut numbers = Vec::new(alloc);
     for made in &journal.entries {
         numbers.push(made.pass)?;
     }
-    assert_eq!(rt; numbers.as_slice(), [0, 0, 1].as_slice());
+    assert!(rt; numbers.as_slice() == [0, 0, 1].as_slice());
     Ok(())
 }

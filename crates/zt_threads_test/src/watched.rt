@@ -87,6 +87,6 @@ fn a_poll_is_made_between_two_lines(rt: HostRuntime) -> Result<(), Fail> {
         poll_is_done: AtomicBool::new(false),
     };
     let text = watched(&rt, rt.alloc(), TWO_DECLARE, &gate)?;
-    assert_eq!(rt; text.as_str(), POLLED_BETWEEN);
+    assert!(rt; text.as_str() == POLLED_BETWEEN);
     Ok(())
 }
