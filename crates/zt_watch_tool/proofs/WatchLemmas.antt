@@ -53,6 +53,7 @@ module _ {K : Type 0} (reading : List ℕ → Result K KeyError) (cmp : K → K 
         script = record { fits = fits; lines = made.lines; are_read = subst (λ b. AreRead reading (lines_of b) made.lines) whole made.are_read; driven = made.driven };
         transcript = made.transcript;
         are_printed = made.are_printed;
+        numbers_fit = made.numbers_fit;
       }
 
   -- all was written
@@ -120,7 +121,8 @@ module _ {K : Type 0} (reading : List ℕ → Result K KeyError) (cmp : K → K 
           answers = answers;
           polls = polls;
           transcript = transcript;
-          are_printed = entries_printed cmp matching (map (λ (x : ℕ × PlainLine K). x.1) transcript.watched.order) (map (λ (x : ℕ × PlainEntry K). x.1) answers) empty_fabric transcript.are_faithful fit;
+          are_printed = entries_printed cmp matching (map (λ (x : ℕ × PlainLine K). x.1) transcript.watched.order) (map (λ (x : ℕ × PlainEntry K). x.1) answers) empty_fabric transcript.are_faithful fit.entries;
+          numbers_fit = fit.numbers;
           text_is = text_is;
           totals = totals_are;
         }

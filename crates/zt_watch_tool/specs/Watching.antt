@@ -10,6 +10,7 @@ use Rattle.zt_protocol.specs.declared.entries.Report.{Report}
 use Rattle.zt_protocol.specs.declared.errors.RunError.{RunError}
 use Rattle.zt_protocol.specs.declared.errors.RunError.TheVariants as errors
 use Rattle.zt_text.specs.Sent.{ArePrinted}
+use Rattle.zt_text.specs.Text.{NumbersFit}
 use Rattle.zt_model.specs.Fabric.{empty_fabric}
 use Rattle.zt_model.specs.Journal.{Journalled, is_driven, is_speaking}
 use Rattle.zt_model.specs.Promises.{MeetsPromises, MeetsStricterPromises, turns_from}
@@ -78,8 +79,8 @@ module _ {K : Type 0} (cmp : K → K → Ordering) (matching : K → K → Bool)
 module _ {K : Type 0} (cmp : K → K → Ordering) (matching : K → K → Bool) (reading : List ℕ → Result K KeyError) (printed : K → List ℕ) where
   module _ (workers count : ℕ) (expr : Option K) where
     -- The bytes are all of a script, the text is that of its transcript and of the polls, and the report has the totals.
-    -- The numbers of its entries are within their types and their options have letters, so that no other entries have
-    -- their text.
+    -- The numbers of its lines and entries are within their types and their options have letters, so that each has a
+    -- printed form.
     pub record Transcribes (bytes : List ℕ) (longer : Bool) (text : List ℕ) (report : Report) : Type 0 where
       pub whole : longer ≡ false
       pub lines : List (PlainLine K)
@@ -89,10 +90,11 @@ module _ {K : Type 0} (cmp : K → K → Ordering) (matching : K → K → Bool)
       pub polls : List (PlainPoll K)
       pub transcript : AreTranscript cmp matching workers lines count expr answers polls
       pub are_printed : ArePrinted (map (λ x. x.1) answers)
+      pub numbers_fit : NumbersFit answers
       pub text_is : text ≡ watched_text printed answers polls
       pub totals : report ≡ totals_of answers
 
-    -- The source was read to its end, and these are the answers of its lines, of which no others have the text, and the
+    -- The source was read to its end, and these are the answers of its lines, each with a printed form, and the
     -- monitor's polls.
     pub record IsCarriedOut (old new : Streams) (answers : List (ℕ × PlainEntry K)) (polls : List (PlainPoll K)) : Type 0 where
       pub read : List ℕ
@@ -101,6 +103,7 @@ module _ {K : Type 0} (cmp : K → K → Ordering) (matching : K → K → Bool)
       pub script : IsDriven reading read
       pub transcript : AreTranscript cmp matching workers script.lines count expr answers polls
       pub are_printed : ArePrinted (map (λ x. x.1) answers)
+      pub numbers_fit : NumbersFit answers
 
     -- Exactly the transcript of all lines was written, with its totals, which are the answer, and the polls.
     pub record WatchedToItsEnd (old new : Streams) (report : Report) : Type 0 where

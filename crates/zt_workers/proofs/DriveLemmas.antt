@@ -141,6 +141,7 @@ module _ {K : Type 0} (reading : List ℕ → Result K KeyError) where
           script = record { fits = fits; lines = made.lines; are_read = subst (λ b. AreRead reading (lines_of b) made.lines) whole made.are_read; driven = made.driven };
           transcript = made.transcript;
           are_printed = made.are_printed;
+          numbers_fit = made.numbers_fit;
         }
 
     -- the transcript was written
@@ -251,7 +252,8 @@ module _ {K : Type 0} (reading : List ℕ → Result K KeyError) where
             driven = lines_driven plan read.form;
             answers = answers;
             transcript = transcript;
-            are_printed = entries_printed cmp matching (map (λ (x : ℕ × PlainLine K). x.1) transcript.reorders.order) (map (λ (x : ℕ × PlainEntry K). x.1) answers) empty_fabric transcript.are_faithful fit;
+            are_printed = entries_printed cmp matching (map (λ (x : ℕ × PlainLine K). x.1) transcript.reorders.order) (map (λ (x : ℕ × PlainEntry K). x.1) answers) empty_fabric transcript.are_faithful fit.entries;
+            numbers_fit = fit.numbers;
             text_is = text_is;
             totals = totals;
           }

@@ -1,5 +1,5 @@
 -- The text and the totals of answers, with one more.
-use Rattle.std.proofs.Common.{◌≡◌, ℕ, suc, ◌+◌, List, [], ◌∷◌, ◌++◌, length, map, refl, sym, ap, ◌∙◌, subst, arith, append_assoc, append-nil, length-append}
+use Rattle.std.proofs.Common.{◌≡◌, ℕ, suc, ◌+◌, ◌<◌, ◌^◌, List, [], ◌∷◌, ◌++◌, length, map, refl, sym, ap, ◌∙◌, subst, arith, append_assoc, append-nil, length-append}
 use Rattle.std.proofs.lemmas.Grind.{flat_map-append}
 use Rattle.std.specs.List.{flat_map, fold, sum_by}
 use Rattle.zt_protocol.specs.Plain.{PlainEntry}
@@ -32,9 +32,11 @@ module _ {K : Type 0} where
       ap report_of (map-append (λ (y : ℕ × PlainEntry K). y.1) xs (x ∷ []))
       ∙ same_report (length-append (map (λ y. y.1) xs) (x.1 ∷ [])) (fold_more (λ a e. a + messages_in e) 0 (map (λ y. y.1) xs) x.1) (fold_more (λ a e. a + refusals_in e) 0 (map (λ y. y.1) xs) x.1)
 
-  pub fit_more : (xs : List (ℕ × PlainEntry K)) (x : ℕ × PlainEntry K) → AnswersFit xs → EntryFits x.1 → AnswersFit (xs ++ x ∷ [])
-  fit_more xs x fit last =
-      subst (Each EntryFits) (sym (map-append (λ (y : ℕ × PlainEntry K). y.1) xs (x ∷ []))) (each_append EntryFits (map (λ (y : ℕ × PlainEntry K). y.1) xs) (x.1 ∷ []) fit (last, tt))
+  pub fit_more : (xs : List (ℕ × PlainEntry K)) (x : ℕ × PlainEntry K) → AnswersFit xs → EntryFits x.1 → x.0 < 2 ^ 64 → AnswersFit (xs ++ x ∷ [])
+  fit_more xs x fit last small = record {
+    entries = subst (Each EntryFits) (sym (map-append (λ (y : ℕ × PlainEntry K). y.1) xs (x ∷ []))) (each_append EntryFits (map (λ (y : ℕ × PlainEntry K). y.1) xs) (x.1 ∷ []) fit.entries (last, tt));
+    numbers = each_append (λ (y : ℕ × PlainEntry K). y.0 < 2 ^ 64) xs (x ∷ []) fit.numbers (small, tt);
+  }
 
   pub text_more : (printed : K → List ℕ) (xs : List (ℕ × PlainEntry K)) (x : ℕ × PlainEntry K) → answers_text printed (xs ++ x ∷ []) ≡ answers_text printed xs ++ entry_text printed x.0 x.1
   text_more printed xs x =

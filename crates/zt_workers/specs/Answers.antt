@@ -1,6 +1,5 @@
 -- What a run of a script by many workers reads, writes and answers.
 use Rattle.std.specs.Prelude.{◌≡◌, ℕ, ◌+◌, ◌<◌, ◌≤◌, Bool, true, false, not, List, [], ◌∷◌, ◌++◌, length, take, map, filter, Option, None, Some, Result, Ok, Err}
-use Rattle.std.specs.List.{flat_map}
 use Rattle.std.specs.declared.cmp.Ordering.{Ordering}
 use Rattle.std.specs.Io.KnownBytes.{Appends, Consumes, IsAtEnd}
 use Rattle.zt_keys.specs.declared.error.KeyError.{KeyError}
@@ -12,7 +11,7 @@ use Rattle.zt_protocol.specs.declared.errors.RunError.{RunError}
 use Rattle.zt_protocol.specs.declared.errors.RunError.TheVariants as errors
 use Rattle.zt_text.specs.Sent.{ArePrinted, EntryFits}
 use Rattle.zt_lines.specs.Reading.{line_read}
-use Rattle.zt_text.specs.Text.{entry_text, report_text}
+use Rattle.zt_text.specs.Text.{NumbersFit, numbered_text, report_text}
 use Rattle.zt_model.specs.Fabric.{empty_fabric, entries_from}
 use Rattle.zt_model.specs.Journal.{IsReordered, Journalled, is_driven, is_speaking}
 use Rattle.zt_model.specs.Promises.{MeetsPromises, MeetsStricterPromises, turns_from}
@@ -37,7 +36,7 @@ answered answer = (answer.line, plain_entry answer.entry)
 
 -- the text of answers, in their order
 abbrev pub answers_text : {K : Type 0} → (K → List ℕ) → List (ℕ × PlainEntry K) → List ℕ
-answers_text printed answers = flat_map (λ x. entry_text printed x.0 x.1) answers
+answers_text printed answers = numbered_text printed answers
 
 abbrev pub totals_of : {K : Type 0} → List (ℕ × PlainEntry K) → Report
 totals_of answers = report_of (map (λ x. x.1) answers)
@@ -45,9 +44,10 @@ totals_of answers = report_of (map (λ x. x.1) answers)
 abbrev pub transcript_text : {K : Type 0} → (K → List ℕ) → List (ℕ × PlainEntry K) → List ℕ
 transcript_text printed answers = answers_text printed answers ++ report_text (totals_of answers)
 
--- the numbers of their messages are within their types
-abbrev pub AnswersFit : {K : Type 0} → List (ℕ × PlainEntry K) → Type 0
-AnswersFit answers = Each EntryFits (map (λ x. x.1) answers)
+-- the numbers of their messages and of their lines are within their types
+pub record AnswersFit {K : Type 0} (answers : List (ℕ × PlainEntry K)) : Type 0 where
+  pub entries : Each EntryFits (map (λ x. x.1) answers)
+  pub numbers : NumbersFit answers
 
 -- the calls of those lines that speak for a face or close one, each with the number of its line
 abbrev pub calls_in : {K : Type 0} → List (ℕ × PlainLine K) → List (ℕ × PlainCall K)
@@ -134,7 +134,8 @@ module _ {K : Type 0} (cmp : K → K → Ordering) (matching : K → K → Bool)
   -- carried out by so many workers
   module _ (workers : ℕ) where
     -- The bytes are all of a script, the text is that of its transcript, and the report has its totals. The numbers of
-    -- its entries are within their types and their options have letters, so that no other entries have their text.
+    -- its lines and entries are within their types and their options have letters, so that no other answers have their
+    -- text.
     pub record Transcribes (bytes : List ℕ) (longer : Bool) (text : List ℕ) (report : Report) : Type 0 where
       pub whole : longer ≡ false
       pub lines : List (PlainLine K)
@@ -143,6 +144,7 @@ module _ {K : Type 0} (cmp : K → K → Ordering) (matching : K → K → Bool)
       pub answers : List (ℕ × PlainEntry K)
       pub transcript : AreTranscript cmp matching workers lines answers
       pub are_printed : ArePrinted (map (λ x. x.1) answers)
+      pub numbers_fit : NumbersFit answers
       pub text_is : text ≡ transcript_text printed answers
       pub totals : report ≡ totals_of answers
 
@@ -154,6 +156,7 @@ module _ {K : Type 0} (cmp : K → K → Ordering) (matching : K → K → Bool)
       pub script : IsDriven reading read
       pub transcript : AreTranscript cmp matching workers script.lines answers
       pub are_printed : ArePrinted (map (λ x. x.1) answers)
+      pub numbers_fit : NumbersFit answers
 
     -- Exactly the transcript of all lines was written, with its totals, which are the answer.
     pub record DroveToItsEnd (old new : Streams) (report : Report) : Type 0 where

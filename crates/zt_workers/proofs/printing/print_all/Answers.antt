@@ -10,7 +10,7 @@ use Rattle.zt_workers.proofs.PrintLemmas.{fit_more, in_range_none, text_more, to
 use Rattle.zt_workers.proofs.printing.print_all.Goals as goal
 
 pub loop-answer-init : goal.loop-answer-init
-loop-answer-init g c = record { text = search rules; totals = totals_none _ refl; fit = tt; lines = refl; range = in_range_none }
+loop-answer-init g c = record { text = search rules; totals = totals_none _ refl; fit = record { entries = tt; numbers = tt }; lines = refl; range = in_range_none }
 
 pub loop-answer-preserved : goal.loop-answer-preserved
 loop-answer-preserved g c =
@@ -22,7 +22,7 @@ loop-answer-preserved g c =
     record {
       text = written ∙ ap (λ t. t ++ entry_text g.K.Key.printed x.0 x.1) inv.text ∙ sym (ap (answers_text g.K.Key.printed) front ∙ text_more g.K.Key.printed xs x);
       totals = c.count.ensures.counted ∙ ap (with_entry x.1) inv.totals ∙ sym (ap totals_of front ∙ totals_more xs x);
-      fit = subst AnswersFit (sym front) (fit_more xs x inv.fit c.in_ok-write_entry.ensures.fit);
+      fit = subst AnswersFit (sym front) (fit_more xs x inv.fit c.in_ok-write_entry.ensures.fit c.in_ok-write_entry.ensures.number);
       lines = ap (λ (r : Report). r.lines) c.count.ensures.counted ∙ ap (λ n. n + 1) inv.lines;
       range = c.count.ensures.range;
     }
