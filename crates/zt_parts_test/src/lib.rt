@@ -1,7 +1,9 @@
-//! Tests of keys, regions, streams, lines and the program, over what their crates show others: that
-//! calls succeed, and tables of texts with their answers. No clause says these.
+//! Tests of keys, regions, streams and lines, over what their crates show others: that calls
+//! succeed, and tables of texts with their answers. No clause says these.
 #![tactic(auto)]
 
+#[cfg(test)]
+mod errors;
 #[cfg(test)]
 mod keys;
 #[cfg(test)]
@@ -10,5 +12,3 @@ mod lines;
 mod regions;
 #[cfg(test)]
 mod streams;
-#[cfg(test)]
-mod tool;
