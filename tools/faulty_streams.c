@@ -1,6 +1,6 @@
-// Makes standard input and output of a program come in pieces and fail: loaded before the C library, it lets each read give
+// Makes standard input and output of a program come in chunks and fail: loaded before the C library, it lets each read give
 // at most READ_AT_MOST bytes and each write take at most WRITE_AT_MOST, and answers an error to the FAIL_READ-th read and
-// to the FAIL_WRITE-th write alone. With COUNT_CALLS it says at the end how many there were.
+// to the FAIL_WRITE-th write alone. With TELL_CALLS it says on standard error what each call answered: 'read 8', 'write -1'.
 #define _GNU_SOURCE
 #include <dlfcn.h>
 #include <errno.h>
@@ -18,39 +18,41 @@ static long number(const char *name)
     return text ? atol(text) : 0;
 }
 
-__attribute__((constructor)) static void begin(void)
-{
-    next_read = (ssize_t(*)(int, void *, size_t))dlsym(RTLD_NEXT, "read");
-    next_write = (ssize_t(*)(int, const void *, size_t))dlsym(RTLD_NEXT, "write");
-}
-
-__attribute__((destructor)) static void end(void)
-{
-    if (getenv("COUNT_CALLS"))
-        dprintf(2, "reads %ld writes %ld\n", reads, writes);
-}
-
 static size_t least(size_t size, long most)
 {
     return most > 0 && (size_t)most < size ? (size_t)most : size;
 }
 
-static ssize_t failed(void)
+// What a call answers, once it is said. An answer below 0 comes with this error.
+static ssize_t told(const char *call, ssize_t count, int error)
 {
-    errno = EIO;
-    return -1;
+    if (getenv("TELL_CALLS"))
+        dprintf(2, "%s %zd\n", call, count);
+    if (count < 0)
+        errno = error;
+    return count;
 }
 
 ssize_t read(int file, void *at, size_t size)
 {
+    if (!next_read)
+        next_read = (ssize_t(*)(int, void *, size_t))dlsym(RTLD_NEXT, "read");
     if (file != 0)
         return next_read(file, at, size);
-    return ++reads == number("FAIL_READ") ? failed() : next_read(file, at, least(size, number("READ_AT_MOST")));
+    if (++reads == number("FAIL_READ"))
+        return told("read", -1, EIO);
+    ssize_t count = next_read(file, at, least(size, number("READ_AT_MOST")));
+    return told("read", count, errno);
 }
 
 ssize_t write(int file, const void *at, size_t size)
 {
+    if (!next_write)
+        next_write = (ssize_t(*)(int, const void *, size_t))dlsym(RTLD_NEXT, "write");
     if (file != 1)
         return next_write(file, at, size);
-    return ++writes == number("FAIL_WRITE") ? failed() : next_write(file, at, least(size, number("WRITE_AT_MOST")));
+    if (++writes == number("FAIL_WRITE"))
+        return told("write", -1, EIO);
+    ssize_t count = next_write(file, at, least(size, number("WRITE_AT_MOST")));
+    return told("write", count, errno);
 }
