@@ -58,6 +58,8 @@ void *realloc(void *block, size_t size)
 
 ssize_t write(int file, const void *at, size_t size)
 {
+    if (!next_write)
+        next_write = (ssize_t(*)(int, const void *, size_t))dlsym(RTLD_NEXT, "write");
     ssize_t count = next_write(file, at, size);
     if (file == 1 && count > 0)
         is_amid = ((const char *)at)[count - 1] != '\n';
