@@ -1,6 +1,6 @@
 // Calls that are made again where they ran out of memory.
 use crate::counts::Count;
-use crate::row::Step;
+use crate::row::{Call, Plain};
 use std::alloc::Global;
 use zt_keys::{Key, KeyError, Memory};
 use zt_locals::{LocalResourceInsertResult, LocalResourceRemoveResult, LocalResources};
@@ -15,7 +15,7 @@ pub enum Fault {
     BadKey,
     /// The sink failed.
     Write,
-    /// A step ran out of memory so often as it was made.
+    /// A step ran out of memory each time.
     Memory,
 }
 
@@ -33,7 +33,7 @@ impl Fault {
 /// Local resources whose ids are numbers and whose infos are counts.
 pub type Resources<K> = LocalResources<u32, K, Count>;
 
-/// What a call answers.
+/// What a call that takes memory answers.
 #[derive(Drop)]
 pub enum Answer<K: Key> {
     /// The id of a simple resource, and what is to be told.
@@ -42,10 +42,6 @@ pub enum Answer<K: Key> {
     Aggregated(u32, Option<Count>),
     /// What is to be told.
     Removed(Vec<LocalResourceRemoveResult<u32, K, Count>>),
-    /// Whether it is so.
-    Is(bool),
-    /// Nothing.
-    Done,
 }
 
 fn draw(next: &mut u32) -> u32 {
@@ -103,45 +99,18 @@ fn remove<K: Key>(
     }
 }
 
-// Calls that take no memory but for the key.
-fn ask<K: Key>(
-    alloc: Global,
-    resources: &mut Resources<K>,
-    step: &Step<'_>,
-) -> Result<Answer<K>, Fault> {
-    match *step {
-        Step::EndAggregated(text, interest) => {
-            let key = key(alloc, text)?;
-            Ok(Answer::Is(resources.remove_aggregated_resource_interest(&key, interest)))
-        }
-        Step::Contains(text) => {
-            let key = key(alloc, text)?;
-            Ok(Answer::Is(resources.contains_simple_resource(&key)))
-        }
-        Step::EndSimple(interest) => {
-            resources.remove_simple_resource_interest(interest);
-            Ok(Answer::Done)
-        }
-        _ => {
-            resources.clear();
-            Ok(Answer::Done)
-        }
-    }
-}
-
 fn try_answer<K: Key>(
     alloc: Global,
     resources: &mut Resources<K>,
     next: &mut u32,
-    step: &Step<'_>,
+    call: &Call<'_>,
 ) -> Result<Answer<K>, Fault> {
-    match *step {
-        Step::Simple(text, number, interests) => {
+    match *call {
+        Call::Simple(text, number, interests) => {
             insert(alloc, resources, next, text, number, interests)
         }
-        Step::Aggregated(text, interests) => aggregate(alloc, resources, next, text, interests),
-        Step::Remove(text) => remove(alloc, resources, text),
-        _ => ask(alloc, resources, step),
+        Call::Aggregated(text, interests) => aggregate(alloc, resources, next, text, interests),
+        Call::Remove(text) => remove(alloc, resources, text),
     }
 }
 
@@ -150,13 +119,46 @@ pub fn answer_again<K: Key>(
     alloc: Global,
     resources: &mut Resources<K>,
     next: &mut u32,
-    step: &Step<'_>,
+    call: &Call<'_>,
 ) -> Result<Answer<K>, Fault> {
     for _ in 0..TRIES {
-        match try_answer(alloc, resources, next, step) {
+        match try_answer(alloc, resources, next, call) {
             Err(Fault::Memory) => {}
             other => return other,
         }
     }
     Err(Fault::Memory)
+}
+
+/// The key of a text, once reading it doesn't run out of memory.
+pub fn key_again<K: Key>(alloc: Global, text: &str) -> Result<K, Fault> {
+    for _ in 0..TRIES {
+        match key(alloc, text) {
+            Err(Fault::Memory) => {}
+            other => return other,
+        }
+    }
+    Err(Fault::Memory)
+}
+
+fn word(is: bool) -> &'static str {
+    if is { "true\n" } else { "false\n" }
+}
+
+/// The end of the line of a call that takes no memory: what it answers.
+pub fn answer_plain<K: Key>(resources: &mut Resources<K>, call: &Plain<K>) -> &'static str {
+    match call {
+        Plain::EndAggregated(key, interest) => {
+            word(resources.remove_aggregated_resource_interest(key, *interest))
+        }
+        Plain::Contains(key) => word(resources.contains_simple_resource(key)),
+        Plain::EndSimple(interest) => {
+            resources.remove_simple_resource_interest(*interest);
+            "done\n"
+        }
+        Plain::Clear => {
+            resources.clear();
+            "done\n"
+        }
+    }
 }

@@ -1,7 +1,10 @@
-//! `zt_locals_trial` is for tests alone. It makes a row of calls on local resources and prints what
-//! each answers, and at the end the id that is drawn next. A call that ran out of memory is made
+//! `zt_locals_trial` is for tests alone. It makes rows of calls on local resources and prints what
+//! each answers, and behind a row the id that is drawn next. A call that ran out of memory is made
 //! again, up to 64 times. So what is printed is the same whichever allocation fails, unless a call
 //! that runs out of memory changes something or draws an id.
+//!
+//! A call that takes no memory is made when its line has begun and not ended. So nothing is
+//! allocated amid a line unless such a call does it.
 #![tactic(auto)]
 
 mod calling;
@@ -9,9 +12,9 @@ mod counts;
 mod printing;
 mod row;
 
-use crate::calling::{Answer, Fault, Resources, answer_again};
-use crate::printing::{text_of, text_of_next};
-use crate::row::ROW;
+use crate::calling::{Answer, Fault, Resources, answer_again, answer_plain, key_again};
+use crate::printing::{front_of, text_of, text_of_next};
+use crate::row::{AGGREGATED, Plain, SEVERAL, SIMPLE, Step};
 use std::alloc::Global;
 use std::process::ExitCode;
 use zt_keys::{Key, KeyExpr};
@@ -24,15 +27,49 @@ fn put<T: Sink>(sink: &mut T, text: &str) -> Result<(), Fault> {
     }
 }
 
-// Makes the calls of the row, and prints what they answer.
-fn carry<K: Key, T: Sink>(alloc: Global, sink: &mut T) -> Result<(), Fault> {
+// The call with the keys of its texts.
+fn read<K: Key>(alloc: Global, call: &Plain<&str>) -> Result<Plain<K>, Fault> {
+    match *call {
+        Plain::EndSimple(interest) => Ok(Plain::EndSimple(interest)),
+        Plain::EndAggregated(text, interest) => {
+            Ok(Plain::EndAggregated(key_again(alloc, text)?, interest))
+        }
+        Plain::Contains(text) => Ok(Plain::Contains(key_again(alloc, text)?)),
+        Plain::Clear => Ok(Plain::Clear),
+    }
+}
+
+// Makes the calls of a row over resources of its own, and prints what they answer.
+fn carry_row<K: Key, T: Sink>(
+    alloc: Global,
+    sink: &mut T,
+    heading: &str,
+    row: &[Step<'_>],
+) -> Result<(), Fault> {
     let mut resources = Resources::<K>::new(alloc);
     let mut next = 0;
-    for (at, step) in ROW.iter().enumerate() {
-        let answer: Answer<K> = answer_again(alloc, &mut resources, &mut next, step)?;
-        put(sink, text_of(alloc, at, &answer)?.as_str())?;
+    put(sink, heading)?;
+    for (at, step) in row.iter().enumerate() {
+        match step {
+            Step::Call(call) => {
+                let answer: Answer<K> = answer_again(alloc, &mut resources, &mut next, call)?;
+                put(sink, text_of(alloc, at, &answer)?.as_str())?;
+            }
+            Step::Plain(call) => {
+                let call: Plain<K> = read(alloc, call)?;
+                let front = front_of(alloc, at)?;
+                put(sink, front.as_str())?;
+                put(sink, answer_plain(&mut resources, &call))?;
+            }
+        }
     }
     put(sink, text_of_next(alloc, next)?.as_str())
+}
+
+fn carry<K: Key, T: Sink>(alloc: Global, sink: &mut T) -> Result<(), Fault> {
+    carry_row::<K, T>(alloc, sink, "simple\n", &SIMPLE)?;
+    carry_row::<K, T>(alloc, sink, "aggregated\n", &AGGREGATED)?;
+    carry_row::<K, T>(alloc, sink, "several aggregated\n", &SEVERAL)
 }
 
 fn main(rt: HostRuntime) -> ExitCode {

@@ -43,8 +43,6 @@ fn try_text<K: Key>(alloc: Global, line: usize, answer: &Answer<K>) -> Result<St
             }
             Ok(text)
         }
-        Answer::Is(is) => Ok(format!(in alloc; "{line} {is}\n")?),
-        Answer::Done => Ok(format!(in alloc; "{line} done\n")?),
     }
 }
 
@@ -52,6 +50,16 @@ fn try_text<K: Key>(alloc: Global, line: usize, answer: &Answer<K>) -> Result<St
 pub fn text_of<K: Key>(alloc: Global, at: usize, answer: &Answer<K>) -> Result<String, Fault> {
     for _ in 0..TRIES {
         if let Ok(text) = try_text(alloc, at, answer) {
+            return Ok(text);
+        }
+    }
+    Err(Fault::Memory)
+}
+
+/// The number of the call in this place, with which its line begins.
+pub fn front_of(alloc: Global, at: usize) -> Result<String, Fault> {
+    for _ in 0..TRIES {
+        if let Ok(text) = format!(in alloc; "{at} ") {
             return Ok(text);
         }
     }
