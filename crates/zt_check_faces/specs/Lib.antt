@@ -1,3 +1,4 @@
 pub mod Placed
 pub mod Faces
 pub mod Hinted
+pub mod Parts

@@ -5,6 +5,7 @@ ghost use Rattle.zt_model.specs.Lists.{same};
 ghost use Rattle.zt_model.specs.Shown.{with_held, with_initial_final, with_question, with_token};
 ghost use Rattle.zt_model.specs.Shown.{without_expired, without_held, without_pending};
 ghost use Rattle.zt_model.specs.Shown.{without_token};
+ghost use Rattle.zt_check_faces.specs.Parts.{HasThoseOf};
 
 use crate::by_id::{put, remove};
 use crate::copies::{copy_each, copy_keys, copy_queryables};
@@ -214,6 +215,41 @@ impl<K: Key> ShownFace<K> {
         ensures { result.now ≡ self.now.asks }
     {
         &self.asks
+    }
+
+    /// The tokens that it declares under an id. A look-up, mostly: a part of the rows that has all of the id.
+    pub fn live_of(&self, id: u32) -> &[(u32, K)]
+        ensures { HasThoseOf (λ row. row.0) id result.now self.now.live }
+    {
+        self.live.as_slice()
+    }
+
+    /// What it was told under an id. A look-up, mostly: a part of the rows that has all of the id.
+    pub fn told_of(&self, id: u32) -> &[(u32, K)]
+        ensures { HasThoseOf (λ row. row.0) id result.now self.now.told }
+    {
+        self.told.rows()
+    }
+
+    /// The interests that it holds under an id. A look-up, mostly: a part of the rows that has all of the id.
+    pub fn held_of(&self, id: u32) -> &[(u32, ShownInterest<K>)]
+        ensures { HasThoseOf (λ row. row.0) id result.now self.now.held }
+    {
+        self.held.as_slice()
+    }
+
+    /// The unfinished interests that were sent to it under an id. A look-up, mostly: a part of the rows that has all of the id.
+    pub fn pendings_of(&self, id: u32) -> &[(u32, ShownPending)]
+        ensures { HasThoseOf (λ row. row.0) id result.now self.now.pendings }
+    {
+        self.pendings.as_slice()
+    }
+
+    /// Its questions under an id. A look-up, mostly: a part of the rows that has all of the id.
+    pub fn asks_of(&self, id: u32) -> &[(u32, ShownAsk<K>)]
+        ensures { HasThoseOf (λ row. row.0) id result.now self.now.asks }
+    {
+        self.asks.as_slice()
     }
 
     /// Of a mutual peer, whether its initial interest is finished.

@@ -5,6 +5,7 @@ ghost use Rattle.zt_model.specs.Lists.{first_where};
 ghost use Rattle.zt_model.specs.Fabric.{new_rows};
 ghost use Rattle.zt_model.specs.Hearing.{heard};
 ghost use Rattle.zt_model.specs.Parts.{find_face, is_routed, with_face};
+ghost use Rattle.zt_check_faces.specs.Parts.{HasThoseOf};
 
 use crate::order::goes_by_trees;
 use crate::routed::ShownRouted;
@@ -186,6 +187,13 @@ impl<K: Key> ShownRows<K> {
         ensures { option_copied result ≡ find_face number self.now }
     {
         find_in(&self.faces, number)
+    }
+
+    /// The open faces of a number. A look-up: a part of the faces that has all of the number.
+    pub fn faces_of(&self, number: u32) -> &[ShownFace<K>]
+        ensures { HasThoseOf (λ f. f.number) number result.now self.now.faces }
+    {
+        self.faces.as_slice()
     }
 
     /// Whether the face hears of tokens by trees.
