@@ -1,5 +1,5 @@
 -- What is asked of a list is asked of a part that has all members of a number, where others pass.
-use Rattle.std.proofs.Common.{◌≡◌, ℕ, Bool, true, false, ◌==◌, ◌&&◌, ◌||◌, List, [], ◌∷◌, ◌++◌, filter, refl, ap, sym, ◌∙◌}
+use Rattle.std.proofs.Common.{◌≡◌, ℕ, Bool, true, false, ◌==◌, ◌&&◌, ◌||◌, List, [], ◌∷◌, refl, ap, sym, ◌∙◌}
 use Rattle.std.specs.List.{list_all, list_any}
 use Rattle.zt_keys.specs.Test.{by_test}
 use Rattle.zt_check_faces.specs.Parts.{HasThoseOf, those_of}

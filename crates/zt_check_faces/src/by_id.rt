@@ -43,20 +43,6 @@ impl<T> Ranked<u32> for (u32, T) {
     }
 }
 
-/// Puts a row under its id, in place of the one that stands there, if any.
-pub fn put<T: Drop>(rows: &mut Vec<(u32, T)>, id: u32, row: T) -> Result<(), Memory>
-    ensures { OnOk result (rows.new.items ≡ put nat_cmp id row rows.old.items) }
-{
-    match place_in(rows.as_slice(), &id) {
-        Ok(place) => {
-            let found = &mut rows[place];
-            found.1 = row;
-        }
-        Err(place) => rows.insert(place, (id, row))?,
-    }
-    Ok(())
-}
-
 /// The rows under the id go.
 pub fn remove<T: Drop>(rows: &mut Vec<(u32, T)>, id: u32)
     ensures { rows.new.items ≡ filter (λ row. not (id == row.0)) rows.old.items }

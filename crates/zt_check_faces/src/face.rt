@@ -7,9 +7,9 @@ ghost use Rattle.zt_model.specs.Shown.{without_expired, without_held, without_pe
 ghost use Rattle.zt_model.specs.Shown.{without_token};
 ghost use Rattle.zt_check_faces.specs.Parts.{HasThoseOf};
 
-use crate::by_id::{put, remove};
 use crate::copies::{copy_each, copy_keys, copy_queryables};
 use crate::interest::{ShownAsk, ShownInterest, ShownPending};
+use crate::rising::RowsById;
 use crate::told::ToldRows;
 use std::alloc::Global;
 use std::marker::Model;
@@ -27,12 +27,12 @@ pub struct ShownFace<K: Key> {
     pub(crate) zid: Zid,
     // The next id may be one past the last.
     pub(crate) next: u64,
-    pub(crate) live: Vec<(u32, K)>,
+    pub(crate) live: RowsById<K>,
     pub(crate) told: ToldRows<K>,
-    pub(crate) held: Vec<(u32, ShownInterest<K>)>,
-    pub(crate) locals: Vec<(u32, ShownInterest<K>)>,
-    pub(crate) pendings: Vec<(u32, ShownPending)>,
-    pub(crate) asks: Vec<(u32, ShownAsk<K>)>,
+    pub(crate) held: RowsById<ShownInterest<K>>,
+    pub(crate) locals: RowsById<ShownInterest<K>>,
+    pub(crate) pendings: RowsById<ShownPending>,
+    pub(crate) asks: RowsById<ShownAsk<K>>,
     pub(crate) initial: Option<bool>,
     pub(crate) subscribers: Vec<K>,
     pub(crate) queryables: Vec<(K, QueryableInfo)>,
@@ -50,12 +50,12 @@ impl<K: Key> Model for ShownFace<K> {
       mode = f.mode;
       zid = f.zid;
       next = f.next;
-      live = f.live.items;
+      live = f.live;
       told = f.told;
-      held = f.held.items;
-      locals = f.locals.items;
-      pendings = f.pendings.items;
-      asks = f.asks.items;
+      held = f.held;
+      locals = f.locals;
+      pendings = f.pendings;
+      asks = f.asks;
       initial = f.initial;
       subscribers = f.subscribers.items;
       queryables = f.queryables.items;
@@ -75,6 +75,15 @@ fn drop_expired(pendings: &mut Vec<(u32, ShownPending)>, now: u64, timeout: u64)
         ≡ filter (λ row. not (nat_le timeout (now - row.1.since))) pendings.old.items }
 {
     pendings.retain(|row| !is_expired(&row.1, now, timeout));
+}
+
+impl RowsById<ShownPending> {
+    // The pendings go that have waited for the timeout.
+    fn expire(&mut self, now: u64, timeout: u64)
+        ensures { self.new ≡ filter (λ row. not (nat_le timeout (now - row.1.since))) self.old }
+    {
+        drop_expired(&mut self.rows, now, timeout);
+    }
 }
 
 impl<K: Key> ShownFace<K> {
@@ -114,12 +123,12 @@ impl<K: Key> ShownFace<K> {
             mode,
             zid,
             next: u64::from(first),
-            live: Vec::new(alloc),
+            live: RowsById::new(alloc),
             told: ToldRows::new(alloc),
-            held: Vec::new(alloc),
-            locals: Vec::new(alloc),
-            pendings: Vec::new(alloc),
-            asks: Vec::new(alloc),
+            held: RowsById::new(alloc),
+            locals: RowsById::new(alloc),
+            pendings: RowsById::new(alloc),
+            asks: RowsById::new(alloc),
             initial,
             subscribers: Vec::new(alloc),
             queryables: Vec::new(alloc),
@@ -172,7 +181,7 @@ impl<K: Key> ShownFace<K> {
     pub fn live(&self) -> &[(u32, K)]
         ensures { result.now ≡ self.now.live }
     {
-        &self.live
+        self.live.rows()
     }
 
     /// The tokens that it was told and not told to be gone, each with its id.
@@ -193,63 +202,75 @@ impl<K: Key> ShownFace<K> {
     pub fn held(&self) -> &[(u32, ShownInterest<K>)]
         ensures { result.now ≡ self.now.held }
     {
-        &self.held
+        self.held.rows()
     }
 
     /// The interests that were sent to it and ask for what comes later, by their ids.
     pub fn locals(&self) -> &[(u32, ShownInterest<K>)]
         ensures { result.now ≡ self.now.locals }
     {
-        &self.locals
+        self.locals.rows()
     }
 
     /// The unfinished interests that were sent to it, by their ids.
     pub fn pendings(&self) -> &[(u32, ShownPending)]
         ensures { result.now ≡ self.now.pendings }
     {
-        &self.pendings
+        self.pendings.rows()
     }
 
     /// Its questions whose finals weren't printed, by their ids.
     pub fn asks(&self) -> &[(u32, ShownAsk<K>)]
         ensures { result.now ≡ self.now.asks }
     {
-        &self.asks
+        self.asks.rows()
     }
 
-    /// The tokens that it declares under an id. A look-up, mostly: a part of the rows that has all of the id.
+    /// The tokens that it declares under an id. A look-up: a part of the rows that has all of the
+    /// id.
     pub fn live_of(&self, id: u32) -> &[(u32, K)]
         ensures { HasThoseOf (λ row. row.0) id result.now self.now.live }
     {
-        self.live.as_slice()
+        self.live.of(id)
     }
 
-    /// What it was told under an id. A look-up, mostly: a part of the rows that has all of the id.
+    /// What it was told under an id: a part of the rows that has all of the id. A look-up, where
+    /// ids rose as they came; else all rows.
     pub fn told_of(&self, id: u32) -> &[(u32, K)]
         ensures { HasThoseOf (λ row. row.0) id result.now self.now.told }
     {
-        self.told.rows()
+        self.told.of(id)
     }
 
-    /// The interests that it holds under an id. A look-up, mostly: a part of the rows that has all of the id.
+    /// The interests that it holds under an id. A look-up: a part of the rows that has all of the
+    /// id.
     pub fn held_of(&self, id: u32) -> &[(u32, ShownInterest<K>)]
         ensures { HasThoseOf (λ row. row.0) id result.now self.now.held }
     {
-        self.held.as_slice()
+        self.held.of(id)
     }
 
-    /// The unfinished interests that were sent to it under an id. A look-up, mostly: a part of the rows that has all of the id.
+    /// The interests that were sent to it under an id and ask for what comes later. A look-up: a
+    /// part of the rows that has all of the id.
+    pub fn locals_of(&self, id: u32) -> &[(u32, ShownInterest<K>)]
+        ensures { HasThoseOf (λ row. row.0) id result.now self.now.locals }
+    {
+        self.locals.of(id)
+    }
+
+    /// The unfinished interests that were sent to it under an id. A look-up: a part of the rows
+    /// that has all of the id.
     pub fn pendings_of(&self, id: u32) -> &[(u32, ShownPending)]
         ensures { HasThoseOf (λ row. row.0) id result.now self.now.pendings }
     {
-        self.pendings.as_slice()
+        self.pendings.of(id)
     }
 
-    /// Its questions under an id. A look-up, mostly: a part of the rows that has all of the id.
+    /// Its questions under an id. A look-up: a part of the rows that has all of the id.
     pub fn asks_of(&self, id: u32) -> &[(u32, ShownAsk<K>)]
         ensures { HasThoseOf (λ row. row.0) id result.now self.now.asks }
     {
-        self.asks.as_slice()
+        self.asks.of(id)
     }
 
     /// Of a mutual peer, whether its initial interest is finished.
@@ -263,14 +284,14 @@ impl<K: Key> ShownFace<K> {
     pub(crate) fn add_token(&mut self, alloc: Global, id: u32, expr: &K) -> Result<(), Memory>
         ensures { OnOk result (self.new ≡ with_token id expr.now self.old) }
     {
-        put(&mut self.live, id, expr.copy(alloc)?)
+        self.live.put(id, expr.copy(alloc)?)
     }
 
     /// The token of the id goes.
     pub(crate) fn drop_token(&mut self, id: u32)
         ensures { self.new ≡ without_token id self.old }
     {
-        remove(&mut self.live, id);
+        self.live.remove(id);
     }
 
     /// The face holds an interest that asks for what comes later.
@@ -283,7 +304,7 @@ impl<K: Key> ShownFace<K> {
         ensures { OnOk result (self.new ≡ with_held id interest.now self.old) }
     {
         if interest.mode().is_future() {
-            put(&mut self.held, id, interest.copy(alloc)?)?;
+            self.held.put(id, interest.copy(alloc)?)?;
         }
         Ok(())
     }
@@ -292,7 +313,7 @@ impl<K: Key> ShownFace<K> {
     pub(crate) fn unhold(&mut self, id: u32)
         ensures { self.new ≡ without_held id self.old }
     {
-        remove(&mut self.held, id);
+        self.held.remove(id);
     }
 
     /// An interest that asks for what is there now is a question of the face.
@@ -308,7 +329,7 @@ impl<K: Key> ShownFace<K> {
         if interest.mode().is_current() {
             let copy = interest.copy(alloc)?;
             let question = ShownAsk::new(alloc, copy, pendings.to_vec(alloc)?);
-            put(&mut self.asks, id, question)?;
+            self.asks.put(id, question)?;
         }
         Ok(())
     }
@@ -317,7 +338,7 @@ impl<K: Key> ShownFace<K> {
     pub(crate) fn end_pending(&mut self, id: u32)
         ensures { self.new ≡ without_pending id self.old }
     {
-        remove(&mut self.pendings, id);
+        self.pendings.remove(id);
     }
 
     /// A final with the id 0 is that of the initial interest, where the face has one.
@@ -333,7 +354,7 @@ impl<K: Key> ShownFace<K> {
     pub(crate) fn expire(&mut self, now: u64, timeout: u64)
         ensures { self.new ≡ without_expired now timeout self.old }
     {
-        drop_expired(&mut self.pendings, now, timeout);
+        self.pendings.expire(now, timeout);
     }
 
     /// The face's subscribers and queryables are these.
@@ -364,12 +385,12 @@ impl<K: Key> ShownFace<K> {
             mode: self.mode,
             zid: self.zid,
             next: self.next,
-            live: copy_each(alloc, &self.live)?,
+            live: RowsById::from_rows(copy_each(alloc, self.live.rows())?),
             told: self.told.copy(alloc)?,
-            held: copy_each(alloc, &self.held)?,
-            locals: copy_each(alloc, &self.locals)?,
-            pendings: copy_each(alloc, &self.pendings)?,
-            asks: copy_each(alloc, &self.asks)?,
+            held: RowsById::from_rows(copy_each(alloc, self.held.rows())?),
+            locals: RowsById::from_rows(copy_each(alloc, self.locals.rows())?),
+            pendings: RowsById::from_rows(copy_each(alloc, self.pendings.rows())?),
+            asks: RowsById::from_rows(copy_each(alloc, self.asks.rows())?),
             initial: self.initial,
             subscribers: copy_keys(alloc, &self.subscribers)?,
             queryables: copy_queryables(alloc, &self.queryables)?,

@@ -1,16 +1,16 @@
 // What printed messages change at the faces that they are printed for.
-ghost use Rattle.std.specs.Prelude.{◌≡◌, ◌==◌, ◌&&◌, ◌++◌, ◌∷◌, [], filter, not, OnOk};
+ghost use Rattle.std.specs.Prelude.{◌≡◌, ◌==◌, ◌&&◌, filter, map, not, OnOk};
 ghost use Rattle.std.specs.List.{list_any};
 ghost use Rattle.zt_protocol.specs.Interest.{is_current, is_future};
 ghost use Rattle.zt_model.specs.Hearing.{asks_answered, heard, next_after, put_if, told_pair};
-ghost use Rattle.zt_model.specs.Hearing.{untold};
+ghost use Rattle.zt_model.specs.Hearing.{untold, with_answer};
 ghost use Rattle.zt_model.specs.Lists.{same, without_id};
+ghost use Rattle.zt_check_faces.specs.Rising.{Rise, answered_once};
 
 use crate::among::is_among;
-use crate::by_id::{put, remove};
-use crate::changes::{Change, change_each};
 use crate::face::ShownFace;
 use crate::interest::{ShownAsk, ShownInterest, ShownPending};
+use crate::rising::{RowsById, place_of};
 use std::alloc::Global;
 use zt_keys::{Key, Memory};
 use zt_protocol::{InterestMode, InterestOptions, Message, copy_expression};
@@ -23,84 +23,81 @@ fn next_after(id: u32, next: u64) -> u64
 }
 
 impl<K: Key> ShownAsk<K> {
-    // It is answered an expression more.
-    fn add_answer(&mut self, alloc: Global, expr: &K) -> Result<(), Memory>
-        ensures { OnOk result (self.new
-            ≡ record self.old { answered = self.old.answered ++ expr.now ∷ [] }) }
+    // It is answered an expression, which is there once.
+    fn answer(&mut self, alloc: Global, expr: &K) -> Result<(), Memory>
+        ensures { OnOk result (self.new ≡ answered_once K.cmp expr.now self.old) }
     {
-        self.answered.push(expr.copy(alloc)?)?;
-        Ok(())
-    }
-}
-
-// The asks of an id are answered an expression, which is there once.
-#[derive(Drop)]
-struct Answer<'a, K: Key> {
-    id: u32,
-    expr: &'a K,
-}
-
-impl<'a, K: Key> Change<(u32, ShownAsk<K>)> for Answer<'a, K> {
-    ghost use Rattle.zt_model.specs.Hearing.{with_answer};
-
-    ghost changed = { λ c. with_answer K.cmp c.id c.expr.now };
-
-    fn change(&self, alloc: Global, member: &mut (u32, ShownAsk<K>)) -> Result<(), Memory> {
-        if self.id == member.0 && !is_among(self.expr, member.1.answered()) {
-            member.1.add_answer(alloc, self.expr)?;
+        if !is_among(expr, self.answered()) {
+            self.answered.push(expr.copy(alloc)?)?;
         }
         Ok(())
     }
 }
 
-// Asks are answered, where a message answers one.
-fn answer_named<K: Key>(
+// The ask of an id is answered an expression, among asks whose ids rise.
+fn answer_row<K: Key>(
     alloc: Global,
     asks: &mut Vec<(u32, ShownAsk<K>)>,
-    id: Option<u32>,
+    id: u32,
     expr: &K,
 ) -> Result<(), Memory>
-    ensures { OnOk result (asks.new.items ≡ asks_answered K.cmp id expr.now asks.old.items) }
+    requires { Rise asks.old.items }
+    ensures answered { OnOk result
+        (asks.new.items ≡ map (with_answer K.cmp id expr.now) asks.old.items) }
+    ensures rise { Rise asks.new.items }
 {
-    match id {
-        None => Ok(()),
-        Some(id) => change_each(alloc, asks, &Answer { id, expr }),
+    if let Ok(place) = place_of(asks.as_slice(), id) {
+        let ask = &mut asks[place];
+        ask.1.answer(alloc, expr)?;
+    }
+    Ok(())
+}
+
+impl<K: Key> RowsById<ShownAsk<K>> {
+    // The ask is answered an expression, where a message answers one.
+    fn answer(&mut self, alloc: Global, id: Option<u32>, expr: &K) -> Result<(), Memory>
+        ensures { OnOk result (self.new ≡ asks_answered K.cmp id expr.now self.old) }
+    {
+        match id {
+            None => Ok(()),
+            Some(id) => answer_row(alloc, &mut self.rows, id, expr),
+        }
     }
 }
 
 // Puts an interest that was sent, where it asks for what comes later.
 fn put_local<K: Key>(
     alloc: Global,
-    locals: &mut Vec<(u32, ShownInterest<K>)>,
+    locals: &mut RowsById<ShownInterest<K>>,
     id: u32,
     mode: InterestMode,
     options: InterestOptions,
     expr: &Option<K>,
 ) -> Result<(), Memory>
-    ensures { OnOk result (locals.new.items
+    ensures { OnOk result (locals.new
         ≡ put_if (is_future mode) id
-        (record { mode = mode; options = options; expr = expr.now }) locals.old.items) }
+        (record { mode = mode; options = options; expr = expr.now }) locals.old) }
 {
     if mode.is_future() {
         let expr = copy_expression(expr, alloc)?;
-        put(locals, id, ShownInterest::new(mode, options, expr))?;
+        locals.put(id, ShownInterest::new(mode, options, expr))?;
     }
     Ok(())
 }
 
 // Puts a pending, where the interest that was sent asks for what is there now.
 fn put_pending(
-    pendings: &mut Vec<(u32, ShownPending)>,
+    pendings: &mut RowsById<ShownPending>,
     id: u32,
     mode: InterestMode,
     moment: u64,
 ) -> Result<(), Memory>
-    ensures { OnOk result (pendings.new.items
+    ensures { OnOk result (pendings.new
         ≡ put_if (is_current mode) id (record { mode = mode; since = moment })
-        pendings.old.items) }
+        pendings.old) }
 {
     if mode.is_current() {
-        put(pendings, id, ShownPending::new(mode, moment))?;
+        pendings.put(id, ShownPending::new(mode, moment))?;
     }
     Ok(())
 }
@@ -122,7 +119,7 @@ impl<K: Key> ShownFace<K> {
     {
         self.next = next_after(id, self.next);
         self.told.tell(alloc, id, expr)?;
-        answer_named(alloc, &mut self.asks, interest, expr)
+        self.asks.answer(alloc, interest, expr)
     }
 
     // An interest is printed for the face.
@@ -159,14 +156,14 @@ impl<K: Key> ShownFace<K> {
     fn hear_final(&mut self, id: u32)
         ensures { self.new ≡ record self.old { asks = without_id id self.old.asks } }
     {
-        remove(&mut self.asks, id);
+        self.asks.remove(id);
     }
 
     // An interest that the face was sent ends.
     fn hear_interest_final(&mut self, id: u32)
         ensures { self.new ≡ record self.old { locals = without_id id self.old.locals } }
     {
-        remove(&mut self.locals, id);
+        self.locals.remove(id);
     }
 
     /// A message is printed for the face, at this moment.

@@ -7,5 +7,5 @@ pub returns-then-not-has_hint : goal.returns-then-not-has_hint
 returns-then-not-has_hint g c =
     let none : c.has_hint.result ≡ false = search rules in
     rw (← c.self.view_is)
-    (pair-none g.K.Ord.cmp c.args.id c.self.inside.ids c.self.inside.rows.items c.args.expr.now c.self.invariant
+    (pair-none g.K.Ord.cmp c.args.id c.self.inside.ids c.self.inside.rows.items c.args.expr.now c.self.invariant.hinted
     (ap (list_any (λ hint. c.args.id == hint)) (sym c.at.ensures) ∙ sym c.has_hint.ensures ∙ none))
