@@ -1,0 +1,14 @@
+//! The open faces of a gateway that a claimed transcript shows, in order of number, and look-ups of
+//! them: a face by its number, and by an expression the faces that declare it.
+//!
+//! It stands on the definitions, and shares no code with the gateway that is judged. After an error
+//! nothing is said of the faces: they are to be dropped.
+#![tactic(auto)]
+
+mod admission;
+mod faces;
+mod found;
+mod tokens;
+
+pub use admission::{admits, is_shown_and_admitted, sees};
+pub use faces::ShownFaces;
