@@ -152,8 +152,8 @@ fn is_shown_in<K: Key>(
     own: Region,
     expr: &K,
 ) -> bool
-    ensures { result ≡ is_declared_at K.cmp (λ source. sees own source && admits refused.now source own)
-        expr.now faces.now place.now }
+    ensures { result ≡ is_declared_at K.cmp
+        (λ source. sees own source && admits refused.now source own) expr.now faces.now place.now }
 {
     for face in faces {
         if is_shown_by(face, place, refused, own, expr) {
@@ -172,8 +172,8 @@ fn is_shown_of<K: Key>(
     expr: &K,
 ) -> bool
     requires { NumbersRise 0 faces.now }
-    ensures { result ≡ is_declared_at K.cmp (λ source. sees own source && admits refused.now source own)
-        expr.now faces.now place.now }
+    ensures { result ≡ is_declared_at K.cmp
+        (λ source. sees own source && admits refused.now source own) expr.now faces.now place.now }
 {
     is_shown_in(part_of(faces, place.face), place, refused, own, expr)
 }
@@ -187,8 +187,9 @@ pub(crate) fn is_shown_at<K: Key>(
     expr: &K,
 ) -> bool
     requires { NumbersRise 0 faces.now }
-    ensures { result ≡ list_any (is_declared_at K.cmp
-        (λ source. sees own source && admits refused.now source own) expr.now faces.now) places.now }
+    ensures { result ≡ list_any
+        (is_declared_at K.cmp (λ source. sees own source && admits refused.now source own)
+        expr.now faces.now) places.now }
 {
     for place in places {
         if is_shown_of(faces, place, refused, own, expr) {

@@ -16,8 +16,8 @@ use crate::rows::ShownRows;
 use bitflags::Flags;
 use std::alloc::Global;
 use zt_check_faces::{
-    AddInterest, AddToken, DropInterest, DropToken, EndInitial, EndPending, ExpirePendings,
-    SetEntities, ShownFace, ShownInterest, ShownPending,
+    AddInterest, DropInterest, EndInitial, EndPending, ExpirePendings, SetEntities, ShownFace,
+    ShownInterest, ShownPending,
 };
 use zt_keys::{Key, Memory};
 use zt_protocol::{Call, InterestMode, InterestOptions, QueryableInfo, copy_expression};
@@ -82,7 +82,8 @@ impl<K: Key> ShownRows<K> {
         }) }
     {
         let timeout = self.timeout;
-        self.change(alloc, &ExpirePendings { now, timeout })?;
+        self.faces
+            .change_each(alloc, &ExpirePendings { now, timeout })?;
         self.moment = now;
         Ok(())
     }
@@ -92,7 +93,7 @@ impl<K: Key> ShownRows<K> {
     pub fn add_token(&mut self, alloc: Global, face: u32, id: u32, expr: &K) -> Result<(), Memory>
         ensures { OnOk result (self.new ≡ with_face face (with_token id expr.now) self.old) }
     {
-        self.change(alloc, &AddToken { face, id, expr })
+        self.faces.add_token(alloc, face, id, expr)
     }
 
     /// The token of an id goes.
@@ -100,7 +101,7 @@ impl<K: Key> ShownRows<K> {
     pub fn drop_token(&mut self, alloc: Global, face: u32, id: u32) -> Result<(), Memory>
         ensures { OnOk result (self.new ≡ with_face face (without_token id) self.old) }
     {
-        self.change(alloc, &DropToken { face, id })
+        self.faces.drop_token(alloc, face, id)
     }
 
     /// A face holds the interest of an id no more.
@@ -108,7 +109,7 @@ impl<K: Key> ShownRows<K> {
     pub fn unhold(&mut self, alloc: Global, face: u32, id: u32) -> Result<(), Memory>
         ensures { OnOk result (self.new ≡ with_face face (without_held id) self.old) }
     {
-        self.change(alloc, &DropInterest { face, id })
+        self.faces.change(alloc, face, &DropInterest { face, id })
     }
 
     /// What was asked of a face by an id has its final.
@@ -117,8 +118,8 @@ impl<K: Key> ShownRows<K> {
         ensures { OnOk result (self.new
             ≡ with_face face (without_pending id) (with_face face (with_initial_final id) self.old)) }
     {
-        self.change(alloc, &EndInitial { face, id })?;
-        self.change(alloc, &EndPending { face, id })
+        self.faces.change(alloc, face, &EndInitial { face, id })?;
+        self.faces.change(alloc, face, &EndPending { face, id })
     }
 
     /// A face asks and holds an interest, which was sent upstream as these.
@@ -135,15 +136,13 @@ impl<K: Key> ShownRows<K> {
             ≡ with_interest K.cmp face id pendings.now interest.now self.old) }
     {
         add_interest_number(alloc, &mut self.dictionary, interest)?;
-        self.change(
-            alloc,
-            &AddInterest {
-                face,
-                id,
-                interest,
-                pendings,
-            },
-        )
+        let added = AddInterest {
+            face,
+            id,
+            interest,
+            pendings,
+        };
+        self.faces.change(alloc, face, &added)
     }
 
     /// The subscribers and queryables of a face are these.
@@ -160,14 +159,12 @@ impl<K: Key> ShownRows<K> {
     {
         add_numbers(alloc, &mut self.dictionary, subscribers)?;
         add_queryable_numbers(alloc, &mut self.dictionary, queryables)?;
-        self.change(
-            alloc,
-            &SetEntities {
-                face,
-                subscribers,
-                queryables,
-            },
-        )
+        let entities = SetEntities {
+            face,
+            subscribers,
+            queryables,
+        };
+        self.faces.change(alloc, face, &entities)
     }
 
     /// A face declares a token.

@@ -1,11 +1,10 @@
 // Faces that open and close.
-ghost use Rattle.std.specs.Prelude.{◌≡◌, ◌==◌, filter, not, OnOk};
+ghost use Rattle.std.specs.Prelude.{◌≡◌, OnOk};
 ghost use Rattle.zt_model.specs.Shown.{initial_interest, with_new_session, with_new_transport};
 ghost use Rattle.zt_model.specs.Shown.{without_closed};
 
 use crate::rows::ShownRows;
 use std::alloc::Global;
-use zt_check_faces::ShownFace;
 use zt_keys::{Key, Memory};
 use zt_region::{Bound, Region, WhatAmI, Zid};
 
@@ -21,29 +20,17 @@ fn initial_interest(own: WhatAmI, region: Region, bound: Bound) -> Option<bool>
     }
 }
 
-// The face of a number goes.
-fn close_in<K: Key>(faces: &mut Vec<ShownFace<K>>, number: u32)
-    ensures { faces.new.items ≡ filter (λ f. not (number == f.number)) faces.old.items }
-{
-    faces.retain(|face| number != face.number());
-}
-
 impl<K: Key> ShownRows<K> {
     /// A session opens. That the numbers of faces are given out counts as out of memory.
     pub fn open_session(&mut self, alloc: Global, first: u32) -> Result<(), Memory>
         ensures { OnOk result (self.new ≡ with_new_session first self.old) }
     {
-        let Some(number) = self.made.checked_add(1) else {
-            return Err(Memory);
-        };
         let own = self.zid;
         let region = Region::Local;
         let bound = Bound::North;
         let mode = WhatAmI::Client;
-        let face = ShownFace::new(alloc, number, region, bound, mode, own, first, None);
-        self.faces.push(face)?;
-        self.made = number;
-        Ok(())
+        self.faces
+            .open(alloc, region, bound, mode, own, first, None)
     }
 
     /// The face of a transport opens. That the numbers of faces are given out counts as out of
@@ -60,20 +47,15 @@ impl<K: Key> ShownRows<K> {
         ensures { OnOk result (self.new
             ≡ with_new_transport zid mode region bound first self.old) }
     {
-        let Some(number) = self.made.checked_add(1) else {
-            return Err(Memory);
-        };
         let initial = initial_interest(self.mode, region, bound);
-        let face = ShownFace::new(alloc, number, region, bound, mode, zid, first, initial);
-        self.faces.push(face)?;
-        self.made = number;
-        Ok(())
+        self.faces
+            .open(alloc, region, bound, mode, zid, first, initial)
     }
 
     /// A face closes.
     pub fn close(&mut self, number: u32)
         ensures { self.new ≡ without_closed number self.old }
     {
-        close_in(&mut self.faces, number);
+        self.faces.close(number);
     }
 }

@@ -1,15 +1,12 @@
-// Tokens of router regions.
-ghost use Rattle.std.specs.Prelude.{◌≡◌, filter, not, OnOk};
-ghost use Rattle.zt_model.specs.Lists.{with_key};
-ghost use Rattle.zt_model.specs.Trees.{counted_table, is_left_out, is_routed_row};
+// A token of a router region.
+ghost use Rattle.std.specs.Prelude.{◌≡◌};
 ghost use Rattle.zt_model.specs.Trees.{routed_order};
 
 use crate::order::compare_regions;
 use std::alloc::Global;
 use std::cmp::Ordering;
 use std::marker::Model;
-use zt_check_faces::{Copied, Ranked, place_in};
-use zt_check_tables::ShownTable;
+use zt_check_faces::{Copied, Ranked};
 use zt_keys::{Key, Memory};
 use zt_region::{Region, Zid};
 
@@ -69,8 +66,8 @@ impl<K: Key> Copied for ShownRouted<K> {
     }
 }
 
-// How two tokens stand to each other: by region, router and expression.
-fn compare_rows<K: Key>(one: &ShownRouted<K>, other: &ShownRouted<K>) -> Ordering
+/// How two tokens stand to each other: by region, router and expression.
+pub(crate) fn compare_rows<K: Key>(one: &ShownRouted<K>, other: &ShownRouted<K>) -> Ordering
     ensures { result ≡ routed_order K.cmp one.now other.now }
 {
     match compare_regions(one.region, other.region) {
@@ -92,52 +89,4 @@ impl<K: Key> Ranked<ShownRouted<K>> for ShownRouted<K> {
     fn rank(&self, sought: &ShownRouted<K>) -> Ordering {
         compare_rows(sought, self)
     }
-}
-
-// A token is added in its place, where it isn't there.
-pub(crate) fn add_routed<K: Key>(
-    rows: &mut Vec<ShownRouted<K>>,
-    row: ShownRouted<K>,
-) -> Result<(), Memory>
-    ensures { OnOk result (rows.new.items ≡ with_key (routed_order K.cmp) row rows.old.items) }
-{
-    match place_in(rows.as_slice(), &row) {
-        Ok(_place) => {}
-        Err(place) => rows.insert(place, row)?,
-    }
-    Ok(())
-}
-
-// Whether two tokens are one.
-fn is_same_row<K: Key>(one: &ShownRouted<K>, other: &ShownRouted<K>) -> bool
-    ensures { result ≡ is_routed_row K.cmp one.now other.now }
-{
-    compare_rows(one, other) == Ordering::Equal
-}
-
-// A token goes.
-pub(crate) fn drop_routed<K: Key>(rows: &mut Vec<ShownRouted<K>>, gone: &ShownRouted<K>)
-    ensures { rows.new.items
-        ≡ filter (λ row. not (is_routed_row K.cmp gone.now row)) rows.old.items }
-{
-    rows.retain(|row| !is_same_row(gone, row));
-}
-
-// Whether a token is of the region, and its router isn't listed.
-fn is_left_out<K: Key>(row: &ShownRouted<K>, region: Region, table: &ShownTable) -> bool
-    ensures { result ≡ is_left_out K.cmp region (counted_table table.now) row.now }
-{
-    region == row.region && !table.is_listed(row.source)
-}
-
-// The tokens of a region go whose routers a table doesn't list.
-pub(crate) fn drop_left_out<K: Key>(
-    rows: &mut Vec<ShownRouted<K>>,
-    region: Region,
-    table: &ShownTable,
-)
-    ensures { rows.new.items
-        ≡ filter (λ row. not (is_left_out K.cmp region (counted_table table.now) row)) rows.old.items }
-{
-    rows.retain(|row| !is_left_out(row, region, table));
 }

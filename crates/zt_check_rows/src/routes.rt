@@ -8,7 +8,7 @@ ghost use Rattle.zt_model.specs.Shown.{router_meant};
 ghost use Rattle.zt_model.specs.Trees.{counted_table, with_routed, with_table};
 ghost use Rattle.zt_model.specs.Trees.{without_left_out, without_routed};
 
-use crate::routed::{ShownRouted, add_routed, drop_left_out, drop_routed};
+use crate::routed::ShownRouted;
 use crate::rows::ShownRows;
 use crate::tables::put_table;
 use std::alloc::Global;
@@ -82,7 +82,7 @@ impl<K: Key> ShownRows<K> {
         ensures { OnOk result (self.new ≡ with_routed K.cmp region source expr.now self.old) }
     {
         let row = ShownRouted::new(region, source, expr.copy(alloc)?);
-        add_routed(&mut self.routed, row)
+        self.routed.add(alloc, row)
     }
 
     // A router's token goes.
@@ -97,7 +97,7 @@ impl<K: Key> ShownRows<K> {
         ensures { OnOk result (self.new ≡ without_routed K.cmp region source expr.now self.old) }
     {
         let gone = ShownRouted::new(region, source, expr.copy(alloc)?);
-        drop_routed(&mut self.routed, &gone);
+        self.routed.drop_row(&gone);
         Ok(())
     }
 
@@ -112,7 +112,7 @@ impl<K: Key> ShownRows<K> {
             (without_left_out K.cmp region (counted_table (trees_of table.now)) self.old)) }
     {
         let shown = ShownTable::new(alloc, table)?;
-        drop_left_out(&mut self.routed, region, &shown);
+        self.routed.drop_left_out(region, &shown);
         put_table(&mut self.trees, region, shown)
     }
 }

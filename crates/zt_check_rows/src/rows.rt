@@ -1,18 +1,20 @@
 // The rows of one gateway.
-ghost use Rattle.std.specs.Prelude.{◌≡◌, ◌==◌, map, IfOk, OnOk};
+ghost use Rattle.std.specs.Prelude.{◌≡◌, IfOk, OnOk};
 ghost use Rattle.std.specs.Option.{option_copied};
-ghost use Rattle.zt_model.specs.Lists.{first_where};
 ghost use Rattle.zt_model.specs.Fabric.{new_rows};
 ghost use Rattle.zt_model.specs.Hearing.{heard};
 ghost use Rattle.zt_model.specs.Parts.{find_face, is_routed, with_face};
+ghost use Rattle.zt_model.specs.Seen.{is_seen, is_seen_and_admitted};
 ghost use Rattle.zt_check_faces.specs.Parts.{HasThoseOf};
 
 use crate::order::goes_by_trees;
 use crate::routed::ShownRouted;
+use crate::routers::RoutedRows;
 use crate::tables::copy_tables;
 use std::alloc::Global;
 use std::marker::Model;
-use zt_check_faces::{Change, Hear, ShownFace, change_each, copy_each, copy_keys};
+use zt_check_faces::{Hear, ShownFace, copy_keys};
+use zt_check_open_faces::ShownFaces;
 use zt_check_tables::ShownTable;
 use zt_keys::{Key, Memory};
 use zt_protocol::Message;
@@ -27,11 +29,10 @@ pub struct ShownRows<K: Key> {
     pub(crate) refused: Vec<(Region, Region)>,
     pub(crate) timeout: u64,
     pub(crate) moment: u64,
-    pub(crate) made: u32,
     pub(crate) trees: Vec<(Region, ShownTable)>,
-    pub(crate) routed: Vec<ShownRouted<K>>,
+    pub(crate) routed: RoutedRows<K>,
     pub(crate) dictionary: Vec<K>,
-    pub(crate) faces: Vec<ShownFace<K>>,
+    pub(crate) faces: ShownFaces<K>,
 }
 
 impl<K: Key> Model for ShownRows<K> {
@@ -46,36 +47,12 @@ impl<K: Key> Model for ShownRows<K> {
       refused = g.refused.items;
       timeout = g.timeout;
       moment = g.moment;
-      made = g.made;
+      made = g.faces.made;
       trees = g.trees.items;
-      routed = g.routed.items;
+      routed = g.routed;
       dictionary = g.dictionary.items;
-      faces = g.faces.items;
+      faces = g.faces.open_faces;
     } };
-}
-
-// The open face of a number, among faces.
-fn find_in<K: Key>(faces: &[ShownFace<K>], number: u32) -> Option<&ShownFace<K>>
-    ensures { option_copied result ≡ first_where (λ f. number == f.number) faces.now }
-{
-    for face in faces {
-        if number == face.number() {
-            return Some(face);
-        }
-    }
-    None
-}
-
-// Equal faces.
-fn copy_faces<K: Key>(alloc: Global, faces: &[ShownFace<K>]) -> Result<Vec<ShownFace<K>>, Memory>
-    ensures { IfOk result (λ copies. copies.items ≡ faces.now) }
-{
-    let mut copies = Vec::new(alloc);
-    for face in faces {
-        let copy = face.copy(alloc)?;
-        copies.push(copy)?;
-    }
-    Ok(copies)
 }
 
 impl<K: Key> ShownRows<K> {
@@ -97,11 +74,10 @@ impl<K: Key> ShownRows<K> {
             refused,
             timeout,
             moment: 0,
-            made: 0,
             trees: Vec::new(alloc),
-            routed: Vec::new(alloc),
+            routed: RoutedRows::new(alloc),
             dictionary: Vec::new(alloc),
-            faces: Vec::new(alloc),
+            faces: ShownFaces::new(alloc),
         }
     }
 
@@ -151,7 +127,7 @@ impl<K: Key> ShownRows<K> {
     pub fn made(&self) -> u32
         ensures { result ≡ self.now.made }
     {
-        self.made
+        self.faces.made()
     }
 
     /// The tables of its router regions.
@@ -165,7 +141,7 @@ impl<K: Key> ShownRows<K> {
     pub fn routed(&self) -> &[ShownRouted<K>]
         ensures { result.now ≡ self.now.routed }
     {
-        &self.routed
+        self.routed.rows()
     }
 
     /// The expressions that have numbers.
@@ -179,21 +155,21 @@ impl<K: Key> ShownRows<K> {
     pub fn faces(&self) -> &[ShownFace<K>]
         ensures { result.now ≡ self.now.faces }
     {
-        &self.faces
+        self.faces.faces()
     }
 
     /// The open face of a number.
     pub fn face(&self, number: u32) -> Option<&ShownFace<K>>
         ensures { option_copied result ≡ find_face number self.now }
     {
-        find_in(&self.faces, number)
+        self.faces.find(number)
     }
 
     /// The open faces of a number. A look-up: a part of the faces that has all of the number.
     pub fn faces_of(&self, number: u32) -> &[ShownFace<K>]
         ensures { HasThoseOf (λ f. f.number) number result.now self.now.faces }
     {
-        self.faces.as_slice()
+        self.faces.faces_of(number)
     }
 
     /// Whether the face hears of tokens by trees.
@@ -210,26 +186,30 @@ impl<K: Key> ShownRows<K> {
             ≡ with_face face (heard K.cmp self.old.moment message.now) self.old) }
     {
         let moment = self.moment;
-        self.change(
-            alloc,
-            &Hear {
-                face,
-                moment,
-                message,
-            },
-        )
+        let heard = Hear {
+            face,
+            moment,
+            message,
+        };
+        self.faces.change(alloc, face, &heard)
     }
 
-    // A change of faces.
-    pub(crate) fn change<C: Change<ShownFace<K>>>(
-        &mut self,
-        alloc: Global,
-        change: &C,
-    ) -> Result<(), Memory>
-        ensures { OnOk result (self.new
-            ≡ record self.old { faces = map (C.changed change.now) self.old.faces }) }
+    /// Whether faces of a region see the expression. A look-up.
+    #[tactic(auto, unfolding(zt_model::specs::Seen::is_seen))]
+    pub fn is_seen(&self, own: Region, expr: &K) -> bool
+        ensures { result ≡ is_seen K.cmp self.now own expr.now }
     {
-        change_each(alloc, &mut self.faces, change)
+        self.faces.is_declared(&[], own, expr) || self.routed.is_shown(&[], self.zid, own, expr)
+    }
+
+    /// Whether the expression stands in a region that faces of this one see, and from which it is
+    /// admitted. A look-up.
+    #[tactic(auto, unfolding(zt_model::specs::Seen::is_seen_and_admitted))]
+    pub fn is_seen_and_admitted(&self, own: Region, expr: &K) -> bool
+        ensures { result ≡ is_seen_and_admitted K.cmp self.now own expr.now }
+    {
+        self.faces.is_declared(&self.refused, own, expr)
+            || self.routed.is_shown(&self.refused, self.zid, own, expr)
     }
 
     /// Rows equal to these.
@@ -243,11 +223,10 @@ impl<K: Key> ShownRows<K> {
             refused: self.refused.to_vec(alloc)?,
             timeout: self.timeout,
             moment: self.moment,
-            made: self.made,
             trees: copy_tables(alloc, &self.trees)?,
-            routed: copy_each(alloc, &self.routed)?,
+            routed: self.routed.copy(alloc)?,
             dictionary: copy_keys(alloc, &self.dictionary)?,
-            faces: copy_faces(alloc, &self.faces)?,
+            faces: self.faces.copy(alloc)?,
         })
     }
 }

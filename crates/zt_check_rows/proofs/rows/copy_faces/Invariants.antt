@@ -1,6 +1,0 @@
-use Rattle.std.proofs.Common.{◌≡◌, take}
-use Rattle.zt_check_rows.proofs.rows.copy_faces.Given as goal
-
--- those so far are copied
-abbrev pub invariant-loop-face : goal.invariant-loop-face
-invariant-loop-face g l = l.copies.items ≡ take l.face-index l.faces

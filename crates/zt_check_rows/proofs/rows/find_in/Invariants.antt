@@ -1,9 +1,0 @@
-use Rattle.std.proofs.Common.{◌≡◌, ◌==◌, drop}
-use Rattle.zt_model.specs.Lists.{first_where}
-use Rattle.zt_check_rows.proofs.rows.find_in.Given as goal
-
--- no face so far has the number
-abbrev pub invariant-loop-face : goal.invariant-loop-face
-invariant-loop-face g l =
-    first_where (λ f. l.number == f.number) (drop l.face-index l.faces)
-    ≡ first_where (λ f. l.number == f.number) l.faces
