@@ -2,3 +2,4 @@ pub mod Counting
 pub mod Listed
 pub mod Numbered
 pub mod Seen
+pub mod Parted

@@ -3,7 +3,7 @@ ghost use Rattle.std.specs.Prelude.{◌≡◌};
 ghost use Rattle.zt_protocol.specs.Plain.{CloseFace, DeclareFinal, Expire, InterestFinal};
 ghost use Rattle.zt_check_causes.specs.Causes.{call_cause};
 
-use crate::by_id::has_id;
+use crate::found::has_held;
 use crate::questions::{is_north, names_nothing};
 use zt_check_rows::ShownRows;
 use zt_keys::Key;
@@ -21,7 +21,7 @@ pub(crate) fn ending_cause<K: Key>(
     let Some(from) = rows.face(face) else {
         return Some(Refusal::UnknownFace);
     };
-    if !has_id(from.held(), id) {
+    if !has_held(from, id) {
         return Some(Refusal::UnknownInterest);
     }
     None

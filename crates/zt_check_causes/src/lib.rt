@@ -13,6 +13,7 @@ mod declaring;
 mod dictionary;
 mod entities;
 mod expressions;
+mod found;
 mod hats;
 mod left;
 mod opening;

@@ -7,7 +7,8 @@ ghost use Rattle.zt_model.specs.Refusals.{is_unknown_token, names_nothing};
 ghost use Rattle.zt_model.specs.Telling.{registers};
 ghost use Rattle.zt_region.specs.Region.{is_north};
 
-use crate::by_id::{at_id, has_id};
+use crate::by_id::has_id;
+use crate::found::{has_ask, has_held, has_live, has_pending, live_at, pending_at};
 use crate::hats::takes_from_north;
 use bitflags::Flags;
 use zt_check_faces::ShownFace;
@@ -48,7 +49,7 @@ pub(crate) fn is_interest_id_in_use<K: Key>(
 ) -> bool
     ensures { result ≡ is_interest_id_in_use id mode face.now }
 {
-    (mode.is_future() && has_id(face.held(), id)) || (mode.is_current() && has_id(face.asks(), id))
+    (mode.is_future() && has_held(face, id)) || (mode.is_current() && has_ask(face, id))
 }
 
 /// Whether no interest of the id was sent to the face and stands.
@@ -56,7 +57,7 @@ pub(crate) fn names_nothing<K: Key>(face: &ShownFace<K>, id: InterestId) -> bool
     ensures { result ≡ names_nothing id face.now }
 {
     let is_initial = id == 0 && face.initial().is_some();
-    !has_id(face.pendings(), id) && !has_id(face.locals(), id) && !is_initial
+    !has_pending(face, id) && !has_id(face.locals(), id) && !is_initial
 }
 
 // Whether a token with the id 0 answers no interest that was sent to the face.
@@ -103,7 +104,7 @@ fn registers<K: Key>(face: &ShownFace<K>, interest: Option<InterestId>) -> bool
     let Some(interest) = interest else {
         return true;
     };
-    match at_id(face.pendings(), interest) {
+    match pending_at(face, interest) {
         None => true,
         Some(pending) => pending.mode().is_future(),
     }
@@ -124,7 +125,7 @@ pub(crate) fn adds_row<K: Key>(
 pub(crate) fn is_token_id_in_use<K: Key>(face: &ShownFace<K>, id: TokenId, expr: &K) -> bool
     ensures { result ≡ is_token_id_in_use K.cmp id expr.now face.now }
 {
-    match at_id(face.live(), id) {
+    match live_at(face, id) {
         None => false,
         Some(live) => expr != live,
     }
@@ -134,5 +135,5 @@ pub(crate) fn is_token_id_in_use<K: Key>(face: &ShownFace<K>, id: TokenId, expr:
 pub(crate) fn is_unknown_token<K: Key>(face: &ShownFace<K>, id: TokenId, given: &Option<K>) -> bool
     ensures { result ≡ is_unknown_token id given.now face.now }
 {
-    given.is_none() && !has_id(face.live(), id)
+    given.is_none() && !has_live(face, id)
 }
