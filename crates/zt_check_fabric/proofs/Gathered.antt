@@ -1,17 +1,19 @@
 -- What is gathered from the members of a list, one after another.
-use Rattle.std.proofs.Common.{◌≡◌, ℕ, ◌+◌, ◌<◌, ◌≤◌, ◌==◌, List, [], ◌∷◌, ◌++◌, length, drop, get_or, refl, sym, ap, ◌∙◌, append_assoc, eq-eqb, ne_eqb}
+use Rattle.std.proofs.Common.{◌≡◌, ℕ, false, ◌+◌, ◌<◌, ◌≤◌, ◌==◌, List, [], ◌∷◌, ◌++◌, length, drop, get_or, refl, sym, ap, ◌∙◌, append_assoc, eq-eqb, ne_eqb}
+use Rattle.std.proofs.lemmas.Bool.{or_parts}
 use Rattle.std.proofs.lemmas.List.{drop_all}
-use Rattle.std.specs.List.{flat_map}
+use Rattle.std.specs.List.{flat_map, list_any}
 use Rattle.zt_keys.specs.Test.{by_test}
+use Rattle.zt_region.specs.Region.{is_north}
 use Rattle.zt_protocol.specs.Interest.{is_current}
 use Rattle.zt_protocol.specs.declared.entries.Sent.{Sent}
 use Rattle.zt_protocol.specs.declared.messages.Message.{Message}
 use Rattle.zt_protocol.specs.declared.messages.Message.TheVariants.{DeclareToken, UndeclareToken, DeclareFinal, Interest, InterestFinal, DeclareSubscriber, DeclareQueryable}
-use Rattle.zt_model.specs.Fabric.{Fabric, printed_for}
+use Rattle.zt_model.specs.Fabric.{Fabric, number_of_place, printed_for}
 use Rattle.zt_model.specs.Rows.{Face}
 use Rattle.zt_model.specs.Transcript.{current_ids}
 use Rattle.zt_check_faces.proofs.Placed.{next_is}
-use Rattle.zt_check_fabric.specs.Made.{pendings_for, pendings_in, with_number}
+use Rattle.zt_check_fabric.specs.Made.{is_current_interest, pendings_for, pendings_in, with_number}
 
 pub append_none : {B : Type 0} (xs : List B) → xs ++ [] ≡ xs
 append_none [] = refl
@@ -91,6 +93,38 @@ module _ {K : Type 0} where
   pending_own face number m ps ids same are =
       ap (λ (xs : List ℕ). ps ++ with_number face xs) are
       ∙ ap (λ (xs : List (Message K)). ps ++ with_number face (current_ids xs)) (sym (own_printed number m same))
+
+  -- ---- where no message is an interest in what is there now
+
+  no_id : (m : Message K) (ms : List (Message K)) → is_current_interest m ≡ false → current_ids ms ≡ [] → current_ids (m ∷ ms) ≡ []
+  no_id (Interest id mode options e) ms other rest = rw other rest
+  no_id (DeclareToken id e interest node) ms other rest = rest
+  no_id (UndeclareToken id e node) ms other rest = rest
+  no_id (DeclareFinal interest) ms other rest = rest
+  no_id (InterestFinal id) ms other rest = rest
+  no_id (DeclareSubscriber id e interest) ms other rest = rest
+  no_id (DeclareQueryable id e info interest) ms other rest = rest
+
+  no_ids : (number : ℕ) (ms : List (Sent K)) → list_any (λ m. is_current_interest m.message) ms ≡ false → current_ids (printed_for number ms) ≡ []
+  unfolding printed_for
+  no_ids number [] others = refl
+  no_ids number (m ∷ ms) others =
+      let parts = or_parts (is_current_interest m.message) (list_any (λ m. is_current_interest m.message) ms) others in
+      by_test (number == m.face)
+      (λ here. rw here (no_id m.message (printed_for number ms) parts.0 (no_ids number ms parts.1)))
+      (λ here. rw here (no_ids number ms parts.1))
+
+  none_for : (s : Fabric K) (ms : List (Sent K)) (gateway : ℕ) (f : Face K) → list_any (λ m. is_current_interest m.message) ms ≡ false → pendings_for s ms gateway f ≡ []
+  none_for s ms gateway f others =
+      by_test (is_north f.region)
+      (λ here. rw here (ap (with_number f.number) (no_ids (number_of_place s gateway f.number) ms others)))
+      (λ here. rw here refl)
+
+  pub none_pending : (s : Fabric K) (ms : List (Sent K)) (gateway : ℕ) (fs : List (Face K)) → list_any (λ m. is_current_interest m.message) ms ≡ false
+      → [] ≡ flat_map (pendings_for s ms gateway) fs
+  none_pending s ms gateway [] others = refl
+  none_pending s ms gateway (f ∷ fs) others =
+      none_pending s ms gateway fs others ∙ ap (λ (ps : List (ℕ × ℕ)). ps ++ flat_map (pendings_for s ms gateway) fs) (sym (none_for s ms gateway f others))
 
   -- faces of a gateway, one after another
   pub pendings_first : (s : Fabric K) (ms : List (Sent K)) (gateway : ℕ) (f : Face K) (fs : List (Face K))

@@ -1,9 +1,11 @@
 // The pendings of an ask: the interests that its own entry prints.
 ghost use Rattle.std.specs.Prelude.{◌≡◌, ◌∷◌, ◌++◌, [], IfOk, OnOk};
+ghost use Rattle.std.specs.List.{list_any};
 ghost use Rattle.std.specs.Option.{option_to_list};
 ghost use Rattle.zt_protocol.specs.Plain.{plain_call};
 ghost use Rattle.zt_model.specs.Transcript.{current_ids};
-ghost use Rattle.zt_check_fabric.specs.Made.{pendings_at, pendings_for, pendings_in, pendings_of};
+ghost use Rattle.zt_check_fabric.specs.Made.{is_current_interest, pendings_at, pendings_for};
+ghost use Rattle.zt_check_fabric.specs.Made.{pendings_in, pendings_of};
 
 use crate::fabric::ShownFabric;
 use std::alloc::Global;
@@ -64,6 +66,28 @@ fn add_pendings<K: Key>(
     Ok(())
 }
 
+// Whether a message is an interest in what is there now.
+fn is_current_interest<K: Key>(message: &Message<K>) -> bool
+    ensures { result ≡ is_current_interest message.now }
+{
+    match message {
+        Message::Interest { mode, .. } => mode.is_current(),
+        _ => false,
+    }
+}
+
+// Whether one of these messages is.
+fn has_current_interest<K: Key>(sents: &[Sent<K>]) -> bool
+    ensures { result ≡ list_any (λ m. is_current_interest m.message) sents.now }
+{
+    for sent in sents {
+        if is_current_interest(&sent.message) {
+            return true;
+        }
+    }
+    false
+}
+
 impl<'a, K: Key> ShownFabric<'a, K> {
     // Adds those that are printed for a face of a gateway, where it is to the north.
     fn add_for_face(
@@ -96,6 +120,9 @@ impl<'a, K: Key> ShownFabric<'a, K> {
             (λ pendings. pendings.items ≡ pendings_at self.now sents.now gateway rows.now) }
     {
         let mut pendings = Vec::new(alloc);
+        if !has_current_interest(sents) {
+            return Ok(pendings);
+        }
         for face in rows.faces() {
             self.add_for_face(&mut pendings, gateway, face, sents)?;
         }
