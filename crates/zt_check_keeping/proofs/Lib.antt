@@ -9,6 +9,8 @@ pub mod Kept
 pub mod Lines
 pub mod Members
 pub mod Nodes
+pub mod Owed
+pub mod Sought
 pub mod Standing
 pub mod Touched
 pub mod Turns

@@ -39,6 +39,11 @@ module _ {K : Type 0} (cmp : K → K → Ordering) (matching : K → K → Bool)
   keeps_bound Upper g f e = keeps_no_more_of g f e
   keeps_bound Lower g f e = keeps_no_less_of g f e
 
+  -- the face keeps what the bound asks for whether the expression is shown to it or not
+  abbrev pub keeps_anyway : Bound → Face K → K → Bool
+  keeps_anyway Upper f e = not (keeps cmp f e)
+  keeps_anyway Lower f e = not (is_owed matching f e) || keeps cmp f e
+
   -- outside router regions
   abbrev pub keeps_rightly : Bound → Rows K → Face K → K → Bool
   keeps_rightly bound g f e = is_routed g f || keeps_bound bound g f e

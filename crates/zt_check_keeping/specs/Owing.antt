@@ -1,10 +1,11 @@
 -- What a face keeps of the tokens that are owed to it, source by source.
-use Rattle.std.specs.Prelude.{ℕ, Bool, true, ◌==◌, ◌&&◌, ◌||◌, not, List, Option, None, Some}
+use Rattle.std.specs.Prelude.{◌≡◌, ℕ, Bool, true, ◌==◌, ◌&&◌, ◌||◌, not, List, Option, None, Some}
 use Rattle.std.specs.List.{list_all, list_any}
 use Rattle.std.specs.declared.cmp.Ordering.{Ordering}
 use Rattle.zt_region.specs.declared.region.Region.{Region}
 use Rattle.zt_region.specs.Admission.{admits}
-use Rattle.zt_region.specs.Region.{zid_eq}
+use Rattle.zt_region.specs.Region.{is_north, zid_eq}
+use Rattle.zt_protocol.specs.Interest.{is_current}
 use Rattle.zt_model.specs.Rows.{ById, Face, InterestRow, RoutedRow, Rows}
 use Rattle.zt_model.specs.Seen.{concerns, is_owed, sees}
 use Rattle.zt_model.specs.Visible.{keeps}
@@ -12,6 +13,14 @@ use Rattle.zt_model.specs.Visible.{keeps}
 -- faces of a region see the tokens of another, and the admission table admits them
 abbrev pub is_shown_and_admitted : List (Region × Region) → Region → Region → Bool
 is_shown_and_admitted refused own source = sees own source && admits refused source own
+
+-- an interest that is held asked for what was there too
+abbrev pub holds_current : {K : Type 0} → ById (InterestRow K) → Bool
+holds_current held = list_any (λ row. is_current row.1.mode) held
+
+-- an expression may be owed to the face
+abbrev pub may_be_owed : {K : Type 0} → Face K → Bool
+may_be_owed f = is_north f.region || holds_current f.held
 
 module _ {K : Type 0} (cmp : K → K → Ordering) (matching : K → K → Bool) where
   -- an interest that is held under the id concerns the expression
@@ -22,6 +31,15 @@ module _ {K : Type 0} (cmp : K → K → Ordering) (matching : K → K → Bool)
   abbrev pub is_asked : Face K → Option ℕ → K → Bool
   is_asked f None e = true
   is_asked f (Some id) e = is_concerned f.held id e
+
+  -- the same by some rows of interests
+  abbrev pub is_asked_by : ById (InterestRow K) → Option ℕ → K → Bool
+  is_asked_by asking None e = true
+  is_asked_by asking (Some id) e = is_concerned asking id e
+
+  -- some rows ask what all that the face holds ask
+  abbrev pub AreAsking : Face K → Option ℕ → ById (InterestRow K) → Type 0
+  AreAsking f id asking = (e : K) → is_asked_by asking id e ≡ is_asked f id e
 
   -- the face keeps the expression, if it is asked about and owed to it
   abbrev pub keeps_concerned : Face K → Option ℕ → K → Bool

@@ -7,6 +7,7 @@ ghost use Rattle.zt_check_keeping.specs.Heard.{heard_there, told_under};
 use std::alloc::Global;
 use zt_check_fabric::{ShownFabric, ShownPlace};
 use zt_check_faces::ShownFace;
+use zt_check_rows::ShownRows;
 use zt_keys::{Key, Memory};
 use zt_protocol::{Message, Sent};
 
@@ -49,49 +50,49 @@ fn add_told_row<K: Key>(
     add_key(alloc, tokens, gateway, face, &row.1)
 }
 
-// What a face was told under an id.
+// What a face was told under an id, with this number of the face.
 fn add_told<K: Key>(
     alloc: Global,
     tokens: &mut Vec<(u32, u32, K)>,
     gateway: u32,
-    face: u32,
+    number: u32,
     id: u32,
-    told: &[(u32, K)],
+    face: &ShownFace<K>,
 ) -> Result<(), Memory>
     ensures { OnOk result
-        (tokens.new.items ≡ tokens.old.items ++ told_under gateway face id told.now) }
+        (tokens.new.items ≡ tokens.old.items ++ told_under gateway number id face.now.told) }
 {
-    for row in told {
-        add_told_row(alloc, tokens, gateway, face, id, row)?;
+    for row in face.told_of(id) {
+        add_told_row(alloc, tokens, gateway, number, id, row)?;
     }
     Ok(())
 }
 
-// What a message says of tokens to a face that was told these.
+// What a message says of tokens to a face, under this number.
 fn add_message<K: Key>(
     alloc: Global,
     tokens: &mut Vec<(u32, u32, K)>,
     gateway: u32,
-    face: u32,
-    told: &[(u32, K)],
+    number: u32,
+    face: &ShownFace<K>,
     message: &Message<K>,
 ) -> Result<(), Memory>
     ensures { OnOk result (tokens.new.items
-        ≡ tokens.old.items ++ heard_of gateway face told.now message.now) }
+        ≡ tokens.old.items ++ heard_of gateway number face.now.told message.now) }
 {
     match message {
         Message::DeclareToken { id, expr, .. } => {
             if *id == 0 {
                 return Ok(());
             }
-            add_key(alloc, tokens, gateway, face, expr)
+            add_key(alloc, tokens, gateway, number, expr)
         }
         Message::UndeclareToken {
             expr: Some(expr),
             ..
-        } => add_key(alloc, tokens, gateway, face, expr),
+        } => add_key(alloc, tokens, gateway, number, expr),
         Message::UndeclareToken { id, expr: None, .. } => {
-            add_told(alloc, tokens, gateway, face, *id, told)
+            add_told(alloc, tokens, gateway, number, *id, face)
         }
         Message::DeclareFinal { .. }
         | Message::Interest { .. }
@@ -115,7 +116,7 @@ fn add_face<K: Key>(
     if number != face.number() {
         return Ok(());
     }
-    add_message(alloc, tokens, gateway, number, face.told(), message)
+    add_message(alloc, tokens, gateway, number, face, message)
 }
 
 // By the faces of a number.
@@ -125,12 +126,12 @@ fn add_faces<K: Key>(
     gateway: u32,
     number: u32,
     message: &Message<K>,
-    faces: &[ShownFace<K>],
+    rows: &ShownRows<K>,
 ) -> Result<(), Memory>
     ensures { OnOk result (tokens.new.items
-        ≡ tokens.old.items ++ heard_among gateway number message.now faces.now) }
+        ≡ tokens.old.items ++ heard_among gateway number message.now rows.now.faces) }
 {
-    for face in faces {
+    for face in rows.faces_of(number) {
         add_face(alloc, tokens, gateway, number, message, face)?;
     }
     Ok(())
@@ -151,8 +152,8 @@ fn add_place<'a, K: Key>(
     match fabric.node(place.gateway()) {
         None => Ok(()),
         Some(node) => {
-            let faces = node.rows().faces();
-            add_faces(alloc, tokens, place.gateway(), place.face(), message, faces)
+            let rows = node.rows();
+            add_faces(alloc, tokens, place.gateway(), place.face(), message, rows)
         }
     }
 }

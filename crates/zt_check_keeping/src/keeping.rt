@@ -2,11 +2,12 @@
 ghost use Rattle.std.specs.Prelude.{◌≡◌, ◌==◌, ◌&&◌, ◌||◌, false, not, true, None, Some};
 ghost use Rattle.std.specs.List.{list_all};
 ghost use Rattle.zt_model.specs.Parts.{is_routed};
+ghost use Rattle.zt_model.specs.Rows.{Face};
 ghost use Rattle.zt_model.specs.Seen.{is_seen, is_seen_and_admitted, may_hear};
 ghost use Rattle.zt_check_keeping.specs.Keeping.{are_no_less, are_no_more, at_face, at_gateway};
 ghost use Rattle.zt_check_keeping.specs.Keeping.{changed_are_kept, faces_keep_rightly};
 ghost use Rattle.zt_check_keeping.specs.Keeping.{heard_are_kept, heard_is_kept, holder_keeps};
-ghost use Rattle.zt_check_keeping.specs.Keeping.{keeps_bound, keeps_no_less_of};
+ghost use Rattle.zt_check_keeping.specs.Keeping.{keeps_anyway, keeps_bound, keeps_no_less_of};
 ghost use Rattle.zt_check_keeping.specs.Keeping.{is_shown, keeps_no_more_of, keeps_rightly};
 ghost use Rattle.zt_check_keeping.specs.Keeping.{may_hear_all};
 ghost use Rattle.zt_check_keeping.specs.Keeping.{opened_keeps_all, unheld_may_hear};
@@ -15,7 +16,7 @@ ghost use Rattle.zt_check_keeping.specs.Owing.{keeps_all};
 use crate::changed::Changed;
 use crate::heard::Heard;
 use crate::owing::keeps_all;
-use crate::seen::{is_owed, may_hear};
+use crate::seen::{is_owed, is_seen, may_hear};
 use crate::showing::{is_among_changed, is_shown, shown_to, shown_to_face};
 use zt_check_fabric::ShownFabric;
 use zt_check_faces::ShownFace;
@@ -78,7 +79,38 @@ fn keeps_bound<K: Key>(bound: Bound, rows: &ShownRows<K>, face: &ShownFace<K>, e
     keeps_shown(bound, rows, face, shown, expr)
 }
 
-// The face keeps of the expression what it should, if it is outside router regions.
+// The face keeps of the expression what this bound asks for, whether the expression is shown to it
+// or not: it doesn't keep it, or it isn't owed to it or kept.
+fn keeps_anyway<K: Key>(bound: Bound, face: &ShownFace<K>, expr: &K) -> bool
+    ensures { result ≡ keeps_anyway K.cmp K.matching bound face.now expr.now }
+{
+    match bound {
+        Bound::Upper => !face.has_told(expr),
+        Bound::Lower => !is_owed(face, expr) || face.has_told(expr),
+    }
+}
+
+// The face keeps of the expression what this bound asks for, where that depends on whether the
+// expression is shown to it.
+fn keeps_where_shown<K: Key>(
+    bound: Bound,
+    rows: &ShownRows<K>,
+    face: &ShownFace<K>,
+    shown: bool,
+    expr: &K,
+) -> bool
+    requires depends { keeps_anyway K.cmp K.matching bound face.now expr.now ≡ false }
+    requires shown { shown ≡ is_shown K.cmp K.matching bound rows.now face.now.region expr.now }
+    ensures { result ≡ keeps_bound K.cmp K.matching bound rows.now face.now expr.now }
+{
+    match bound {
+        Bound::Upper => shown && may_hear(face, expr),
+        Bound::Lower => !shown,
+    }
+}
+
+// The face keeps of the expression what it should, if it is outside router regions, where that
+// depends on whether the expression is shown to it.
 fn keeps_rightly<K: Key>(
     bound: Bound,
     rows: &ShownRows<K>,
@@ -86,18 +118,31 @@ fn keeps_rightly<K: Key>(
     shown: bool,
     expr: &K,
 ) -> bool
-    requires { is_routed rows.now face.now ≡ false
+    requires depends { keeps_anyway K.cmp K.matching bound face.now expr.now ≡ false }
+    requires shown { is_routed rows.now face.now ≡ false
         → shown ≡ is_shown K.cmp K.matching bound rows.now face.now.region expr.now }
     ensures { result ≡ keeps_rightly K.cmp K.matching bound rows.now face.now expr.now }
 {
     if rows.is_routed(face) {
         return true;
     }
-    keeps_shown(bound, rows, face, shown, expr)
+    keeps_where_shown(bound, rows, face, shown, expr)
+}
+
+// Each face keeps of the expression what this bound asks for, since no token of it is there.
+fn is_shown_to_none<K: Key>(bound: Bound, rows: &ShownRows<K>, expr: &K) -> bool
+    ensures { result ≡ true → (f : Face K)
+        → keeps_rightly K.cmp K.matching bound rows.now f expr.now ≡ true }
+{
+    match bound {
+        Bound::Upper => false,
+        Bound::Lower => !is_seen(rows, Region::Local, expr),
+    }
 }
 
 // All of these faces of a gateway keep of the expression what they should. Whether it is shown to a
-// region is asked once for faces of that region that follow one another.
+// region is asked only where that decides, and once for such faces of that region that follow one
+// another.
 fn faces_keep_rightly<K: Key>(
     bound: Bound,
     rows: &ShownRows<K>,
@@ -107,8 +152,14 @@ fn faces_keep_rightly<K: Key>(
     ensures { result ≡ list_all
         (λ f. keeps_rightly K.cmp K.matching bound rows.now f expr.now) faces.now }
 {
+    if is_shown_to_none(bound, rows, expr) {
+        return true;
+    }
     let mut last = shown_to(bound, rows, Region::Local, expr);
     for face in faces {
+        if keeps_anyway(bound, face, expr) {
+            continue;
+        }
         last = shown_to_face(bound, rows, face, last, expr);
         if !keeps_rightly(bound, rows, face, last.1, expr) {
             return false;
@@ -168,7 +219,7 @@ fn face_keeps_bound<K: Key>(bound: Bound, rows: &ShownRows<K>, number: u32, expr
     ensures { result ≡ at_face number
         (λ g f. keeps_bound K.cmp K.matching bound g f expr.now) rows.now }
 {
-    for face in rows.faces() {
+    for face in rows.faces_of(number) {
         if !is_kept(bound, rows, face, number, expr) {
             return false;
         }
@@ -266,7 +317,7 @@ fn is_hearing<K: Key>(rows: &ShownRows<K>, face: &ShownFace<K>, number: u32) -> 
 fn face_may_hear_all<K: Key>(rows: &ShownRows<K>, number: u32) -> bool
     ensures { result ≡ at_face number (λ g f. may_hear_all K.cmp K.matching f) rows.now }
 {
-    for face in rows.faces() {
+    for face in rows.faces_of(number) {
         if !is_hearing(rows, face, number) {
             return false;
         }
@@ -302,7 +353,7 @@ fn is_keeping<K: Key>(
 fn face_keeps_all<K: Key>(rows: &ShownRows<K>, number: u32, id: Option<u32>) -> bool
     ensures { result ≡ at_face number (λ g f. keeps_all K.cmp K.matching g f id) rows.now }
 {
-    for face in rows.faces() {
+    for face in rows.faces_of(number) {
         if !is_keeping(rows, face, number, id) {
             return false;
         }

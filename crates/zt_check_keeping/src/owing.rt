@@ -1,9 +1,10 @@
 // Whether a face keeps all that is owed to it.
-ghost use Rattle.std.specs.Prelude.{◌≡◌};
+ghost use Rattle.std.specs.Prelude.{◌≡◌, ◌||◌, not};
 ghost use Rattle.std.specs.List.{list_all};
-ghost use Rattle.zt_check_keeping.specs.Owing.{is_asked, is_concerned, keeps_all};
-ghost use Rattle.zt_check_keeping.specs.Owing.{keeps_concerned, keeps_declared, keeps_of_faces};
-ghost use Rattle.zt_check_keeping.specs.Owing.{keeps_routed};
+ghost use Rattle.zt_check_keeping.specs.Owing.{AreAsking, holds_current, is_asked_by};
+ghost use Rattle.zt_check_keeping.specs.Owing.{is_concerned, may_be_owed};
+ghost use Rattle.zt_check_keeping.specs.Owing.{keeps_all, keeps_concerned, keeps_declared};
+ghost use Rattle.zt_check_keeping.specs.Owing.{is_shown_and_admitted, keeps_of_faces, keeps_routed};
 
 use crate::seen::{concerns, is_owed, is_shown_and_admitted};
 use zt_check_faces::{ShownFace, ShownInterest};
@@ -23,49 +24,88 @@ fn is_concerned<K: Key>(held: &[(u32, ShownInterest<K>)], id: u32, expr: &K) -> 
     false
 }
 
-// Whether that is asked about: where no id is given, all is.
-fn is_asked<K: Key>(face: &ShownFace<K>, id: Option<u32>, expr: &K) -> bool
-    ensures { result ≡ is_asked K.cmp K.matching face.now id expr.now }
+// The interests of an id that a face holds, perhaps beside others.
+fn asking_rows<K: Key>(face: &ShownFace<K>, id: Option<u32>) -> &[(u32, ShownInterest<K>)]
+    ensures { AreAsking K.cmp K.matching face.now id result.now }
+{
+    match id {
+        None => face.held(),
+        Some(id) => face.held_of(id),
+    }
+}
+
+// Whether an expression is asked about: where no id is given, all is.
+fn is_asked<K: Key>(asking: &[(u32, ShownInterest<K>)], id: Option<u32>, expr: &K) -> bool
+    ensures { result ≡ is_asked_by K.cmp K.matching asking.now id expr.now }
 {
     match id {
         None => true,
-        Some(id) => is_concerned(face.held(), id, expr),
+        Some(id) => is_concerned(asking, id, expr),
     }
 }
 
 // Whether a face keeps an expression that is owed to it, where the interest of an id concerns it.
-fn keeps_concerned<K: Key>(face: &ShownFace<K>, id: Option<u32>, expr: &K) -> bool
+fn keeps_concerned<K: Key>(
+    face: &ShownFace<K>,
+    asking: &[(u32, ShownInterest<K>)],
+    id: Option<u32>,
+    expr: &K,
+) -> bool
+    requires { AreAsking K.cmp K.matching face.now id asking.now }
     ensures { result ≡ keeps_concerned K.cmp K.matching face.now id expr.now }
 {
-    !is_asked(face, id, expr) || !is_owed(face, expr) || face.has_told(expr)
+    !is_asked(asking, id, expr) || !is_owed(face, expr) || face.has_told(expr)
 }
 
 // Whether a face keeps all that another declares and that is owed to it.
-fn keeps_declared<K: Key>(face: &ShownFace<K>, id: Option<u32>, live: &[(u32, K)]) -> bool
+fn keeps_declared<K: Key>(
+    face: &ShownFace<K>,
+    asking: &[(u32, ShownInterest<K>)],
+    id: Option<u32>,
+    live: &[(u32, K)],
+) -> bool
+    requires { AreAsking K.cmp K.matching face.now id asking.now }
     ensures { result ≡ keeps_declared K.cmp K.matching face.now id live.now }
 {
     for row in live {
-        if !keeps_concerned(face, id, &row.1) {
+        if !keeps_concerned(face, asking, id, &row.1) {
             return false;
         }
     }
     true
 }
 
+// Whether a face keeps all that another declares and that is admitted and owed to it.
+fn keeps_of_face<K: Key>(
+    refused: &[(Region, Region)],
+    face: &ShownFace<K>,
+    asking: &[(u32, ShownInterest<K>)],
+    id: Option<u32>,
+    source: &ShownFace<K>,
+) -> bool
+    requires { AreAsking K.cmp K.matching face.now id asking.now }
+    ensures { result
+        ≡ (not (is_shown_and_admitted refused.now face.now.region source.now.region)
+        || keeps_declared K.cmp K.matching face.now id source.now.live) }
+{
+    !is_shown_and_admitted(refused, face.region(), source.region())
+        || keeps_declared(face, asking, id, source.live())
+}
+
 // Whether a face keeps all that other faces declare and that is admitted and owed to it.
 fn keeps_of_faces<K: Key>(
     refused: &[(Region, Region)],
     face: &ShownFace<K>,
+    asking: &[(u32, ShownInterest<K>)],
     id: Option<u32>,
     sources: &[ShownFace<K>],
 ) -> bool
+    requires { AreAsking K.cmp K.matching face.now id asking.now }
     ensures { result
         ≡ keeps_of_faces K.cmp K.matching refused.now face.now id sources.now }
 {
     for source in sources {
-        if is_shown_and_admitted(refused, face.region(), source.region())
-            && !keeps_declared(face, id, source.live())
-        {
+        if !keeps_of_face(refused, face, asking, id, source) {
             return false;
         }
     }
@@ -76,32 +116,55 @@ fn keeps_of_faces<K: Key>(
 fn keeps_routed<K: Key>(
     rows: &ShownRows<K>,
     face: &ShownFace<K>,
+    asking: &[(u32, ShownInterest<K>)],
     id: Option<u32>,
     row: &ShownRouted<K>,
 ) -> bool
+    requires { AreAsking K.cmp K.matching face.now id asking.now }
     ensures { result ≡ keeps_routed K.cmp K.matching rows.now face.now id row.now }
 {
     row.source() == rows.zid()
         || !is_shown_and_admitted(rows.refused(), face.region(), row.region())
-        || keeps_concerned(face, id, row.expr())
+        || keeps_concerned(face, asking, id, row.expr())
 }
 
 // Whether a face keeps all tokens of routers that are admitted and owed to it.
 fn keeps_of_routers<K: Key>(
     rows: &ShownRows<K>,
     face: &ShownFace<K>,
+    asking: &[(u32, ShownInterest<K>)],
     id: Option<u32>,
     routed: &[ShownRouted<K>],
 ) -> bool
+    requires { AreAsking K.cmp K.matching face.now id asking.now }
     ensures { result
         ≡ list_all (keeps_routed K.cmp K.matching rows.now face.now id) routed.now }
 {
     for row in routed {
-        if !keeps_routed(rows, face, id, row) {
+        if !keeps_routed(rows, face, asking, id, row) {
             return false;
         }
     }
     true
+}
+
+// Whether one of the interests that a face holds asked for what was there too.
+fn holds_current<K: Key>(held: &[(u32, ShownInterest<K>)]) -> bool
+    ensures { result ≡ holds_current held.now }
+{
+    for row in held {
+        if row.1.mode().is_current() {
+            return true;
+        }
+    }
+    false
+}
+
+// Whether an expression may be owed to a face.
+fn may_be_owed<K: Key>(face: &ShownFace<K>) -> bool
+    ensures { result ≡ may_be_owed face.now }
+{
+    face.region() == Region::North || holds_current(face.held())
 }
 
 /// Whether a face keeps all tokens that are admitted and owed to it, of those that the
@@ -109,6 +172,10 @@ fn keeps_of_routers<K: Key>(
 pub(crate) fn keeps_all<K: Key>(rows: &ShownRows<K>, face: &ShownFace<K>, id: Option<u32>) -> bool
     ensures { result ≡ keeps_all K.cmp K.matching rows.now face.now id }
 {
-    keeps_of_faces(rows.refused(), face, id, rows.faces())
-        && keeps_of_routers(rows, face, id, rows.routed())
+    if !may_be_owed(face) {
+        return true;
+    }
+    let asking = asking_rows(face, id);
+    keeps_of_faces(rows.refused(), face, asking, id, rows.faces())
+        && keeps_of_routers(rows, face, asking, id, rows.routed())
 }

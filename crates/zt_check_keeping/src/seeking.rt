@@ -4,16 +4,16 @@ ghost use Rattle.zt_protocol.specs.Plain.{plain_call};
 ghost use Rattle.zt_model.specs.Lists.{has_id};
 ghost use Rattle.zt_check_keeping.specs.Changed.{held_of, is_holding, opened_of, unheld_of};
 
-use zt_check_faces::{ShownFace, ShownInterest};
+use zt_check_faces::ShownFace;
 use zt_check_rows::ShownRows;
 use zt_keys::{Key, Memory};
 use zt_protocol::Call;
 
 // Whether one of the interests that a face holds has the id.
-fn has_interest<K: Key>(held: &[(u32, ShownInterest<K>)], id: u32) -> bool
-    ensures { result ≡ has_id id held.now }
+fn has_interest<K: Key>(face: &ShownFace<K>, id: u32) -> bool
+    ensures { result ≡ has_id id face.now.held }
 {
-    for row in held {
+    for row in face.held_of(id) {
         if id == row.0 {
             return true;
         }
@@ -25,14 +25,14 @@ fn has_interest<K: Key>(held: &[(u32, ShownInterest<K>)], id: u32) -> bool
 fn is_holder<K: Key>(face: &ShownFace<K>, number: u32, id: u32) -> bool
     ensures { result ≡ ((number == face.now.number) && has_id id face.now.held) }
 {
-    number == face.number() && has_interest(face.held(), id)
+    number == face.number() && has_interest(face, id)
 }
 
 // Whether a face of the number holds an interest of the id.
-fn is_holding<K: Key>(faces: &[ShownFace<K>], number: u32, id: u32) -> bool
-    ensures { result ≡ is_holding number id faces.now }
+fn is_holding<K: Key>(rows: &ShownRows<K>, number: u32, id: u32) -> bool
+    ensures { result ≡ is_holding number id rows.now.faces }
 {
-    for face in faces {
+    for face in rows.faces_of(number) {
         if is_holder(face, number, id) {
             return true;
         }
@@ -107,7 +107,7 @@ pub(crate) fn add_unheld<K: Key>(
             Ok(())
         }
         Call::Interest { face, id, mode, .. } => {
-            if mode.is_future() && is_holding(rows.faces(), *face, *id) {
+            if mode.is_future() && is_holding(rows, *face, *id) {
                 unheld.push((gateway, *face))?;
                 return Ok(());
             }

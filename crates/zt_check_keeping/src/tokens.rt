@@ -1,5 +1,5 @@
 // The expressions whose tokens a call may add or take away: read before it.
-ghost use Rattle.std.specs.Prelude.{◌≡◌, ◌∷◌, ◌++◌, [], OnOk};
+ghost use Rattle.std.specs.Prelude.{◌≡◌, ℕ, ◌∷◌, ◌++◌, [], OnOk};
 ghost use Rattle.zt_protocol.specs.Plain.{plain_call};
 ghost use Rattle.zt_check_keeping.specs.Changed.{declared, expressions, is_sought, named};
 ghost use Rattle.zt_check_keeping.specs.Changed.{routed_in, tokens_of};
@@ -67,6 +67,17 @@ fn add_rows<K: Key>(
     Ok(())
 }
 
+// The rows of the tokens that a face declares: a part that has all of those that are sought.
+fn sought_rows<K: Key>(face: &ShownFace<K>, sought: Option<u32>) -> &[(u32, K)]
+    ensures { (gateway : ℕ)
+        → expressions gateway sought result.now ≡ expressions gateway sought face.now.live }
+{
+    match sought {
+        None => face.live(),
+        Some(id) => face.live_of(id),
+    }
+}
+
 fn add_face<K: Key>(
     alloc: Global,
     tokens: &mut Vec<(u32, K)>,
@@ -81,7 +92,7 @@ fn add_face<K: Key>(
     if number != face.number() {
         return Ok(());
     }
-    add_rows(alloc, tokens, gateway, sought, face.live())
+    add_rows(alloc, tokens, gateway, sought, sought_rows(face, sought))
 }
 
 // Those that faces of a number declare.
@@ -91,12 +102,12 @@ fn add_declared<K: Key>(
     gateway: u32,
     number: u32,
     sought: Option<u32>,
-    faces: &[ShownFace<K>],
+    rows: &ShownRows<K>,
 ) -> Result<(), Memory>
     ensures { OnOk result
-        (tokens.new.items ≡ tokens.old.items ++ declared gateway number sought faces.now) }
+        (tokens.new.items ≡ tokens.old.items ++ declared gateway number sought rows.now.faces) }
 {
-    for face in faces {
+    for face in rows.faces_of(number) {
         add_face(alloc, tokens, gateway, number, sought, face)?;
     }
     Ok(())
@@ -164,15 +175,13 @@ pub(crate) fn add_tokens<K: Key>(
     match call {
         Call::DeclareToken { face, id, expr, .. } => {
             add_key(alloc, tokens, gateway, expr)?;
-            add_declared(alloc, tokens, gateway, *face, Some(*id), rows.faces())
+            add_declared(alloc, tokens, gateway, *face, Some(*id), rows)
         }
         Call::UndeclareToken { face, id, expr, .. } => {
             add_named(alloc, tokens, gateway, expr)?;
-            add_declared(alloc, tokens, gateway, *face, Some(*id), rows.faces())
+            add_declared(alloc, tokens, gateway, *face, Some(*id), rows)
         }
-        Call::CloseFace { face } => {
-            add_declared(alloc, tokens, gateway, *face, None, rows.faces())
-        }
+        Call::CloseFace { face } => { add_declared(alloc, tokens, gateway, *face, None, rows) }
         Call::SetTrees { region, .. } => {
             add_routed(alloc, tokens, gateway, *region, rows.routed())
         }
