@@ -3,3 +3,4 @@ pub mod LineCalls
 pub mod Covered
 pub mod Turns
 pub mod Walked
+pub mod Sought

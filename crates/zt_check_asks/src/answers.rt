@@ -257,7 +257,7 @@ fn is_answered_at<'a, 'b, K: Key>(
     is_answered(alloc, fabric, told, gateway, rows, face, row)
 }
 
-// Whether those of these asks are that are of this id.
+// Whether a face's asks of an id are.
 fn are_answered_among<'a, 'b, K: Key>(
     alloc: Global,
     fabric: &ShownFabric<'a, K>,
@@ -266,12 +266,11 @@ fn are_answered_among<'a, 'b, K: Key>(
     rows: &ShownRows<K>,
     face: &ShownFace<K>,
     id: u32,
-    asks: &[(u32, ShownAsk<K>)],
 ) -> Result<bool, Memory>
     ensures { IfOk result (λ hold. hold ≡ list_all (is_answered_at K.cmp K.matching
-        fabric.now told.now gateway rows.now face.now id) asks.now) }
+        fabric.now told.now gateway rows.now face.now id) face.now.asks) }
 {
-    for row in asks {
+    for row in face.asks_of(id) {
         if !is_answered_at(alloc, fabric, told, gateway, rows, face, id, row)? {
             return Ok(false);
         }
@@ -296,7 +295,7 @@ fn are_answered_of<'a, 'b, K: Key>(
     if number != face.number() {
         return Ok(true);
     }
-    are_answered_among(alloc, fabric, told, gateway, rows, face, id, face.asks())
+    are_answered_among(alloc, fabric, told, gateway, rows, face, id)
 }
 
 // Whether those of an id of a gateway's face are.
@@ -312,7 +311,7 @@ fn are_answered_in<'a, 'b, K: Key>(
     ensures { IfOk result (λ hold. hold ≡ list_all (are_answered_of K.cmp K.matching
         fabric.now told.now gateway rows.now number id) rows.now.faces) }
 {
-    for face in rows.faces() {
+    for face in rows.faces_of(number) {
         if !are_answered_of(alloc, fabric, told, gateway, rows, number, id, face)? {
             return Ok(false);
         }

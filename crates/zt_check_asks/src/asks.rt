@@ -7,7 +7,7 @@ ghost use Rattle.zt_model.specs.Telling.{was_sent_as};
 ghost use Rattle.zt_check_asks.specs.Answering.{answers_from};
 
 use std::alloc::Global;
-use zt_check_faces::{ShownAsk, ShownPending};
+use zt_check_faces::{ShownAsk, ShownFace};
 use zt_check_rows::ShownRows;
 use zt_keys::{Key, Memory};
 use zt_protocol::{Message, Sent};
@@ -18,15 +18,15 @@ pub fn stands<K: Key>(rows: &ShownRows<K>, pending: (u32, u32)) -> bool
 {
     match rows.face(pending.0) {
         None => false,
-        Some(face) => has_id(face.pendings(), pending.1),
+        Some(face) => has_pending(face, pending.1),
     }
 }
 
-// Whether a pending of an id is there.
-fn has_id(pendings: &[(u32, ShownPending)], id: u32) -> bool
-    ensures { result ≡ has_id id pendings.now }
+// Whether a pending of an id of a face is there.
+fn has_pending<K: Key>(face: &ShownFace<K>, id: u32) -> bool
+    ensures { result ≡ has_id id face.now.pendings }
 {
-    for row in pendings {
+    for row in face.pendings_of(id) {
         if id == row.0 {
             return true;
         }
