@@ -5,3 +5,4 @@ pub mod HeardAsks
 pub mod Lines
 pub mod Printed
 pub mod Steps
+pub mod Sought

@@ -141,7 +141,7 @@ fn is_finished_at<'a, K: Key>(
     id != row.0 || is_finished(fabric, finalised, sents, gateway, rows, face, row)
 }
 
-// Those of these asks do that are of this id.
+// A face's asks of an id do.
 fn are_finished_among<'a, K: Key>(
     fabric: &ShownFabric<'a, K>,
     finalised: Option<(u32, u32, u32)>,
@@ -150,12 +150,11 @@ fn are_finished_among<'a, K: Key>(
     rows: &ShownRows<K>,
     face: &ShownFace<K>,
     id: u32,
-    asks: &[(u32, ShownAsk<K>)],
 ) -> bool
     ensures { result ≡ list_all (is_finished_at
-        fabric.now finalised sents.now gateway rows.now face.now id) asks.now }
+        fabric.now finalised sents.now gateway rows.now face.now id) face.now.asks }
 {
-    for row in asks {
+    for row in face.asks_of(id) {
         if !is_finished_at(fabric, finalised, sents, gateway, rows, face, id, row) {
             return false;
         }
@@ -177,17 +176,7 @@ fn are_finished_of<'a, K: Key>(
     ensures { result ≡ are_finished_of
         fabric.now finalised sents.now gateway rows.now number id face.now }
 {
-    number != face.number()
-        || are_finished_among(
-            fabric,
-            finalised,
-            sents,
-            gateway,
-            rows,
-            face,
-            id,
-            face.asks(),
-        )
+    number != face.number() || are_finished_among(fabric, finalised, sents, gateway, rows, face, id)
 }
 
 // Those of an id of a gateway's face do.
@@ -199,12 +188,11 @@ fn are_finished_in<'a, K: Key>(
     rows: &ShownRows<K>,
     number: u32,
     id: u32,
-    faces: &[ShownFace<K>],
 ) -> bool
     ensures { result ≡ list_all (are_finished_of
-        fabric.now finalised sents.now gateway rows.now number id) faces.now }
+        fabric.now finalised sents.now gateway rows.now number id) rows.now.faces }
 {
-    for face in faces {
+    for face in rows.faces_of(number) {
         if !are_finished_of(fabric, finalised, sents, gateway, rows, number, id, face) {
             return false;
         }
@@ -227,16 +215,7 @@ fn are_finished_at<'a, K: Key>(
         None => true,
         Some(node) => {
             let rows = node.rows();
-            are_finished_in(
-                fabric,
-                finalised,
-                sents,
-                gateway,
-                rows,
-                face,
-                id,
-                rows.faces(),
-            )
+            are_finished_in(fabric, finalised, sents, gateway, rows, face, id)
         }
     }
 }
@@ -448,11 +427,11 @@ fn all_finished_by<'a, K: Key>(
     true
 }
 
-// Whether there is an ask of an id.
-fn has_ask<K: Key>(asks: &[(u32, ShownAsk<K>)], id: u32) -> bool
-    ensures { result ≡ has_id id asks.now }
+// Whether a face has an ask of an id.
+fn has_ask<K: Key>(face: &ShownFace<K>, id: u32) -> bool
+    ensures { result ≡ has_id id face.now.asks }
 {
-    for row in asks {
+    for row in face.asks_of(id) {
         if id == row.0 {
             return true;
         }
@@ -476,7 +455,7 @@ fn is_one_of(numbers: &[u32], number: u32) -> bool
 fn may_be_final<K: Key>(face: &ShownFace<K>, id: u32, number: u32, unopened: &[u32]) -> bool
     ensures { result ≡ of_some_in unopened.now number id face.now }
 {
-    has_ask(face.asks(), id) || (id == 0 && face.initial().is_some() && is_one_of(unopened, number))
+    has_ask(face, id) || (id == 0 && face.initial().is_some() && is_one_of(unopened, number))
 }
 
 // Whether the face of a place may.

@@ -6,5 +6,5 @@ use Rattle.zt_check_finals.proofs.finals.are_finished_in.Given as goal
 -- all so far do
 abbrev pub invariant-loop-face : goal.invariant-loop-face
 invariant-loop-face g l =
-    list_all (are_finished_of l.fabric l.finalised l.sents l.gateway l.rows l.number l.id) (drop l.face-index l.faces)
-    ≡ list_all (are_finished_of l.fabric l.finalised l.sents l.gateway l.rows l.number l.id) l.faces
+    list_all (are_finished_of l.fabric l.finalised l.sents l.gateway l.rows l.number l.id) (drop l.face-index l.face-items)
+    ≡ list_all (are_finished_of l.fabric l.finalised l.sents l.gateway l.rows l.number l.id) l.rows.faces

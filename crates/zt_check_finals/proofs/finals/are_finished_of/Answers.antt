@@ -9,5 +9,4 @@ returns-else-number g c =
     let same : x.number ≡ x.face.now.number = search (rules, c.if-number.false, c.number.ensures) in
     let own : (x.number == x.face.now.number) ≡ true = eq-eqb x.number x.face.now.number same in
     c.are_finished_among.ensures
-    ∙ (ap (list_all (is_finished_at x.fabric.now x.finalised x.sents.now x.gateway x.rows.now x.face.now x.id)) c.asks.ensures
-    ∙ sym (ap (λ b. not b || list_all (is_finished_at x.fabric.now x.finalised x.sents.now x.gateway x.rows.now x.face.now x.id) x.face.now.asks) own))
+    ∙ sym (ap (λ b. not b || list_all (is_finished_at x.fabric.now x.finalised x.sents.now x.gateway x.rows.now x.face.now x.id) x.face.now.asks) own)
