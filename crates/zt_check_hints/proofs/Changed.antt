@@ -1,16 +1,16 @@
 -- What a change at one expression leaves.
-use Rattle.std.proofs.Common.{◌≡◌, Bool, true, false, ◌||◌, cond, if◌then◌else◌, not, ℕ, suc, List, [], ◌∷◌, ◌++◌, filter, length, ◌==◌, Option, Some, None, unwrap_or, refl, subst, sym, ap, ◌∙◌, arith}
+use Rattle.std.proofs.Common.{◌≡◌, Bool, true, false, ◌||◌, cond, if◌then◌else◌, ℕ, zero, suc, ◌<◌, List, [], ◌∷◌, length, get_or, ◌==◌, Option, Some, None, unwrap_or, refl, subst, sym, ap, ◌∙◌, arith}
 use Rattle.std.proofs.lemmas.Bool.{false≢true}
 use Rattle.std.proofs.lemmas.Bool.Decides.{nat_tests}
-use Rattle.std.proofs.lemmas.List.Folds.{list_any-append}
+use Rattle.std.proofs.lemmas.List.Folds.{list_any_at}
 use Rattle.std.specs.BTreeMap.{is_at}
-use Rattle.std.specs.List.{list_any}
+use Rattle.std.specs.List.{insert, list_any, remove}
 use Rattle.std.specs.Map.{lookup}
 use Rattle.std.specs.Ordering.{is_eq}
 use Rattle.std.specs.declared.cmp.Ordering.{Ordering}
 use Rattle.std.specs.declared.cmp.Ordering.TheVariants.{Less, Equal, Greater}
 use Rattle.zt_keys.specs.Test.{by_test}
-use Rattle.zt_check_hints.specs.Hinted.{IsHinted, IsWithout, Keeps, KeepsBut, hints_at, is_hinted}
+use Rattle.zt_check_hints.specs.Hinted.{Has, IsHinted, IsWithout, Keeps, KeepsAll, KeepsAllBut, KeepsBut, hints_at, is_hinted}
 
 equal-from : (r : Ordering) → is_eq r ≡ true → r ≡ Equal
 equal-from Less h = cc
@@ -19,6 +19,15 @@ equal-from Greater h = cc
 
 no-more : (n : ℕ) → (suc n == 0) ≡ true → suc n ≡ 0
 no-more n h = grind (arith, nat_tests)
+
+swapped : (a b c : Bool) → (a || (b || c)) ≡ (b || (a || c))
+swapped true true c = refl
+swapped true false c = refl
+swapped false b c = refl
+
+either : (a b : Bool) → b ≡ true → (a || b) ≡ true
+either true b h = refl
+either false b h = h
 
 pub empty-from : {X : Type 0} (xs : List X) → (length xs == 0) ≡ true → xs ≡ []
 empty-from [] h = refl
@@ -38,21 +47,34 @@ module _ {K : Type 0} {eq : K → K → Bool} (cmp : K → K → Ordering) (ties
 
 -- ---- lists of hints
 module _ {H : Type 0} where
-  pub pushed : (test : H → Bool) (hint : H) (xs : List H) → list_any test xs ≡ true → list_any test (xs ++ hint ∷ []) ≡ true
-  pushed test hint xs h = list_any-append test xs (hint ∷ []) ∙ rw h refl
+  inserted : (test : H → Bool) (x : H) (xs : List H) (i : ℕ) → list_any test (insert xs i x) ≡ (test x || list_any test xs)
+  inserted test x [] zero = refl
+  inserted test x [] (suc i) = refl
+  inserted test x (y ∷ xs) zero = refl
+  inserted test x (y ∷ xs) (suc i) = ap (λ b. test y || b) (inserted test x xs i) ∙ swapped (test y) (test x) (list_any test xs)
 
-  pub last-pushed : (test : H → Bool) (hint : H) (xs : List H) → test hint ≡ true → list_any test (xs ++ hint ∷ []) ≡ true
-  last-pushed test hint [] h = rw h refl
-  last-pushed test hint (x ∷ xs) h = by_test (test x) (λ t. rw t refl) (λ t. rw t (last-pushed test hint xs h))
+  pub kept-inserted : (x : H) (xs : List H) (i : ℕ) → KeepsAll xs (insert xs i x)
+  kept-inserted x xs i = record { at = λ test h. inserted test x xs i ∙ either (test x) (list_any test xs) h }
 
-  pub taken : (gone test : H → Bool) → ((hint : H) → gone hint ≡ true → test hint ≡ false) → (xs : List H) → list_any test xs ≡ true → list_any test (filter (λ hint. not (gone hint)) xs) ≡ true
-  taken gone test others [] h = h
-  taken gone test others (x ∷ xs) h =
-      by_test (gone x)
-      (λ t.
-      let off = others x t in
-      rw t (taken gone test others xs (rw off at h)))
-      (λ t. by_test (test x) (λ u. rw (t, u) refl) (λ u. rw (t, u) (taken gone test others xs (rw u at h))))
+  pub has-inserted : (x : H) (xs : List H) (i : ℕ) → Has x (insert xs i x)
+  has-inserted x xs i = record { at = λ test h. inserted test x xs i ∙ rw h refl }
+
+  pub has-there : (x : H) (xs : List H) (i : ℕ) → i < length xs → x ≡ get_or xs i x → Has x xs
+  has-there x xs i lt same = record { at = λ test h. list_any_at test xs i x lt (ap test (sym same) ∙ h) }
+
+  pub kept-same : (xs : List H) → KeepsAll xs xs
+  kept-same xs = record { at = λ test h. h }
+
+  pub rest-same : (gone : H → Bool) (xs : List H) → KeepsAllBut gone xs xs
+  rest-same gone xs = record { at = λ test others h. h }
+
+  removed : (test : H → Bool) (xs : List H) (i : ℕ) → ((d : H) → test (get_or xs i d) ≡ false) → list_any test xs ≡ true → list_any test (remove xs i) ≡ true
+  removed test [] i off h = absurd (false≢true h)
+  removed test (x ∷ xs) zero off h = rw (off x) at h
+  removed test (x ∷ xs) (suc i) off h = by_test (test x) (λ t. rw t refl) (λ t. rw t (removed test xs i off (rw t at h)))
+
+  pub rest-removed : (gone : H → Bool) (xs : List H) (i : ℕ) → ((d : H) → gone (get_or xs i d) ≡ true) → KeepsAllBut gone xs (remove xs i)
+  rest-removed gone xs i is = record { at = λ test others h. removed test xs i (λ d. others (get_or xs i d) (is d)) h }
 
 module _ {K H : Type 0} (cmp : K → K → Ordering) (one : (a b : K) → cmp a b ≡ Equal → a ≡ b) where
   -- other hints are written at an expression
@@ -79,26 +101,26 @@ module _ {K H : Type 0} (cmp : K → K → Ordering) (one : (a b : K) → cmp a 
   }
 
   pub kept-taken : (gone : H → Bool) (e : K) (w was : List H) (old new : List (K × List H))
-      → hints_at cmp e old ≡ was → w ≡ filter (λ hint. not (gone hint)) was
+      → hints_at cmp e old ≡ was → KeepsAllBut gone was w
       → ((q : K) → lookup (is_at (cmp q)) new ≡ cond (is_at (cmp e) q) (Some w) (lookup (is_at (cmp q)) old))
       → KeepsBut cmp gone old new
   kept-taken gone e w was old new is left updates =
-      kept-by gone e w old new (λ test others h. ap (list_any test) left ∙ taken gone test others was (ap (list_any test) (sym is) ∙ h)) updates
+      kept-by gone e w old new (λ test others h. left.at test others (ap (list_any test) (sym is) ∙ h)) updates
 
-  pub kept-pushed : (hint : H) (e : K) (w was : List H) (old new : List (K × List H))
-      → hints_at cmp e old ≡ was → w ≡ was ++ hint ∷ []
+  pub kept-added : (e : K) (w was : List H) (old new : List (K × List H))
+      → hints_at cmp e old ≡ was → KeepsAll was w
       → ((q : K) → lookup (is_at (cmp q)) new ≡ cond (is_at (cmp e) q) (Some w) (lookup (is_at (cmp q)) old))
       → Keeps cmp old new
-  kept-pushed hint e w was old new is more updates =
-      let keeps = kept-by (λ _. false) e w old new (λ test others h. ap (list_any test) more ∙ pushed test hint was (ap (list_any test) (sym is) ∙ h)) updates in
+  kept-added e w was old new is more updates =
+      let keeps = kept-by (λ _. false) e w old new (λ test others h. more.at test (ap (list_any test) (sym is) ∙ h)) updates in
       record { at = λ test q h. keeps.at test (λ hint f. absurd (false≢true f)) q h }
 
-  pub hinted-pushed : (hint : H) (e : K) (w was : List H) (old new : List (K × List H))
-      → is_at (cmp e) e ≡ true → w ≡ was ++ hint ∷ []
+  pub hinted-added : (hint : H) (e : K) (w : List H) (old new : List (K × List H))
+      → is_at (cmp e) e ≡ true → Has hint w
       → ((q : K) → lookup (is_at (cmp q)) new ≡ cond (is_at (cmp e) q) (Some w) (lookup (is_at (cmp q)) old))
       → IsHinted cmp e hint new
-  hinted-pushed hint e w was old new itself more updates = record {
-    at = λ test h. ap (list_any test) (written-at e w old new updates e ∙ rw itself more) ∙ last-pushed test hint was h;
+  hinted-added hint e w old new itself has updates = record {
+    at = λ test h. ap (list_any test) (written-at e w old new updates e ∙ rw itself refl) ∙ has.at test h;
   }
 
   pub keeps-all : (es : List (K × List H)) → Keeps cmp es es

@@ -6,6 +6,19 @@ use Rattle.std.specs.Map.{lookup}
 use Rattle.std.specs.Option.{unwrap_or}
 use Rattle.std.specs.declared.cmp.Ordering.{Ordering}
 
+module _ {H : Type 0} where
+  -- the hint is there
+  pub record Has (hint : H) (hints : List H) : Type 0 where
+    pub at : (test : H → Bool) → test hint ≡ true → list_any test hints ≡ true
+
+  -- every hint of one expression stays
+  pub record KeepsAll (old new : List H) : Type 0 where
+    pub at : (test : H → Bool) → list_any test old ≡ true → list_any test new ≡ true
+
+  -- every hint of one expression stays but those that are gone
+  pub record KeepsAllBut (gone : H → Bool) (old new : List H) : Type 0 where
+    pub at : (test : H → Bool) → ((hint : H) → gone hint ≡ true → test hint ≡ false) → list_any test old ≡ true → list_any test new ≡ true
+
 module _ {K H : Type 0} (cmp : K → K → Ordering) where
   -- the hints of an expression
   abbrev pub hints_at : K → List (K × List H) → List H

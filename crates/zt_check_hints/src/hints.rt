@@ -20,10 +20,10 @@ fn add_to<K: Key, H: Hint>(
     ensures hinted { OnOk result (IsHinted K.cmp expr.now hint places.new.entries) }
 {
     match places.get_mut(expr) {
-        Some(list) => list.push(hint),
+        Some(list) => list.add(hint),
         None => {
             let mut list = HintList::new(alloc);
-            list.push(hint)?;
+            list.add(hint)?;
             places.insert(expr.copy(alloc)?, list)?;
             Ok(())
         }
@@ -87,7 +87,7 @@ impl<K: Key, H: Hint> Hints<K, H> {
         }
     }
 
-    /// A hint more of an expression. After an error it may be there or not.
+    /// A hint more of an expression, where it isn't there. After an error it may be there or not.
     pub fn add(&mut self, alloc: Global, expr: &K, hint: H) -> Result<(), Memory>
         ensures kept { Keeps K.cmp self.old self.new }
         ensures hinted { OnOk result (IsHinted K.cmp expr.now hint self.new) }
