@@ -20,7 +20,7 @@ use Rattle.zt_check_faces.proofs.Hinting.{and_both, and_left, and_right, any-wea
 use Rattle.zt_check_faces.proofs.Parts.{any-of_part}
 use Rattle.zt_check_faces.proofs.Placed.{next_is}
 use Rattle.zt_check_open_faces.specs.declared.tokens.TokenPlace.{TokenPlace}
-use Rattle.zt_check_open_faces.specs.Open.{IdsRise, KeepsTokens, TokensRise}
+use Rattle.zt_check_open_faces.specs.Open.{IdsRise, TokensRise}
 use Rattle.zt_check_open_faces.specs.Places.{AreDeclared, AreOfFace, is_declared, is_declared_at, is_declared_by}
 
 abbrev place : ℕ → ℕ → TokenPlace
@@ -114,8 +114,8 @@ module _ {K : Type 0} where
   tokens_changed change [] keeps rise = tt
   tokens_changed change (f ∷ fs) keeps rise = (keeps f rise.0, tokens_changed change fs keeps rise.1)
 
-  pub tokens_kept : (change : Face K → Face K) → KeepsTokens change → (f : Face K) → IdsRise 0 f.live → IdsRise 0 (change f).live
-  tokens_kept change keeps f rise = subst (IdsRise 0) (sym (keeps.live f)) rise
+  pub tokens_kept : (change : Face K → Face K) → ((f : Face K) → (change f).live ≡ f.live) → (f : Face K) → IdsRise 0 f.live → IdsRise 0 (change f).live
+  tokens_kept change live f rise = subst (IdsRise 0) (sym (live f)) rise
 
   pub tokens_dropped : (n id : ℕ) (f : Face K) → IdsRise 0 f.live → IdsRise 0 (if_number n (without_token id) f).live
   tokens_dropped n id f rise =
@@ -185,15 +185,15 @@ module _ {K : Type 0} (cmp : K → K → Ordering) where
 
   -- ---- a face changes
 
-  declared_same : (change : Face K → Face K) → KeepsTokens change → (test : TokenPlace → Bool) (e : K) (fs : List (Face K)) → is_declared cmp test e (map change fs) ≡ is_declared cmp test e fs
-  declared_same change keeps test e [] = refl
-  declared_same change keeps test e (f ∷ fs) =
-      ap (λ n. list_any (λ row. test (place n row.0) && same cmp e row.1) (change f).live || is_declared cmp test e (map change fs)) (keeps.number f)
-      ∙ ap (λ rows. list_any (λ row. test (place f.number row.0) && same cmp e row.1) rows || is_declared cmp test e (map change fs)) (keeps.live f)
-      ∙ ap (λ b. is_declared_by cmp test e f || b) (declared_same change keeps test e fs)
+  declared_same : (change : Face K → Face K) → ((f : Face K) → (change f).number ≡ f.number) → ((f : Face K) → (change f).live ≡ f.live) → (test : TokenPlace → Bool) (e : K) (fs : List (Face K)) → is_declared cmp test e (map change fs) ≡ is_declared cmp test e fs
+  declared_same change number live test e [] = refl
+  declared_same change number live test e (f ∷ fs) =
+      ap (λ n. list_any (λ row. test (place n row.0) && same cmp e row.1) (change f).live || is_declared cmp test e (map change fs)) (number f)
+      ∙ ap (λ rows. list_any (λ row. test (place f.number row.0) && same cmp e row.1) rows || is_declared cmp test e (map change fs)) (live f)
+      ∙ ap (λ b. is_declared_by cmp test e f || b) (declared_same change number live test e fs)
 
-  pub declared_changed : (change : Face K → Face K) (hints : List (K × List TokenPlace)) (fs : List (Face K)) → KeepsTokens change → AreDeclared cmp hints fs → AreDeclared cmp hints (map change fs)
-  declared_changed change hints fs keeps are = record { at = λ test e h. are.at test e (sym (declared_same change keeps test e fs) ∙ h) }
+  pub declared_changed : (change : Face K → Face K) (hints : List (K × List TokenPlace)) (fs : List (Face K)) → ((f : Face K) → (change f).number ≡ f.number) → ((f : Face K) → (change f).live ≡ f.live) → AreDeclared cmp hints fs → AreDeclared cmp hints (map change fs)
+  declared_changed change hints fs number live are = record { at = λ test e h. are.at test e (sym (declared_same change number live test e fs) ∙ h) }
 
   -- what another face or another id has still is another
   abbrev but : ℕ → ℕ → (TokenPlace → Bool) → TokenPlace → Bool

@@ -37,7 +37,10 @@ module _ {K : Type 0} where
   pub record IsOfOne (n : ℕ) (change : Face K → Face K) : Type 0 where
     pub others : (f : Face K) → (n == f.number) ≡ false → change f ≡ f
 
-  -- a change keeps numbers and the tokens that are declared
-  pub record KeepsTokens (change : Face K → Face K) : Type 0 where
+  -- a change keeps numbers, regions, the tokens that are declared, what was told and the interests that are held
+  pub record KeepsRows (change : Face K → Face K) : Type 0 where
     pub number : (f : Face K) → (change f).number ≡ f.number
     pub live : (f : Face K) → (change f).live ≡ f.live
+    pub told : (f : Face K) → (change f).told ≡ f.told
+    pub region : (f : Face K) → (change f).region ≡ f.region
+    pub held : (f : Face K) → (change f).held ≡ f.held

@@ -1,5 +1,6 @@
 -- Tokens whose places are hinted by their expressions.
 use Rattle.std.specs.Prelude.{◌≡◌, ℕ, Bool, true, ◌==◌, ◌&&◌, List}
+use Rattle.std.proofs.lemmas.Bool.{and_parts, eqb-true}
 use Rattle.std.specs.List.{list_any}
 use Rattle.std.specs.declared.cmp.Ordering.{Ordering}
 use Rattle.zt_region.specs.declared.region.Region.{Region}
@@ -7,7 +8,14 @@ use Rattle.zt_model.specs.Lists.{same}
 use Rattle.zt_model.specs.Rows.{ById, Face}
 use Rattle.zt_check_hints.specs.Hinted.{is_hinted}
 use Rattle.zt_check_open_faces.specs.declared.tokens.TokenPlace.{TokenPlace}
+use Rattle.zt_check_open_faces.specs.Found.{AreTold}
 use Rattle.zt_check_open_faces.specs.Open.{AreWithin, NumbersRise, TokensRise}
+
+-- the same face and id are one place
+pub one_place : (one other : TokenPlace) → (one.face == other.face && one.id == other.id) ≡ true → one ≡ other
+one_place one other h =
+    let parts = and_parts (one.face == other.face) (one.id == other.id) h in
+    λ i. record { face = eqb-true one.face other.face parts.0 i; id = eqb-true one.id other.id parts.1 i }
 
 module _ {K : Type 0} (cmp : K → K → Ordering) where
   -- a face declares the expression under an id that passes the test
@@ -32,8 +40,9 @@ module _ {K : Type 0} (cmp : K → K → Ordering) where
       list_any (λ f. place.face == f.number && (regions f.region && list_any (λ row. place.id == row.0 && same cmp e row.1) f.live)) fs
 
   -- what is kept beside open faces fits them
-  pub record AreOpen (made : ℕ) (fs : List (Face K)) (hints : List (K × List TokenPlace)) : Type 0 where
+  pub record AreOpen (made : ℕ) (fs : List (Face K)) (hints : List (K × List TokenPlace)) (told_hints : List (K × List ℕ)) : Type 0 where
     pub rise : NumbersRise 0 fs
     pub within : AreWithin made fs
     pub tokens : TokensRise fs
     pub declared : AreDeclared hints fs
+    pub told : AreTold cmp told_hints fs

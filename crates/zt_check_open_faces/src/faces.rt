@@ -4,41 +4,54 @@ ghost use Rattle.std.specs.Prelude.{IfOk, OnOk};
 ghost use Rattle.std.specs.List.{list_any};
 ghost use Rattle.std.specs.Option.{option_copied};
 ghost use Rattle.zt_region.specs.Admission.{admits};
+ghost use Rattle.zt_model.specs.Hearing.{heard};
 ghost use Rattle.zt_model.specs.Lists.{first_where, same};
 ghost use Rattle.zt_model.specs.Seen.{sees};
-ghost use Rattle.zt_model.specs.Shown.{with_token, without_token};
+ghost use Rattle.zt_model.specs.Shown.{with_held, with_question, with_token};
+ghost use Rattle.zt_model.specs.Shown.{without_held, without_token};
 ghost use Rattle.zt_check_faces.specs.Faces.{if_number};
 ghost use Rattle.zt_check_faces.specs.Parts.{HasThoseOf};
 ghost use Rattle.zt_check_hints.specs.Hinted.{IsHinted, Keeps};
-ghost use Rattle.zt_check_open_faces.specs.Open.{IsOfOne, KeepsTokens, NumbersRise};
+ghost use Rattle.zt_check_open_faces.specs.Open.{IsOfOne, KeepsRows, NumbersRise};
 
 use crate::found::{change_in, close_in, find_in, part_of};
+use crate::hearing::{forget_told, hear_in, told_hints};
+use crate::owing::{hold_in, is_north, list_if, owing_of};
 use crate::tokens::{TokenPlace, forget_face, forget_token, hints_of, is_shown_at};
 use std::alloc::Global;
 use std::marker::Model;
-use zt_check_faces::{AddToken, Change, DropToken, ShownFace, change_each};
-use zt_check_hints::Hints;
+use zt_check_faces::{
+    AddToken, Change, DropInterest, DropToken, ShownFace, ShownInterest, change_each,
+};
+use zt_check_hints::{HintList, Hints};
 use zt_keys::{Key, Memory};
+use zt_protocol::Message;
 use zt_region::{Bound, Region, WhatAmI, Zid};
 
 /// The open faces of a gateway in order of number, and how many were made.
 #[derive(Drop)]
 pub struct ShownFaces<K: Key> {
     made: u32,
-    faces: Vec<ShownFace<K>>,
+    pub(crate) faces: Vec<ShownFace<K>>,
     // The place of each token that a face declares is hinted by its expression.
     declared: Hints<K, TokenPlace>,
+    // The number of each face is hinted by the expressions that it was told.
+    pub(crate) told: Hints<K, u32>,
+    // The numbers of those faces that something may be owed to.
+    pub(crate) owing: HintList<u32>,
 }
 
 impl<K: Key> Model for ShownFaces<K> {
     ghost use Rattle.zt_check_open_faces.specs.Open.{Opened};
+    ghost use Rattle.zt_check_open_faces.specs.Found.{AreListed, may_be_owed};
     ghost use Rattle.zt_check_open_faces.specs.Places.{AreOpen};
 
     ghost Value = { Opened K };
 
     ghost view = { λ s. record { made = s.made; open_faces = s.faces.items } };
 
-    ghost invariant = { λ s. AreOpen K.cmp s.made s.faces.items s.declared };
+    ghost invariant = { λ s. AreOpen K.cmp s.made s.faces.items s.declared s.told
+        × AreListed may_be_owed s.owing s.faces.items };
 }
 
 // Equal faces.
@@ -87,6 +100,8 @@ impl<K: Key> ShownFaces<K> {
             made: 0,
             faces: Vec::new(alloc),
             declared: Hints::new(alloc),
+            told: Hints::new(alloc),
+            owing: HintList::new(alloc),
         }
     }
 
@@ -164,6 +179,7 @@ impl<K: Key> ShownFaces<K> {
             return Err(Memory);
         };
         let face = ShownFace::new(alloc, number, region, bound, mode, zid, first, initial);
+        list_if(&mut self.owing, is_north(region), number)?;
         self.faces.push(face)?;
         self.made = number;
         Ok(())
@@ -176,10 +192,13 @@ impl<K: Key> ShownFaces<K> {
         } }
     {
         forget_face(&mut self.declared, part_of(&self.faces, number), number);
+        forget_told(&mut self.told, part_of(&self.faces, number), number);
+        self.owing.drop_alike(&number);
         close_in(&mut self.faces, number);
     }
 
-    /// The face of a number changes, but for its number and its tokens. A binary search.
+    /// The face of a number changes, but for its number, its region, its tokens, what it was told
+    /// and the interests that it holds. A binary search.
     pub fn change<C: Change<ShownFace<K>>>(
         &mut self,
         alloc: Global,
@@ -187,7 +206,7 @@ impl<K: Key> ShownFaces<K> {
         change: &C,
     ) -> Result<(), Memory>
         requires one { IsOfOne number (C.changed change.now) }
-        requires tokens { KeepsTokens (C.changed change.now) }
+        requires rows { KeepsRows (C.changed change.now) }
         ensures { OnOk result (self.new ≡ record self.old {
           open_faces = map (C.changed change.now) self.old.open_faces;
         }) }
@@ -201,13 +220,14 @@ impl<K: Key> ShownFaces<K> {
         }
     }
 
-    /// Each face changes, but for its number and its tokens.
+    /// Each face changes, but for its number, its region, its tokens, what it was told and the
+    /// interests that it holds.
     pub fn change_each<C: Change<ShownFace<K>>>(
         &mut self,
         alloc: Global,
         change: &C,
     ) -> Result<(), Memory>
-        requires { KeepsTokens (C.changed change.now) }
+        requires { KeepsRows (C.changed change.now) }
         ensures { OnOk result (self.new ≡ record self.old {
           open_faces = map (C.changed change.now) self.old.open_faces;
         }) }
@@ -258,16 +278,99 @@ impl<K: Key> ShownFaces<K> {
         }
     }
 
+    /// A message is printed for a face, at a moment. A look-up.
+    pub fn hear(
+        &mut self,
+        alloc: Global,
+        number: u32,
+        moment: u64,
+        message: &Message<K>,
+    ) -> Result<(), Memory>
+        ensures { OnOk result (self.new ≡ record self.old {
+          open_faces = map (if_number number (heard K.cmp moment message.now)) self.old.open_faces;
+        }) }
+    {
+        match hear_in(
+            alloc,
+            &mut self.faces,
+            &mut self.told,
+            number,
+            moment,
+            message,
+        ) {
+            Ok(()) => Ok(()),
+            Err(memory) => {
+                self.faces.clear();
+                Err(memory)
+            }
+        }
+    }
+
+    /// A face asks and holds an interest, which was sent upstream as these. A look-up.
+    pub fn add_interest(
+        &mut self,
+        alloc: Global,
+        number: u32,
+        id: u32,
+        pendings: &[(u32, u32)],
+        interest: &ShownInterest<K>,
+    ) -> Result<(), Memory>
+        ensures { OnOk result (self.new ≡ record self.old {
+          open_faces = map (if_number number (λ f. with_question pendings.now id interest.now
+              (with_held id interest.now f))) self.old.open_faces;
+        }) }
+    {
+        match hold_in(
+            alloc,
+            &mut self.faces,
+            &mut self.owing,
+            number,
+            id,
+            pendings,
+            interest,
+        ) {
+            Ok(()) => Ok(()),
+            Err(memory) => {
+                self.faces.clear();
+                Err(memory)
+            }
+        }
+    }
+
+    /// A face holds the interest of an id no more. A look-up.
+    pub fn drop_interest(&mut self, alloc: Global, number: u32, id: u32) -> Result<(), Memory>
+        ensures { OnOk result (self.new ≡ record self.old {
+          open_faces = map (if_number number (without_held id)) self.old.open_faces;
+        }) }
+    {
+        match change_in(
+            alloc,
+            &mut self.faces,
+            number,
+            &DropInterest { face: number, id },
+        ) {
+            Ok(()) => Ok(()),
+            Err(memory) => {
+                self.faces.clear();
+                Err(memory)
+            }
+        }
+    }
+
     /// Equal faces.
     pub fn copy(&self, alloc: Global) -> Result<Self, Memory>
         ensures { IfOk result (λ copy. copy ≡ self.now) }
     {
         let faces = copy_faces(alloc, &self.faces)?;
         let declared = hints_of(alloc, faces.as_slice())?;
+        let told = told_hints(alloc, faces.as_slice())?;
+        let owing = owing_of(alloc, faces.as_slice())?;
         Ok(ShownFaces {
             made: self.made,
             faces,
             declared,
+            told,
+            owing,
         })
     }
 }

@@ -11,6 +11,7 @@ ghost use Rattle.zt_check_open_faces.specs.Places.{AreDeclared, AreOfFace, is_de
 use crate::admission::is_shown_and_admitted;
 use crate::found::part_of;
 use std::alloc::Global;
+use std::cmp::Ordering;
 use zt_check_faces::ShownFace;
 use zt_check_hints::{Hint, Hints};
 use zt_keys::{Key, Memory};
@@ -25,11 +26,21 @@ pub(crate) struct TokenPlace {
 
 impl Hint for TokenPlace {
     ghost use Rattle.std.specs.Prelude.{◌==◌, ◌&&◌};
+    ghost use Rattle.zt_check_open_faces.specs.Places.{one_place};
 
     ghost alike = { λ one other. one.face == other.face && one.id == other.id };
 
+    ghost alike_is_same = { λ one other same. one_place one other same };
+
     fn is_alike(&self, other: &TokenPlace) -> bool {
         self.face == other.face && self.id == other.id
+    }
+
+    fn compare(&self, other: &TokenPlace) -> Ordering {
+        match self.face.cmp(&other.face) {
+            Ordering::Equal => self.id.cmp(&other.id),
+            unequal => unequal,
+        }
     }
 }
 

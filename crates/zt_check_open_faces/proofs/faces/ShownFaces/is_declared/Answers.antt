@@ -16,4 +16,4 @@ returns g c =
     let hints = c.self.inside.declared in
     let fs = c.self.inside.faces.items in
     let is : c.is_shown_at.result ≡ list_any (is_declared_at cmp regions e fs) (hints_at cmp e hints) = rw (c.deref.ensures.value, c.at.ensures) at c.is_shown_at.ensures in
-    rw (← c.self.view_is) (is ∙ declared_by_hints cmp regions e hints fs c.self.invariant.declared)
+    rw (← c.self.view_is) (is ∙ declared_by_hints cmp regions e hints fs c.self.invariant.0.declared)
