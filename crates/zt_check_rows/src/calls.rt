@@ -16,8 +16,7 @@ use crate::rows::ShownRows;
 use bitflags::Flags;
 use std::alloc::Global;
 use zt_check_faces::{
-    AddInterest, DropInterest, EndInitial, EndPending, ExpirePendings, SetEntities, ShownFace,
-    ShownInterest, ShownPending,
+    EndInitial, EndPending, ExpirePendings, SetEntities, ShownFace, ShownInterest, ShownPending,
 };
 use zt_keys::{Key, Memory};
 use zt_protocol::{Call, InterestMode, InterestOptions, QueryableInfo, copy_expression};
@@ -109,7 +108,7 @@ impl<K: Key> ShownRows<K> {
     pub fn unhold(&mut self, alloc: Global, face: u32, id: u32) -> Result<(), Memory>
         ensures { OnOk result (self.new ≡ with_face face (without_held id) self.old) }
     {
-        self.faces.change(alloc, face, &DropInterest { face, id })
+        self.faces.drop_interest(alloc, face, id)
     }
 
     /// What was asked of a face by an id has its final.
@@ -136,13 +135,7 @@ impl<K: Key> ShownRows<K> {
             ≡ with_interest K.cmp face id pendings.now interest.now self.old) }
     {
         add_interest_number(alloc, &mut self.dictionary, interest)?;
-        let added = AddInterest {
-            face,
-            id,
-            interest,
-            pendings,
-        };
-        self.faces.change(alloc, face, &added)
+        self.faces.add_interest(alloc, face, id, pendings, interest)
     }
 
     /// The subscribers and queryables of a face are these.

@@ -21,5 +21,5 @@ pub use order::{compare_regions, goes_by_trees};
 pub use routed::ShownRouted;
 pub use routers::RoutedRows;
 pub use rows::ShownRows;
-pub use zt_check_open_faces::{admits, is_shown_and_admitted, sees};
+pub use zt_check_open_faces::{FaceTest, TokenTest, admits, is_owed, is_shown_and_admitted, sees};
 pub use zt_check_tables::ShownTable;

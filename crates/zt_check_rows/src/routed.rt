@@ -1,12 +1,9 @@
 // A token of a router region.
 ghost use Rattle.std.specs.Prelude.{◌≡◌};
-ghost use Rattle.zt_model.specs.Trees.{routed_order};
 
-use crate::order::compare_regions;
 use std::alloc::Global;
-use std::cmp::Ordering;
 use std::marker::Model;
-use zt_check_faces::{Copied, Ranked};
+use zt_check_faces::Copied;
 use zt_keys::{Key, Memory};
 use zt_region::{Region, Zid};
 
@@ -63,30 +60,5 @@ impl<K: Key> ShownRouted<K> {
 impl<K: Key> Copied for ShownRouted<K> {
     fn copied(&self, alloc: Global) -> Result<Self, Memory> {
         Ok(ShownRouted::new(self.region, self.source, self.expr.copy(alloc)?))
-    }
-}
-
-/// How two tokens stand to each other: by region, router and expression.
-pub(crate) fn compare_rows<K: Key>(one: &ShownRouted<K>, other: &ShownRouted<K>) -> Ordering
-    ensures { result ≡ routed_order K.cmp one.now other.now }
-{
-    match compare_regions(one.region, other.region) {
-        Ordering::Equal => {}
-        unequal => return unequal,
-    }
-    match one.source.0.cmp(&other.source.0) {
-        Ordering::Equal => {}
-        unequal => return unequal,
-    }
-    one.expr.cmp(&other.expr)
-}
-
-impl<K: Key> Ranked<ShownRouted<K>> for ShownRouted<K> {
-    ghost use Rattle.zt_model.specs.Trees.{routed_order};
-
-    ghost ranked = { λ sought row. routed_order K.cmp sought row };
-
-    fn rank(&self, sought: &ShownRouted<K>) -> Ordering {
-        compare_rows(sought, self)
     }
 }

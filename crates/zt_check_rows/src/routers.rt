@@ -1,21 +1,23 @@
 // The tokens of the router regions of a gateway.
-ghost use Rattle.std.specs.Prelude.{◌≡◌, ◌&&◌, [], filter, not, true, IfOk, OnOk};
+ghost use Rattle.std.specs.Prelude.{◌≡◌, ◌&&◌, [], filter, length, not, IfOk, OnOk};
 ghost use Rattle.std.specs.List.{list_any};
+ghost use Rattle.std.specs.List.Sorted.{IsSearchInRange};
 ghost use Rattle.zt_region.specs.Admission.{admits};
 ghost use Rattle.zt_region.specs.Region.{region_eq, zid_eq};
 ghost use Rattle.zt_model.specs.Lists.{same, with_key};
 ghost use Rattle.zt_model.specs.Seen.{sees};
 ghost use Rattle.zt_model.specs.Trees.{counted_table, is_left_out, is_listed, is_routed_row};
-ghost use Rattle.zt_model.specs.Trees.{routed_order};
+ghost use Rattle.zt_model.specs.Trees.{routed_order, row_at};
+ghost use Rattle.zt_check_faces.specs.Placed.{FindsPlace};
 ghost use Rattle.zt_check_hints.specs.Hinted.{KeepsBut};
-ghost use Rattle.zt_check_rows.specs.Routed.{AreRouted, is_routed_at};
+ghost use Rattle.zt_check_rows.specs.Routed.{AreRouted, Rises, is_routed_at};
 
 use crate::order::compare_regions;
-use crate::routed::{ShownRouted, compare_rows};
+use crate::routed::ShownRouted;
 use std::alloc::Global;
 use std::cmp::Ordering;
 use std::marker::Model;
-use zt_check_faces::{copy_each, place_in};
+use zt_check_faces::copy_each;
 use zt_check_hints::{Hint, Hints};
 use zt_check_open_faces::is_shown_and_admitted;
 use zt_check_tables::ShownTable;
@@ -32,12 +34,22 @@ pub(crate) struct RouterPlace {
 impl Hint for RouterPlace {
     ghost use Rattle.std.specs.Prelude.{◌&&◌};
     ghost use Rattle.zt_region.specs.Region.{region_eq, zid_eq};
+    ghost use Rattle.zt_check_rows.specs.Routed.{one_place};
 
     ghost alike = { λ one other.
         region_eq one.region other.region && zid_eq one.source other.source };
 
+    ghost alike_is_same = { λ one other same. one_place one other same };
+
     fn is_alike(&self, other: &RouterPlace) -> bool {
         self.region == other.region && self.source == other.source
+    }
+
+    fn compare(&self, other: &RouterPlace) -> Ordering {
+        match compare_regions(self.region, other.region) {
+            Ordering::Equal => self.source.0.cmp(&other.source.0),
+            unequal => unequal,
+        }
     }
 }
 
@@ -52,13 +64,13 @@ pub struct RoutedRows<K: Key> {
 impl<K: Key> Model for RoutedRows<K> {
     ghost use Rattle.std.specs.Prelude.{List};
     ghost use Rattle.zt_model.specs.Rows.{RoutedRow};
-    ghost use Rattle.zt_check_rows.specs.Routed.{AreRouted};
+    ghost use Rattle.zt_check_rows.specs.Routed.{IsRoutedKept};
 
     ghost Value = { List (RoutedRow K) };
 
     ghost view = { λ r. r.rows.items };
 
-    ghost invariant = { λ r. AreRouted K.cmp r.places r.rows.items };
+    ghost invariant = { λ r. IsRoutedKept K.cmp r.places r.rows.items };
 }
 
 // The place of a row.
@@ -72,7 +84,10 @@ fn place_of<K: Key>(row: &ShownRouted<K>) -> RouterPlace
 }
 
 // How a row stands to what is sought.
-fn compare_to<K: Key>(row: &ShownRouted<K>, place: &RouterPlace, expr: &K) -> Ordering {
+fn compare_to<K: Key>(row: &ShownRouted<K>, place: &RouterPlace, expr: &K) -> Ordering
+    ensures { result ≡ routed_order K.cmp row.now
+        (row_at K.cmp place.now.region place.now.source expr.now) }
+{
     match compare_regions(row.region(), place.region) {
         Ordering::Equal => {}
         unequal => return unequal,
@@ -84,35 +99,26 @@ fn compare_to<K: Key>(row: &ShownRouted<K>, place: &RouterPlace, expr: &K) -> Or
     row.expr().cmp(expr)
 }
 
-// Whether a row is of the router and the expression.
-fn is_of<K: Key>(row: &ShownRouted<K>, place: &RouterPlace, expr: &K) -> bool
-    ensures { result ≡ (region_eq place.now.region row.now.region
-        && (zid_eq place.now.source row.now.source && same K.cmp expr.now row.now.expr)) }
+// Where the row of a router and an expression stands, or else would stand. By halves.
+fn place_in<K: Key>(rows: &[ShownRouted<K>], place: &RouterPlace, expr: &K) -> Result<usize, usize>
+    requires { Rises (routed_order K.cmp) rows.now }
+    ensures place { FindsPlace (routed_order K.cmp
+        (row_at K.cmp place.now.region place.now.source expr.now)) rows.now result }
+    ensures in_range { IsSearchInRange result (length rows.now) }
 {
-    place.region == row.region() && place.source == row.source() && *expr == *row.expr()
+    rows.binary_search_by(|row| compare_to(row, place, expr))
 }
 
-// Whether such a row is found where it stands if rows are in order; it may be there though it isn't
-// found.
-fn is_found<K: Key>(rows: &[ShownRouted<K>], place: &RouterPlace, expr: &K) -> bool
-    ensures { result ≡ true → list_any (λ row. region_eq place.now.region row.region
-        && (zid_eq place.now.source row.source && same K.cmp expr.now row.expr)) rows.now ≡ true }
-{
-    match rows.binary_search_by(|row| compare_to(row, place, expr)) {
-        Ok(at) => at < rows.len() && is_of(&rows[at], place, expr),
-        Err(_at) => false,
-    }
-}
-
-// Whether such a row is there: first looked for where it stands if rows are in order.
+// Whether such a row is there.
 fn has_row<K: Key>(rows: &[ShownRouted<K>], place: &RouterPlace, expr: &K) -> bool
+    requires { Rises (routed_order K.cmp) rows.now }
     ensures { result ≡ list_any (λ row. region_eq place.now.region row.region
         && (zid_eq place.now.source row.source && same K.cmp expr.now row.expr)) rows.now }
 {
-    if is_found(rows, place, expr) {
-        return true;
+    match place_in(rows, place, expr) {
+        Ok(_at) => true,
+        Err(_at) => false,
     }
-    rows.iter().any(|row| is_of(row, place, expr))
 }
 
 // Whether a row of another router stands at the place, and is shown.
@@ -124,6 +130,7 @@ fn is_shown_at<K: Key>(
     own: Region,
     expr: &K,
 ) -> bool
+    requires { Rises (routed_order K.cmp) rows.now }
     ensures { result ≡ is_routed_at K.cmp
         (λ source. sees own source && admits refused.now source own)
         zid expr.now rows.now place.now }
@@ -142,6 +149,7 @@ fn is_shown_in<K: Key>(
     own: Region,
     expr: &K,
 ) -> bool
+    requires { Rises (routed_order K.cmp) rows.now }
     ensures { result ≡ list_any
         (is_routed_at K.cmp (λ source. sees own source && admits refused.now source own)
         zid expr.now rows.now) places.now }
@@ -154,19 +162,17 @@ fn is_shown_in<K: Key>(
     false
 }
 
-// Whether two tokens are one.
-fn is_same_row<K: Key>(one: &ShownRouted<K>, other: &ShownRouted<K>) -> bool
-    ensures { result ≡ is_routed_row K.cmp one.now other.now }
-{
-    compare_rows(one, other) == Ordering::Equal
-}
-
-// A token goes.
-fn drop_routed<K: Key>(rows: &mut Vec<ShownRouted<K>>, gone: &ShownRouted<K>)
-    ensures { rows.new.items
+// A token goes, where it stands.
+fn drop_routed<K: Key>(rows: &mut Vec<ShownRouted<K>>, gone: &ShownRouted<K>, place: &RouterPlace)
+    requires rise { Rises (routed_order K.cmp) rows.old.items }
+    requires there { place.now ≡ record { region = gone.now.region; source = gone.now.source } }
+    ensures gone { rows.new.items
         ≡ filter (λ row. not (is_routed_row K.cmp gone.now row)) rows.old.items }
+    ensures rise { Rises (routed_order K.cmp) rows.new.items }
 {
-    rows.retain(|row| !is_same_row(gone, row));
+    if let Ok(at) = place_in(rows.as_slice(), place, gone.expr()) {
+        drop(rows.remove(at));
+    }
 }
 
 // Whether a token is of the region, and its router isn't listed.
@@ -251,10 +257,11 @@ impl<K: Key> RoutedRows<K> {
     pub(crate) fn add(&mut self, alloc: Global, row: ShownRouted<K>) -> Result<(), Memory>
         ensures { OnOk result (self.new ≡ with_key (routed_order K.cmp) row self.old) }
     {
-        let Err(at) = place_in(self.rows.as_slice(), &row) else {
+        let place = place_of(&row);
+        let Err(at) = place_in(self.rows.as_slice(), &place, row.expr()) else {
             return Ok(());
         };
-        self.places.add(alloc, row.expr(), place_of(&row))?;
+        self.places.add(alloc, row.expr(), place)?;
         self.rows.insert(at, row)?;
         Ok(())
     }
@@ -263,8 +270,9 @@ impl<K: Key> RoutedRows<K> {
     pub(crate) fn drop_row(&mut self, gone: &ShownRouted<K>)
         ensures { self.new ≡ filter (λ row. not (is_routed_row K.cmp gone.now row)) self.old }
     {
-        self.places.drop_alike(gone.expr(), &place_of(gone));
-        drop_routed(&mut self.rows, gone);
+        let place = place_of(gone);
+        self.places.drop_alike(gone.expr(), &place);
+        drop_routed(&mut self.rows, gone, &place);
     }
 
     /// The tokens of a region go whose routers a table doesn't list.

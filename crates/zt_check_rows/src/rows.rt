@@ -1,10 +1,12 @@
 // The rows of one gateway.
-ghost use Rattle.std.specs.Prelude.{◌≡◌, IfOk, OnOk};
+ghost use Rattle.std.specs.Prelude.{◌≡◌, ◌&&◌, IfOk, OnOk};
+ghost use Rattle.std.specs.List.{list_any};
 ghost use Rattle.std.specs.Option.{option_copied};
 ghost use Rattle.zt_model.specs.Fabric.{new_rows};
 ghost use Rattle.zt_model.specs.Hearing.{heard};
+ghost use Rattle.zt_model.specs.Lists.{same};
 ghost use Rattle.zt_model.specs.Parts.{find_face, is_routed, with_face};
-ghost use Rattle.zt_model.specs.Seen.{is_seen, is_seen_and_admitted};
+ghost use Rattle.zt_model.specs.Seen.{is_owed, is_seen, is_seen_and_admitted};
 ghost use Rattle.zt_check_faces.specs.Parts.{HasThoseOf};
 
 use crate::order::goes_by_trees;
@@ -13,8 +15,8 @@ use crate::routers::RoutedRows;
 use crate::tables::copy_tables;
 use std::alloc::Global;
 use std::marker::Model;
-use zt_check_faces::{Hear, ShownFace, copy_keys};
-use zt_check_open_faces::ShownFaces;
+use zt_check_faces::{ShownFace, copy_keys};
+use zt_check_open_faces::{FaceTest, ShownFaces, TokenTest};
 use zt_check_tables::ShownTable;
 use zt_keys::{Key, Memory};
 use zt_protocol::Message;
@@ -185,13 +187,7 @@ impl<K: Key> ShownRows<K> {
         ensures { OnOk result (self.new
             ≡ with_face face (heard K.cmp self.old.moment message.now) self.old) }
     {
-        let moment = self.moment;
-        let heard = Hear {
-            face,
-            moment,
-            message,
-        };
-        self.faces.change(alloc, face, &heard)
+        self.faces.hear(alloc, face, self.moment, message)
     }
 
     /// Whether faces of a region see the expression. A look-up.
@@ -210,6 +206,34 @@ impl<K: Key> ShownRows<K> {
     {
         self.faces.is_declared(&self.refused, own, expr)
             || self.routed.is_shown(&self.refused, self.zid, own, expr)
+    }
+
+    /// Whether a face passes that was told the expression. Only such faces are tried.
+    pub fn any_told<T: FaceTest<K>>(&self, expr: &K, test: &T) -> bool
+        ensures { result ≡ list_any
+            (λ f. list_any (λ row. same K.cmp expr.now row.1) f.told && T.passes test.now f)
+            self.now.faces }
+    {
+        self.faces.any_told(expr, test)
+    }
+
+    /// Whether a face passes that the expression is owed to. Only faces are tried that are to the
+    /// north, or hold an interest in what is there now too.
+    pub fn any_owed<T: FaceTest<K>>(&self, expr: &K, test: &T) -> bool
+        ensures { result ≡ list_any
+            (λ f. is_owed K.matching f expr.now && T.passes test.now f) self.now.faces }
+    {
+        self.faces.any_owed(expr, test)
+    }
+
+    /// Whether a token of a face passes whose expression matches the key. Only tokens near the key
+    /// are tried.
+    pub fn any_near<T: TokenTest<K>>(&self, key: &K, test: &T) -> bool
+        ensures { result ≡ list_any (λ f. list_any
+            (λ row. K.matching key.now row.1 && T.passes test.now f row.1) f.live)
+            self.now.faces }
+    {
+        self.faces.any_near(key, test)
     }
 
     /// Rows equal to these.

@@ -16,4 +16,4 @@ returns g c =
     let hints = c.self.inside.places in
     let rows = c.self.inside.rows.items in
     let is : c.is_shown_in.result ≡ list_any (is_routed_at cmp regions c.args.zid e rows) (hints_at cmp e hints) = rw (c.deref.ensures.value, c.at.ensures) at c.is_shown_in.ensures in
-    rw (← c.self.view_is) (is ∙ routed_by_hints cmp regions c.args.zid e hints rows c.self.invariant)
+    rw (← c.self.view_is) (is ∙ routed_by_hints cmp regions c.args.zid e hints rows c.self.invariant.hinted)
