@@ -20,13 +20,13 @@ use Rattle.zt_model.specs.Parts.{find_face, is_routed, with_face}
 use Rattle.zt_model.specs.Rows.{Face, InterestRow, RoutedRow, Rows}
 use Rattle.zt_model.specs.Seen.{concerns, is_owed, may_hear}
 use Rattle.zt_model.specs.Shown.{by_face, counts_as_declared, interest_kept, router_meant, rows_shown, with_declared, with_held, with_initial_final, with_interest, with_question, with_source, with_token, without_declared, without_expired, without_held, without_pending, without_source, without_token}
-use Rattle.zt_model.specs.Trees.{counted_table, is_left_out, is_listed, is_routed_row, region_order, routed_order, row_at, with_routed, with_table, without_left_out, without_routed}
-use Rattle.zt_check_keeping.specs.Changed.{declared, is_holding, is_sought, named, routed_in}
+use Rattle.zt_model.specs.Trees.{counted_table, is_left_out, is_routed_row, region_order, routed_order, row_at, with_routed, with_table, without_left_out, without_routed}
+use Rattle.zt_check_keeping.specs.Changed.{declared, is_holding, is_sought, named, unlisted}
 use Rattle.zt_check_keeping.specs.Owing.{is_concerned}
 use Rattle.zt_check_keeping.proofs.Going.{Goes, IsNew, Stays, appended, changed, filtered, goes_then, goes_weaker, mapped, rerouted, stays_all, stays_same}
 use Rattle.zt_check_keeping.proofs.Members.{Among, append_left, append_right, filter_in, in_filter, in_key, in_put, key_keeps, member_any, put_keeps}
 use Rattle.zt_check_keeping.proofs.Standing.{Has, Holds, IsRoutedIn, hears_from, hears_to, owed_from, owed_to}
-use Rattle.zt_check_keeping.proofs.Touched.{Covers, declared_in, holding, in_put_if, put_if_keeps, routed_there}
+use Rattle.zt_check_keeping.proofs.Touched.{Covers, declared_in, holding, in_put_if, put_if_keeps, unlisted_there}
 
 -- a face keeps all that matters
 pub record IsSame {K : Type 0} (o f : Face K) : Type 0 where
@@ -114,8 +114,8 @@ module _ {K : Type 0} (cmp : K → K → Ordering) (matching : K → K → Bool)
               id,
               (
                 subst (λ k. D k id) own (held new.0),
-                member_any (λ (row : ℕ × InterestRow K). (row.0 == id) && concerns matching row.1 e) holds.row (with_held id interest o).held holds.there
-                    (and_from (holds.row.0 == id) (concerns matching holds.row.1 e) (eq-eqb holds.row.0 id (ap (λ (r : ℕ × InterestRow K). r.0) new.1)) (and_parts (concerns matching holds.row.1 e) (is_current holds.row.1.mode) holds.passes).0),
+                member_any (λ (row : ℕ × InterestRow K). (row.0 == id) && (concerns matching row.1 e && is_current row.1.mode)) holds.row (with_held id interest o).held holds.there
+                    (and_from (holds.row.0 == id) (concerns matching holds.row.1 e && is_current holds.row.1.mode) (eq-eqb holds.row.0 id (ap (λ (r : ℕ × InterestRow K). r.0) new.1)) holds.passes),
               ),
             ))
             (λ old. inl (owed_to matching o e (inr (record { row = holds.row; there = old; passes = holds.passes }))))
@@ -223,13 +223,13 @@ module _ {K : Type 0} (cmp : K → K → Ordering) (matching : K → K → Bool)
     abbrev with_trees : Region → Trees → Rows K → Rows K
     with_trees region table g = with_table cmp region table (without_left_out cmp region (counted_table table) g)
 
-    left_out_next : (region : Region) (table : Trees) (g : Rows K) → ((k : K) → Among (gateway, k) (routed_in gateway region g.routed) → T k) → Next g (with_trees region table g)
+    left_out_next : (region : Region) (table : Trees) (g : Rows K) → ((k : K) → Among (gateway, k) (unlisted gateway region (counted_table table) g.routed) → T k) → Next g (with_trees region table g)
     left_out_next region table g touched = rerouted T O (GoesOn U D) g (with_trees region table g) refl refl refl refl forth back same_next
       where
         forth : (regions : Region → Bool) (k : K) → IsRoutedIn regions g k → IsRoutedIn regions (with_trees region table g) k ⊎ T k
         forth regions k r =
             by_test (is_left_out cmp region (counted_table table) r.row)
-            (λ gone. inr (subst T (sym r.expr) (touched r.row.expr (routed_there gateway region r.row g.routed r.there (and_parts (region_eq region r.row.region) (not (is_listed r.row.source (counted_table table))) gone).0))))
+            (λ gone. inr (subst T (sym r.expr) (touched r.row.expr (unlisted_there gateway region (counted_table table) r.row g.routed r.there gone))))
             (λ kept. inl (record {
               row = r.row;
               there = filter_in (λ row. not (is_left_out cmp region (counted_table table) row)) r.row g.routed r.there (ap not kept);

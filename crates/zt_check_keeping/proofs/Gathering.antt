@@ -2,14 +2,14 @@
 use Rattle.std.proofs.Common.{◌≡◌, ℕ, ◌==◌, if◌then◌else◌, List, [], ◌∷◌, ◌++◌, Option, refl, sym, ap, ◌∙◌}
 use Rattle.zt_keys.specs.Test.{by_test}
 use Rattle.zt_region.specs.declared.region.Region.{Region}
-use Rattle.zt_region.specs.Region.{region_eq}
+use Rattle.zt_protocol.specs.Plain.{Trees}
 use Rattle.zt_protocol.specs.declared.entries.Sent.{Sent}
 use Rattle.zt_protocol.specs.declared.messages.Message.{Message}
 use Rattle.zt_model.specs.Fabric.{Fabric}
 use Rattle.zt_model.specs.Lists.{nth}
 use Rattle.zt_model.specs.Rows.{ById, Face, RoutedRow}
 use Rattle.zt_check_fabric.proofs.Gathered.{append_none}
-use Rattle.zt_check_keeping.specs.Changed.{declared, expressions, is_sought, routed_in}
+use Rattle.zt_check_keeping.specs.Changed.{declared, expressions, is_sought, is_unlisted, unlisted}
 use Rattle.zt_check_keeping.specs.Heard.{heard_among, heard_by, heard_of, heard_there, told_under}
 
 module _ {K : Type 0} where
@@ -22,8 +22,8 @@ module _ {K : Type 0} where
       (λ here. rw here (ap (λ (xs : List (ℕ × K)). xs ++ declared gateway n sought fs) (sym (append_none (expressions gateway sought f.live)))))
       (λ here. rw here refl)
 
-  pub routed_first : (gateway : ℕ) (region : Region) (row : RoutedRow K) (rows : List (RoutedRow K)) → routed_in gateway region (row ∷ rows) ≡ routed_in gateway region (row ∷ []) ++ routed_in gateway region rows
-  routed_first gateway region row rows = by_test (region_eq region row.region) (λ here. rw here refl) (λ here. rw here refl)
+  pub unlisted_first : (gateway : ℕ) (region : Region) (table : Trees) (row : RoutedRow K) (rows : List (RoutedRow K)) → unlisted gateway region table (row ∷ rows) ≡ unlisted gateway region table (row ∷ []) ++ unlisted gateway region table rows
+  unlisted_first gateway region table row rows = by_test (is_unlisted region table row) (λ here. rw here refl) (λ here. rw here refl)
 
   pub told_first : (gateway n id : ℕ) (row : ℕ × K) (rows : ById K) → told_under gateway n id (row ∷ rows) ≡ told_under gateway n id (row ∷ []) ++ told_under gateway n id rows
   told_first gateway n id row rows = by_test (id == row.0) (λ here. rw here refl) (λ here. rw here refl)

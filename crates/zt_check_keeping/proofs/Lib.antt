@@ -13,5 +13,6 @@ pub mod Owed
 pub mod Sought
 pub mod Standing
 pub mod Touched
+pub mod Tried
 pub mod Turns
 pub mod Beside

@@ -5,6 +5,7 @@ use Rattle.std.specs.List.{list_all, list_any}
 use Rattle.std.specs.declared.cmp.Ordering.{Ordering}
 use Rattle.zt_keys.specs.Test.{by_test}
 use Rattle.zt_protocol.specs.declared.messages.Message.{Message}
+use Rattle.zt_protocol.specs.Interest.{is_current}
 use Rattle.zt_model.specs.Lists.{has_id}
 use Rattle.zt_model.specs.Parts.{is_routed}
 use Rattle.zt_model.specs.Rows.{ById, Face, InterestRow, Rows}
@@ -58,7 +59,7 @@ module _ {K : Type 0} where
   pub concerned_of_part : (cmp : K → K → Ordering) (matching : K → K → Bool) (id : ℕ) (e : K) (part held : ById (InterestRow K)) → HasThoseOf (λ (row : ℕ × InterestRow K). row.0) id part held
       → is_concerned cmp matching part id e ≡ is_concerned cmp matching held id e
   concerned_of_part cmp matching id e part held =
-      any-of_part (λ (row : ℕ × InterestRow K). row.0) id (λ row. (row.0 == id) && concerns matching row.1 e) part held (λ row other. rw (ne_eqb row.0 id (λ same. eqb-false id row.0 other (sym same))) refl)
+      any-of_part (λ (row : ℕ × InterestRow K). row.0) id (λ row. (row.0 == id) && (concerns matching row.1 e && is_current row.1.mode)) part held (λ row other. rw (ne_eqb row.0 id (λ same. eqb-false id row.0 other (sym same))) refl)
 
   -- a test of each face of a number
   pub tested_of_part : (n : ℕ) (test : Rows K → Face K → Bool) (g : Rows K) (part : List (Face K)) → HasThoseOf (λ (f : Face K). f.number) n part g.faces

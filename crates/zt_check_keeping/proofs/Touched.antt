@@ -4,12 +4,11 @@ use Rattle.std.proofs.lemmas.Bool.{and_from}
 use Rattle.std.specs.declared.cmp.Ordering.{Ordering}
 use Rattle.zt_keys.specs.Test.{by_test}
 use Rattle.zt_region.specs.declared.region.Region.{Region}
-use Rattle.zt_region.specs.Region.{region_eq}
-use Rattle.zt_protocol.specs.Plain.{PlainCall}
+use Rattle.zt_protocol.specs.Plain.{PlainCall, Trees}
 use Rattle.zt_model.specs.Hearing.{put_if}
 use Rattle.zt_model.specs.Lists.{has_id}
 use Rattle.zt_model.specs.Rows.{ById, Face, InterestRow, RoutedRow, Rows}
-use Rattle.zt_check_keeping.specs.Changed.{declared, expressions, held_of, is_holding, is_sought, opened_of, routed_in, tokens_of, unheld_of}
+use Rattle.zt_check_keeping.specs.Changed.{declared, expressions, held_of, is_holding, is_sought, is_unlisted, opened_of, tokens_of, unheld_of, unlisted}
 use Rattle.zt_check_keeping.proofs.Members.{Among, append_left, append_right, in_put, member_any, put_keeps}
 
 module _ {K : Type 0} (gateway : ℕ) where
@@ -33,15 +32,15 @@ module _ {K : Type 0} (gateway : ℕ) where
       (λ here. rw here (append_right (gateway, e) (expressions gateway sought f.live) (declared gateway n sought fs) (declared_in n sought i e o fs at own row is)))
       (λ here. rw here (declared_in n sought i e o fs at own row is))
 
-  pub routed_there : (region : Region) (row : RoutedRow K) (rows : List (RoutedRow K)) → Among row rows → region_eq region row.region ≡ true → Among (gateway, row.expr) (routed_in gateway region rows)
-  routed_there region row [] at is = absurd at
-  routed_there region row (first ∷ rows) (inl same) is =
-      let here : region_eq region first.region ≡ true = ap (λ (r : RoutedRow K). region_eq region r.region) (sym same) ∙ is in
+  pub unlisted_there : (region : Region) (table : Trees) (row : RoutedRow K) (rows : List (RoutedRow K)) → Among row rows → is_unlisted region table row ≡ true → Among (gateway, row.expr) (unlisted gateway region table rows)
+  unlisted_there region table row [] at is = absurd at
+  unlisted_there region table row (first ∷ rows) (inl same) is =
+      let here : is_unlisted region table first ≡ true = ap (λ (r : RoutedRow K). is_unlisted region table r) (sym same) ∙ is in
       rw here (inl (ap (λ (r : RoutedRow K). (gateway, r.expr)) same))
-  routed_there region row (first ∷ rows) (inr at) is =
-      by_test (region_eq region first.region)
-      (λ here. rw here (inr (routed_there region row rows at is)))
-      (λ here. rw here (routed_there region row rows at is))
+  unlisted_there region table row (first ∷ rows) (inr at) is =
+      by_test (is_unlisted region table first)
+      (λ here. rw here (inr (unlisted_there region table row rows at is)))
+      (λ here. rw here (unlisted_there region table row rows at is))
 
   pub holding : (n id : ℕ) (row : ℕ × InterestRow K) (o : Face K) (fs : List (Face K)) → Among o fs → n ≡ o.number → Among row o.held → id ≡ row.0 → is_holding n id fs ≡ true
   holding n id row o fs at own there is =

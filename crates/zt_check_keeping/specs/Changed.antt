@@ -1,14 +1,15 @@
 -- What a line may change of who sees and seeks which tokens, each under the number of its gateway. It is read off the fabric
 -- before the line.
-use Rattle.std.specs.Prelude.{ℕ, Bool, true, ◌+◌, ◌==◌, ◌&&◌, if◌then◌else◌, List, [], ◌∷◌, ◌++◌, Option, Some, None}
+use Rattle.std.specs.Prelude.{ℕ, Bool, true, ◌+◌, ◌==◌, ◌&&◌, not, if◌then◌else◌, List, [], ◌∷◌, ◌++◌, Option, Some, None}
 use Rattle.std.specs.List.{list_any}
 use Rattle.zt_region.specs.declared.region.Region.{Region}
 use Rattle.zt_region.specs.Region.{region_eq}
 use Rattle.zt_protocol.specs.Interest.{is_future}
-use Rattle.zt_protocol.specs.Plain.{PlainCall, PlainLine, NewSession, NewTransport, DeclareToken, UndeclareToken, Interest, InterestFinal, CloseFace, SetTrees, Link as LinkLine, Unlink}
+use Rattle.zt_protocol.specs.Plain.{PlainCall, PlainLine, Trees, NewSession, NewTransport, DeclareToken, UndeclareToken, Interest, InterestFinal, CloseFace, SetTrees, Link as LinkLine, Unlink}
 use Rattle.zt_model.specs.Fabric.{CallAt, Fabric, Link, Node, closing_call}
 use Rattle.zt_model.specs.Lists.{has_id, nth}
 use Rattle.zt_model.specs.Rows.{ById, Face, RoutedRow, Rows}
+use Rattle.zt_model.specs.Trees.{counted_table, is_listed}
 
 -- an id is the one that is sought, where one is
 abbrev pub is_sought : Option ℕ → ℕ → Bool
@@ -25,22 +26,26 @@ abbrev pub declared : {K : Type 0} → ℕ → ℕ → Option ℕ → List (Face
 declared gateway n sought [] = []
 declared gateway n sought (f ∷ fs) = if n == f.number then expressions gateway sought f.live ++ declared gateway n sought fs else declared gateway n sought fs
 
--- those of the rows of a router region
-abbrev pub routed_in : {K : Type 0} → ℕ → Region → List (RoutedRow K) → List (ℕ × K)
-routed_in gateway region [] = []
-routed_in gateway region (row ∷ rows) = if region_eq region row.region then (gateway, row.expr) ∷ routed_in gateway region rows else routed_in gateway region rows
+-- a row is of a router that a new table of its region lists no more
+abbrev pub is_unlisted : {K : Type 0} → Region → Trees → RoutedRow K → Bool
+is_unlisted region table row = region_eq region row.region && not (is_listed row.source table)
+
+-- the expressions of such rows
+abbrev pub unlisted : {K : Type 0} → ℕ → Region → Trees → List (RoutedRow K) → List (ℕ × K)
+unlisted gateway region table [] = []
+unlisted gateway region table (row ∷ rows) = if is_unlisted region table row then (gateway, row.expr) ∷ unlisted gateway region table rows else unlisted gateway region table rows
 
 abbrev pub named : {K : Type 0} → ℕ → Option K → List (ℕ × K)
 named gateway None = []
 named gateway (Some e) = (gateway, e) ∷ []
 
 -- The expressions whose tokens a call may add or take away: that which it names, those that stood under its id, all of a
--- face that closes, and all of a region whose routers change.
+-- face that closes, and those of routers that a table lists no more.
 abbrev pub tokens_of : {K : Type 0} → ℕ → Rows K → PlainCall K → List (ℕ × K)
 tokens_of gateway g (DeclareToken n id e node interest) = (gateway, e) ∷ declared gateway n (Some id) g.faces
 tokens_of gateway g (UndeclareToken n id e node) = named gateway e ++ declared gateway n (Some id) g.faces
 tokens_of gateway g (CloseFace n) = declared gateway n None g.faces
-tokens_of gateway g (SetTrees region table) = routed_in gateway region g.routed
+tokens_of gateway g (SetTrees region table) = unlisted gateway region (counted_table table) g.routed
 tokens_of gateway g _ = []
 
 -- the face that a call opens

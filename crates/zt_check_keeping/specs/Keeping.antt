@@ -1,8 +1,9 @@
 -- What is looked at after a turn: pairs of a face and an expression, by the number of the gateway.
-use Rattle.std.specs.Prelude.{ℕ, Bool, true, ◌==◌, ◌&&◌, ◌||◌, not, List, None, Some}
+use Rattle.std.specs.Prelude.{ℕ, Bool, true, ◌==◌, ◌&&◌, ◌||◌, not, if◌then◌else◌, List, None, Some}
 use Rattle.std.specs.List.{list_all}
 use Rattle.std.specs.declared.cmp.Ordering.{Ordering}
 use Rattle.zt_region.specs.declared.region.Region.{Region}
+use Rattle.zt_region.specs.Region.{region_eq}
 use Rattle.zt_model.specs.Fabric.{Fabric}
 use Rattle.zt_model.specs.Lists.{nth}
 use Rattle.zt_model.specs.Parts.{is_routed}
@@ -39,16 +40,24 @@ module _ {K : Type 0} (cmp : K → K → Ordering) (matching : K → K → Bool)
   keeps_bound Upper g f e = keeps_no_more_of g f e
   keeps_bound Lower g f e = keeps_no_less_of g f e
 
-  -- the face keeps what the bound asks for whether the expression is shown to it or not
-  abbrev pub keeps_anyway : Bound → Face K → K → Bool
-  keeps_anyway Upper f e = not (keeps cmp f e)
-  keeps_anyway Lower f e = not (is_owed matching f e) || keeps cmp f e
-
   -- outside router regions
   abbrev pub keeps_rightly : Bound → Rows K → Face K → K → Bool
   keeps_rightly bound g f e = is_routed g f || keeps_bound bound g f e
 
-  -- all faces of a gateway do
+  -- the expression is shown to faces of a region, where that is known of faces of another
+  abbrev pub is_shown_beside : Bound → Region → Bool → Rows K → Region → K → Bool
+  is_shown_beside bound other shown g own e = if region_eq other own then shown else is_shown bound g own e
+
+  -- a face that keeps the expression, or that it is owed to, breaks the bound
+  abbrev pub breaks_where : Bound → Bool → Face K → K → Bool
+  breaks_where Upper shown f e = not shown || not (may_hear matching f e)
+  breaks_where Lower shown f e = shown && not (keeps cmp f e)
+
+  -- and is outside router regions
+  abbrev pub breaks : Bound → Region → Bool → Rows K → K → Face K → Bool
+  breaks bound other shown g e f = not (is_routed g f) && breaks_where bound (is_shown_beside bound other shown g f.region e) f e
+
+  -- all faces of a gateway keep of the expression what they should
   abbrev pub faces_keep_rightly : Bound → Rows K → K → Bool
   faces_keep_rightly bound g e = list_all (λ f. keeps_rightly bound g f e) g.faces
 

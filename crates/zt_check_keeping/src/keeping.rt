@@ -1,23 +1,24 @@
 // What faces keep after a turn.
-ghost use Rattle.std.specs.Prelude.{◌≡◌, ◌==◌, ◌&&◌, ◌||◌, false, not, true, None, Some};
+ghost use Rattle.std.specs.Prelude.{◌≡◌, ◌==◌, ◌&&◌, ◌||◌, not, true, None, Some};
 ghost use Rattle.std.specs.List.{list_all};
 ghost use Rattle.zt_model.specs.Parts.{is_routed};
 ghost use Rattle.zt_model.specs.Rows.{Face};
-ghost use Rattle.zt_model.specs.Seen.{is_seen, is_seen_and_admitted, may_hear};
+ghost use Rattle.zt_model.specs.Seen.{may_hear};
 ghost use Rattle.zt_check_keeping.specs.Keeping.{are_no_less, are_no_more, at_face, at_gateway};
 ghost use Rattle.zt_check_keeping.specs.Keeping.{changed_are_kept, faces_keep_rightly};
 ghost use Rattle.zt_check_keeping.specs.Keeping.{heard_are_kept, heard_is_kept, holder_keeps};
-ghost use Rattle.zt_check_keeping.specs.Keeping.{keeps_anyway, keeps_bound, keeps_no_less_of};
-ghost use Rattle.zt_check_keeping.specs.Keeping.{is_shown, keeps_no_more_of, keeps_rightly};
+ghost use Rattle.zt_check_keeping.specs.Keeping.{keeps_bound, keeps_no_less_of};
+ghost use Rattle.zt_check_keeping.specs.Keeping.{keeps_no_more_of, keeps_rightly};
 ghost use Rattle.zt_check_keeping.specs.Keeping.{may_hear_all};
 ghost use Rattle.zt_check_keeping.specs.Keeping.{opened_keeps_all, unheld_may_hear};
 ghost use Rattle.zt_check_keeping.specs.Owing.{keeps_all};
 
+use crate::breaking::{Breaks, first_region};
 use crate::changed::Changed;
 use crate::heard::Heard;
 use crate::owing::keeps_all;
 use crate::seen::{is_owed, is_seen, may_hear};
-use crate::showing::{is_among_changed, is_shown, shown_to, shown_to_face};
+use crate::showing::is_among_changed;
 use zt_check_fabric::ShownFabric;
 use zt_check_faces::ShownFace;
 use zt_check_rows::ShownRows;
@@ -32,101 +33,33 @@ pub(crate) enum Bound {
 }
 
 // The face keeps the expression only if it is visible to it and it may hear of it.
-fn keeps_no_more_of<K: Key>(rows: &ShownRows<K>, face: &ShownFace<K>, shown: bool, expr: &K) -> bool
-    requires { shown ≡ is_seen K.cmp rows.now face.now.region expr.now }
+fn keeps_no_more_of<K: Key>(rows: &ShownRows<K>, face: &ShownFace<K>, expr: &K) -> bool
     ensures { result ≡ keeps_no_more_of K.cmp K.matching rows.now face.now expr.now }
 {
     if !face.has_told(expr) {
         return true;
     }
-    shown && may_hear(face, expr)
+    may_hear(face, expr) && is_seen(rows, face.region(), expr)
 }
 
 // The face keeps the expression if it is admitted and owed to it.
-fn keeps_no_less_of<K: Key>(rows: &ShownRows<K>, face: &ShownFace<K>, shown: bool, expr: &K) -> bool
-    requires { shown ≡ is_seen_and_admitted K.cmp rows.now face.now.region expr.now }
+fn keeps_no_less_of<K: Key>(rows: &ShownRows<K>, face: &ShownFace<K>, expr: &K) -> bool
     ensures { result ≡ keeps_no_less_of K.cmp K.matching rows.now face.now expr.now }
 {
-    if !shown {
+    if face.has_told(expr) {
         return true;
     }
-    !is_owed(face, expr) || face.has_told(expr)
-}
-
-// The face keeps of the expression what this bound asks for, where it is known whether the
-// expression is shown to it.
-fn keeps_shown<K: Key>(
-    bound: Bound,
-    rows: &ShownRows<K>,
-    face: &ShownFace<K>,
-    shown: bool,
-    expr: &K,
-) -> bool
-    requires { shown ≡ is_shown K.cmp K.matching bound rows.now face.now.region expr.now }
-    ensures { result ≡ keeps_bound K.cmp K.matching bound rows.now face.now expr.now }
-{
-    match bound {
-        Bound::Upper => keeps_no_more_of(rows, face, shown, expr),
-        Bound::Lower => keeps_no_less_of(rows, face, shown, expr),
-    }
+    !is_owed(face, expr) || !rows.is_seen_and_admitted(face.region(), expr)
 }
 
 // The face keeps of the expression what this bound asks for.
 fn keeps_bound<K: Key>(bound: Bound, rows: &ShownRows<K>, face: &ShownFace<K>, expr: &K) -> bool
     ensures { result ≡ keeps_bound K.cmp K.matching bound rows.now face.now expr.now }
 {
-    let shown = is_shown(bound, rows, face.region(), expr);
-    keeps_shown(bound, rows, face, shown, expr)
-}
-
-// The face keeps of the expression what this bound asks for, whether the expression is shown to it
-// or not: it doesn't keep it, or it isn't owed to it or kept.
-fn keeps_anyway<K: Key>(bound: Bound, face: &ShownFace<K>, expr: &K) -> bool
-    ensures { result ≡ keeps_anyway K.cmp K.matching bound face.now expr.now }
-{
     match bound {
-        Bound::Upper => !face.has_told(expr),
-        Bound::Lower => !is_owed(face, expr) || face.has_told(expr),
+        Bound::Upper => keeps_no_more_of(rows, face, expr),
+        Bound::Lower => keeps_no_less_of(rows, face, expr),
     }
-}
-
-// The face keeps of the expression what this bound asks for, where that depends on whether the
-// expression is shown to it.
-fn keeps_where_shown<K: Key>(
-    bound: Bound,
-    rows: &ShownRows<K>,
-    face: &ShownFace<K>,
-    shown: bool,
-    expr: &K,
-) -> bool
-    requires depends { keeps_anyway K.cmp K.matching bound face.now expr.now ≡ false }
-    requires shown { shown ≡ is_shown K.cmp K.matching bound rows.now face.now.region expr.now }
-    ensures { result ≡ keeps_bound K.cmp K.matching bound rows.now face.now expr.now }
-{
-    match bound {
-        Bound::Upper => shown && may_hear(face, expr),
-        Bound::Lower => !shown,
-    }
-}
-
-// The face keeps of the expression what it should, if it is outside router regions, where that
-// depends on whether the expression is shown to it.
-fn keeps_rightly<K: Key>(
-    bound: Bound,
-    rows: &ShownRows<K>,
-    face: &ShownFace<K>,
-    shown: bool,
-    expr: &K,
-) -> bool
-    requires depends { keeps_anyway K.cmp K.matching bound face.now expr.now ≡ false }
-    requires shown { is_routed rows.now face.now ≡ false
-        → shown ≡ is_shown K.cmp K.matching bound rows.now face.now.region expr.now }
-    ensures { result ≡ keeps_rightly K.cmp K.matching bound rows.now face.now expr.now }
-{
-    if rows.is_routed(face) {
-        return true;
-    }
-    keeps_where_shown(bound, rows, face, shown, expr)
 }
 
 // Each face keeps of the expression what this bound asks for, since no token of it is there.
@@ -140,32 +73,19 @@ fn is_shown_to_none<K: Key>(bound: Bound, rows: &ShownRows<K>, expr: &K) -> bool
     }
 }
 
-// All of these faces of a gateway keep of the expression what they should. Whether it is shown to a
-// region is asked only where that decides, and once for such faces of that region that follow one
-// another.
-fn faces_keep_rightly<K: Key>(
-    bound: Bound,
-    rows: &ShownRows<K>,
-    faces: &[ShownFace<K>],
-    expr: &K,
-) -> bool
-    ensures { result ≡ list_all
-        (λ f. keeps_rightly K.cmp K.matching bound rows.now f expr.now) faces.now }
+// All faces of a gateway keep of the expression what they should. Those alone are looked at that keep
+// it, or that it is owed to.
+fn faces_keep_rightly<K: Key>(bound: Bound, rows: &ShownRows<K>, expr: &K) -> bool
+    ensures { result ≡ faces_keep_rightly K.cmp K.matching bound rows.now expr.now }
 {
     if is_shown_to_none(bound, rows, expr) {
         return true;
     }
-    let mut last = shown_to(bound, rows, Region::Local, expr);
-    for face in faces {
-        if keeps_anyway(bound, face, expr) {
-            continue;
-        }
-        last = shown_to_face(bound, rows, face, last, expr);
-        if !keeps_rightly(bound, rows, face, last.1, expr) {
-            return false;
-        }
+    let breaks = Breaks::new(bound, rows, first_region(rows), expr);
+    match bound {
+        Bound::Upper => !rows.any_told(expr, &breaks),
+        Bound::Lower => !rows.any_owed(expr, &breaks),
     }
-    true
 }
 
 // Of a token that the line changes all faces of its gateway keep what they should.
@@ -180,7 +100,7 @@ fn changed_is_kept<'a, K: Key>(
 {
     match fabric.node(gateway) {
         None => true,
-        Some(node) => faces_keep_rightly(bound, node.rows(), node.rows().faces(), expr),
+        Some(node) => faces_keep_rightly(bound, node.rows(), expr),
     }
 }
 

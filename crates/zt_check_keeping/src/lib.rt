@@ -5,6 +5,7 @@
 //! definitions, and shares no code with the gateway that is judged.
 #![tactic(auto)]
 
+mod breaking;
 mod changed;
 mod heard;
 mod keeping;

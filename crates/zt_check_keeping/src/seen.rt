@@ -3,14 +3,13 @@ ghost use Rattle.std.specs.Prelude.{◌≡◌, ◌&&◌};
 ghost use Rattle.std.specs.List.{list_any};
 ghost use Rattle.zt_region.specs.Region.{is_north};
 ghost use Rattle.zt_protocol.specs.Interest.{has_tokens, is_current};
-ghost use Rattle.zt_model.specs.Lists.{same};
-ghost use Rattle.zt_model.specs.Seen.{concerns, is_owed, is_seen, is_seen_and_admitted};
-ghost use Rattle.zt_model.specs.Seen.{may_hear};
+ghost use Rattle.zt_model.specs.Seen.{concerns, is_seen, may_hear};
 ghost use Rattle.zt_model.specs.Wants.{is_about};
 
 use bitflags::Flags;
 use zt_check_faces::{ShownFace, ShownInterest};
 use zt_check_rows::ShownRows;
+pub(crate) use zt_check_rows::is_owed;
 pub use zt_check_rows::{is_shown_and_admitted, sees};
 use zt_keys::Key;
 use zt_protocol::InterestOptions;
@@ -33,8 +32,8 @@ pub fn has_tokens<K: Key>(interest: &ShownInterest<K>) -> bool
     interest.options().contains(InterestOptions::TOKENS)
 }
 
-/// Whether an interest in tokens concerns an expression.
-pub(crate) fn concerns<K: Key>(interest: &ShownInterest<K>, expr: &K) -> bool
+// Whether an interest in tokens concerns an expression.
+fn concerns<K: Key>(interest: &ShownInterest<K>, expr: &K) -> bool
     ensures { result ≡ concerns K.matching interest.now expr.now }
 {
     has_tokens(interest) && is_about(interest.expr(), expr)
@@ -66,44 +65,12 @@ pub(crate) fn may_hear<K: Key>(face: &ShownFace<K>, expr: &K) -> bool
     is_north(face.region()) || is_interested(face.held(), expr)
 }
 
-// Whether an interest concerns the expression, and asked for what was there too.
-fn asks_now<K: Key>(interest: &ShownInterest<K>, expr: &K) -> bool
+/// Whether an interest concerns the expression, and asked for what was there too.
+pub(crate) fn asks_now<K: Key>(interest: &ShownInterest<K>, expr: &K) -> bool
     ensures { result
         ≡ (concerns K.matching interest.now expr.now && is_current interest.now.mode) }
 {
-    concerns(interest, expr) && interest.mode().is_current()
-}
-
-// Whether one of the interests that a face holds does.
-fn asks_any_now<K: Key>(held: &[(u32, ShownInterest<K>)], expr: &K) -> bool
-    ensures { result
-        ≡ list_any (λ row. concerns K.matching row.1 expr.now && is_current row.1.mode) held.now }
-{
-    for row in held {
-        if asks_now(&row.1, expr) {
-            return true;
-        }
-    }
-    false
-}
-
-/// Whether a face is to know all of the expression's tokens.
-pub(crate) fn is_owed<K: Key>(face: &ShownFace<K>, expr: &K) -> bool
-    ensures { result ≡ is_owed K.matching face.now expr.now }
-{
-    is_north(face.region()) || asks_any_now(face.held(), expr)
-}
-
-/// Whether rows name an expression.
-pub(crate) fn has_expression<K: Key>(rows: &[(u32, K)], expr: &K) -> bool
-    ensures { result ≡ list_any (λ row. same K.cmp expr.now row.1) rows.now }
-{
-    for row in rows {
-        if *expr == row.1 {
-            return true;
-        }
-    }
-    false
+    interest.mode().is_current() && concerns(interest, expr)
 }
 
 /// Whether faces of a region see the expression. A look-up.
@@ -111,12 +78,4 @@ pub fn is_seen<K: Key>(rows: &ShownRows<K>, own: Region, expr: &K) -> bool
     ensures { result ≡ is_seen K.cmp rows.now own expr.now }
 {
     rows.is_seen(own, expr)
-}
-
-/// Whether the expression stands in a region that faces of this one see, and from which it is
-/// admitted. A look-up.
-pub(crate) fn is_seen_and_admitted<K: Key>(rows: &ShownRows<K>, own: Region, expr: &K) -> bool
-    ensures { result ≡ is_seen_and_admitted K.cmp rows.now own expr.now }
-{
-    rows.is_seen_and_admitted(own, expr)
 }

@@ -1,12 +1,13 @@
 // The expressions whose tokens a call may add or take away: read before it.
 ghost use Rattle.std.specs.Prelude.{◌≡◌, ℕ, ◌∷◌, ◌++◌, [], OnOk};
 ghost use Rattle.zt_protocol.specs.Plain.{plain_call};
+ghost use Rattle.zt_model.specs.Trees.{counted_table};
 ghost use Rattle.zt_check_keeping.specs.Changed.{declared, expressions, is_sought, named};
-ghost use Rattle.zt_check_keeping.specs.Changed.{routed_in, tokens_of};
+ghost use Rattle.zt_check_keeping.specs.Changed.{is_unlisted, tokens_of, unlisted};
 
 use std::alloc::Global;
 use zt_check_faces::ShownFace;
-use zt_check_rows::{ShownRouted, ShownRows};
+use zt_check_rows::{ShownRouted, ShownRows, ShownTable};
 use zt_keys::{Key, Memory};
 use zt_protocol::Call;
 use zt_region::Region;
@@ -113,35 +114,44 @@ fn add_declared<K: Key>(
     Ok(())
 }
 
-fn add_routed_row<K: Key>(
+// Whether a row is of a router that a new table of its region lists no more.
+fn is_unlisted<K: Key>(region: Region, table: &ShownTable, row: &ShownRouted<K>) -> bool
+    ensures { result ≡ is_unlisted region (counted_table table.now) row.now }
+{
+    region == row.region() && !table.is_listed(row.source())
+}
+
+fn add_unlisted_row<K: Key>(
     alloc: Global,
     tokens: &mut Vec<(u32, K)>,
     gateway: u32,
     region: Region,
+    table: &ShownTable,
     row: &ShownRouted<K>,
 ) -> Result<(), Memory>
-    ensures { OnOk result
-        (tokens.new.items ≡ tokens.old.items ++ routed_in gateway region (row.now ∷ [])) }
+    ensures { OnOk result (tokens.new.items ≡ tokens.old.items
+        ++ unlisted gateway region (counted_table table.now) (row.now ∷ [])) }
 {
-    if region != row.region() {
+    if !is_unlisted(region, table, row) {
         return Ok(());
     }
     add_key(alloc, tokens, gateway, row.expr())
 }
 
-// Those of a router region.
-fn add_routed<K: Key>(
+// Those of routers that a new table of their region lists no more.
+fn add_unlisted<K: Key>(
     alloc: Global,
     tokens: &mut Vec<(u32, K)>,
     gateway: u32,
     region: Region,
+    table: &ShownTable,
     rows: &[ShownRouted<K>],
 ) -> Result<(), Memory>
-    ensures { OnOk result
-        (tokens.new.items ≡ tokens.old.items ++ routed_in gateway region rows.now) }
+    ensures { OnOk result (tokens.new.items ≡ tokens.old.items
+        ++ unlisted gateway region (counted_table table.now) rows.now) }
 {
     for row in rows {
-        add_routed_row(alloc, tokens, gateway, region, row)?;
+        add_unlisted_row(alloc, tokens, gateway, region, table, row)?;
     }
     Ok(())
 }
@@ -182,8 +192,9 @@ pub(crate) fn add_tokens<K: Key>(
             add_declared(alloc, tokens, gateway, *face, Some(*id), rows)
         }
         Call::CloseFace { face } => { add_declared(alloc, tokens, gateway, *face, None, rows) }
-        Call::SetTrees { region, .. } => {
-            add_routed(alloc, tokens, gateway, *region, rows.routed())
+        Call::SetTrees { region, table } => {
+            let table = ShownTable::new(alloc, table)?;
+            add_unlisted(alloc, tokens, gateway, *region, &table, rows.routed())
         }
         Call::NewSession { .. }
         | Call::NewTransport { .. }
