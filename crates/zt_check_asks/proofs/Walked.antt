@@ -55,7 +55,7 @@ module _ {K : Type 0} (cmp : K → K → Ordering) (matching : K → K → Bool)
       ap (λ b. not b && are_new cmp matching (e ∷ ks) es) (alike e)
       ∙ ap (λ b. not (is_among cmp e ls) && b) (new_alike (e ∷ ks) (e ∷ ls) es (λ x. ap (λ b. same cmp x e || b) (alike x)))
 
-  take_more : (i : ℕ) (e : K) (es : List K) → i < length es → e ≡ get_or es i e → take (i + 1) es ≡ take i es ++ e ∷ []
+  pub take_more : (i : ℕ) (e : K) (es : List K) → i < length es → e ≡ get_or es i e → take (i + 1) es ≡ take i es ++ e ∷ []
   take_more i e [] within is = absurd (omega (arith, within))
   take_more zero e (x ∷ es) within is = ap (λ (y : K). y ∷ []) (sym is)
   take_more (suc i) e (x ∷ es) within is =

@@ -69,6 +69,10 @@ module _ {K : Type 0} (cmp : K → K → Ordering) (matching : K → K → Bool)
   abbrev pub are_of_faces : Region → Option K → List K → List (Face K) → Bool
   are_of_faces own asked es fs = list_all (λ f. not (sees own f.region) || are_of_face asked es f.live) fs
 
+  -- a token that is seen from the region isn't among the answers
+  abbrev pub is_missing : Region → List K → Face K → K → Bool
+  is_missing own es f e = sees own f.region && not (is_among cmp e es)
+
   -- and of all other routers
   abbrev pub is_of_router : Rows K → Region → Option K → List K → RoutedRow K → Bool
   is_of_router g own asked es row = (zid_eq row.source g.zid || not (sees own row.region)) || (not (is_about matching asked row.expr) || is_among cmp row.expr es)
@@ -90,10 +94,13 @@ module _ {K : Type 0} (cmp : K → K → Ordering) (matching : K → K → Bool)
 
   -- ---- one ask
 
+  -- by answers that are new
+  abbrev pub is_answered_newly : PlainTold K → ℕ → Rows K → Face K → ℕ → Ask K → List K → Bool
+  is_answered_newly told gateway g f id ask es =
+      if is_that told.asking gateway f.number id then is_answered_at_once g f ask es else is_answered_later ask (declared_for told gateway ask) es
+
   abbrev pub is_answered_so : PlainTold K → ℕ → Rows K → Face K → ℕ → Ask K → List K → Bool
-  is_answered_so told gateway g f id ask es =
-      are_new cmp matching ask.answered es
-      && (if is_that told.asking gateway f.number id then is_answered_at_once g f ask es else is_answered_later ask (declared_for told gateway ask) es)
+  is_answered_so told gateway g f id ask es = are_new cmp matching ask.answered es && is_answered_newly told gateway g f id ask es
 
   abbrev pub is_answered : Fabric K → PlainTold K → ℕ → Rows K → Face K → ℕ × Ask K → Bool
   is_answered s told gateway g f row =

@@ -3,7 +3,6 @@ ghost use Rattle.std.specs.Prelude.{◌≡◌, ◌&&◌, ◌||◌, not, IfOk, So
 ghost use Rattle.std.specs.List.{list_all};
 ghost use Rattle.std.specs.Option.{option_copied};
 ghost use Rattle.zt_model.specs.Lists.{is_among, same};
-ghost use Rattle.zt_model.specs.Promises.{are_new};
 ghost use Rattle.zt_model.specs.Seen.{is_seen, sees};
 ghost use Rattle.zt_model.specs.Wants.{is_about};
 ghost use Rattle.zt_check_asks.specs.Answering.{answered_there, are_all, are_answered_at};
@@ -12,34 +11,22 @@ ghost use Rattle.zt_check_asks.specs.Answering.{are_answered_of, are_answered_un
 ghost use Rattle.zt_check_asks.specs.Answering.{are_of_face, are_of_faces, are_seen};
 ghost use Rattle.zt_check_asks.specs.Answering.{asks_are_answered, is_answered, is_answered_at_once};
 ghost use Rattle.zt_check_asks.specs.Answering.{is_answered_at, is_answered_later};
-ghost use Rattle.zt_check_asks.specs.Answering.{is_answered_so, is_answered_under};
+ghost use Rattle.zt_check_asks.specs.Answering.{is_answered_newly, is_answered_so, is_answered_under};
 ghost use Rattle.zt_check_asks.specs.Answering.{is_again, is_nothing, is_of_router};
 ghost use Rattle.zt_check_asks.specs.Answering.{made_is_answered};
 ghost use Rattle.zt_check_asks.specs.Answering.{pending_is_answered};
 
 use crate::asks::{answers_in, was_sent_as};
 use crate::calls::{Told, declared_for, is_made};
+use crate::gathered::{Answers, gather};
 use std::alloc::Global;
 use zt_check_fabric::{ShownFabric, ShownPlace};
 use zt_check_faces::{ShownAsk, ShownFace, is_among};
 use zt_check_keeping::{has_tokens, is_about, is_seen, sees};
-use zt_check_rows::{ShownRouted, ShownRows};
+use zt_check_rows::{ShownRouted, ShownRows, TokenTest};
 use zt_keys::{Key, Memory};
 use zt_protocol::{Message, Sent};
 use zt_region::Region;
-
-// Each expression once, and none that was there before.
-fn are_new<K: Key>(known: &[K], exprs: &[K]) -> bool
-    ensures { result ≡ are_new K.cmp K.matching known.now exprs.now }
-{
-    for place in 0..exprs.len() {
-        let expr = &exprs[place];
-        if is_among(expr, known) || is_among(expr, &exprs[..place]) {
-            return false;
-        }
-    }
-    true
-}
 
 // Whether an expression is asked for, and seen from the region.
 fn is_due<K: Key>(rows: &ShownRows<K>, own: Region, asked: &Option<K>, expr: &K) -> bool
@@ -62,15 +49,15 @@ fn are_seen<K: Key>(rows: &ShownRows<K>, own: Region, asked: &Option<K>, exprs: 
 }
 
 // Whether an expression is among these, if it is asked for.
-fn is_there<K: Key>(asked: &Option<K>, answers: &[K], expr: &K) -> bool
+fn is_there<K: Key>(asked: &Option<K>, answers: &Answers<K>, expr: &K) -> bool
     ensures { result
         ≡ (not (is_about K.matching asked.now expr.now) || is_among K.cmp expr.now answers.now) }
 {
-    !is_about(asked, expr) || is_among(expr, answers)
+    !is_about(asked, expr) || answers.holds(expr)
 }
 
 // Whether all tokens of a face that are asked for are among these.
-fn are_of_face<K: Key>(asked: &Option<K>, answers: &[K], live: &[(u32, K)]) -> bool
+fn are_of_face<K: Key>(asked: &Option<K>, answers: &Answers<K>, live: &[(u32, K)]) -> bool
     ensures { result ≡ are_of_face K.cmp K.matching asked.now answers.now live.now }
 {
     for row in live {
@@ -82,7 +69,12 @@ fn are_of_face<K: Key>(asked: &Option<K>, answers: &[K], live: &[(u32, K)]) -> b
 }
 
 // Whether that is so of a face that is seen from the region.
-fn is_of_face<K: Key>(own: Region, asked: &Option<K>, answers: &[K], source: &ShownFace<K>) -> bool
+fn is_of_face<K: Key>(
+    own: Region,
+    asked: &Option<K>,
+    answers: &Answers<K>,
+    source: &ShownFace<K>,
+) -> bool
     ensures { result ≡ (not (sees own source.now.region)
         || are_of_face K.cmp K.matching asked.now answers.now source.now.live) }
 {
@@ -93,7 +85,7 @@ fn is_of_face<K: Key>(own: Region, asked: &Option<K>, answers: &[K], source: &Sh
 fn are_of_faces<K: Key>(
     own: Region,
     asked: &Option<K>,
-    answers: &[K],
+    answers: &Answers<K>,
     faces: &[ShownFace<K>],
 ) -> bool
     ensures { result ≡ are_of_faces K.cmp K.matching own asked.now answers.now faces.now }
@@ -106,12 +98,45 @@ fn are_of_faces<K: Key>(
     true
 }
 
+// A token that is seen from a region isn't among the answers.
+#[derive(Drop)]
+struct IsMissing<'r, K: Key> {
+    own: Region,
+    answers: &'r Answers<K>,
+}
+
+impl<'r, K: Key> TokenTest<K> for IsMissing<'r, K> {
+    ghost use Rattle.zt_check_asks.specs.Answering.{is_missing};
+
+    ghost passes = { λ t source e. is_missing K.cmp K.matching t.own t.answers.now source e };
+
+    fn passes(&self, source: &ShownFace<K>, expr: &K) -> bool {
+        sees(self.own, source.region()) && !self.answers.holds(expr)
+    }
+}
+
+// Whether all of a gateway's faces that is seen from a region and asked for is among these. Where a
+// key is asked for, tokens are looked up.
+fn are_of_sources<K: Key>(
+    rows: &ShownRows<K>,
+    own: Region,
+    asked: &Option<K>,
+    answers: &Answers<K>,
+) -> bool
+    ensures { result ≡ are_of_faces K.cmp K.matching own asked.now answers.now rows.now.faces }
+{
+    match asked {
+        None => are_of_faces(own, asked, answers, rows.faces()),
+        Some(key) => !rows.any_near(key, &IsMissing { own, answers }),
+    }
+}
+
 // Whether a router's token is among these, where it is seen and asked for.
 fn is_of_router<K: Key>(
     rows: &ShownRows<K>,
     own: Region,
     asked: &Option<K>,
-    answers: &[K],
+    answers: &Answers<K>,
     row: &ShownRouted<K>,
 ) -> bool
     ensures { result
@@ -125,7 +150,7 @@ fn are_of_routers<K: Key>(
     rows: &ShownRows<K>,
     own: Region,
     asked: &Option<K>,
-    answers: &[K],
+    answers: &Answers<K>,
     routed: &[ShownRouted<K>],
 ) -> bool
     ensures { result ≡ list_all
@@ -140,10 +165,15 @@ fn are_of_routers<K: Key>(
 }
 
 // Whether all that is seen from a region and asked for is among these.
-fn are_all<K: Key>(rows: &ShownRows<K>, own: Region, asked: &Option<K>, answers: &[K]) -> bool
+fn are_all<K: Key>(
+    rows: &ShownRows<K>,
+    own: Region,
+    asked: &Option<K>,
+    answers: &Answers<K>,
+) -> bool
     ensures { result ≡ are_all K.cmp K.matching rows.now own asked.now answers.now }
 {
-    are_of_faces(own, asked, answers, rows.faces())
+    are_of_sources(rows, own, asked, answers)
         && are_of_routers(rows, own, asked, answers, rows.routed())
 }
 
@@ -152,13 +182,14 @@ fn is_answered_at_once<K: Key>(
     rows: &ShownRows<K>,
     face: &ShownFace<K>,
     ask: &ShownAsk<K>,
-    answers: &[K],
+    answers: &Answers<K>,
 ) -> bool
     ensures { result
         ≡ is_answered_at_once K.cmp K.matching rows.now face.now ask.now answers.now }
 {
     let asked = ask.interest().expr();
-    are_seen(rows, face.region(), asked, answers) && are_all(rows, face.region(), asked, answers)
+    are_seen(rows, face.region(), asked, answers.exprs())
+        && are_all(rows, face.region(), asked, answers)
 }
 
 // Whether all are this expression.
@@ -194,26 +225,43 @@ fn is_answered_later<K: Key>(ask: &ShownAsk<K>, declared: Option<&K>, answers: &
             || is_among(expr, answers))
 }
 
-// Whether an ask is answered what it asks for, by its answers of the turn.
-fn is_answered_so<'b, K: Key>(
+// Whether an ask is answered what it asks for, by its answers of the turn, which are new.
+fn is_answered_newly<'b, K: Key>(
     told: &Told<'b, K>,
     gateway: u32,
     rows: &ShownRows<K>,
     face: &ShownFace<K>,
     id: u32,
     ask: &ShownAsk<K>,
-    answers: &[K],
+    answers: &Answers<K>,
 ) -> bool
-    ensures { result ≡ is_answered_so K.cmp K.matching told.now gateway rows.now face.now id
+    ensures { result ≡ is_answered_newly K.cmp K.matching told.now gateway rows.now face.now id
         ask.now answers.now }
 {
-    if !are_new(ask.answered(), answers) {
-        return false;
-    }
     if is_made(told, gateway, face.number(), id) {
         return is_answered_at_once(rows, face, ask, answers);
     }
-    is_answered_later(ask, declared_for(told, gateway, ask), answers)
+    is_answered_later(ask, declared_for(told, gateway, ask), answers.exprs())
+}
+
+// Whether an ask is answered what it asks for, by its answers of the turn.
+fn is_answered_so<'b, K: Key>(
+    alloc: Global,
+    told: &Told<'b, K>,
+    gateway: u32,
+    rows: &ShownRows<K>,
+    face: &ShownFace<K>,
+    id: u32,
+    ask: &ShownAsk<K>,
+    answers: Vec<K>,
+) -> Result<bool, Memory>
+    ensures { IfOk result (λ holds. holds ≡ is_answered_so K.cmp K.matching told.now gateway
+        rows.now face.now id ask.now answers.items) }
+{
+    match gather(alloc, ask.answered(), answers)? {
+        None => Ok(false),
+        Some(answers) => Ok(is_answered_newly(told, gateway, rows, face, id, ask, &answers)),
+    }
 }
 
 // Whether an ask is answered what it asks for.
@@ -234,7 +282,7 @@ fn is_answered<'a, 'b, K: Key>(
     }
     let number = fabric.number_of_place(gateway, face.number());
     let answers = answers_in(alloc, told.sents(), number, row.0)?;
-    Ok(is_answered_so(told, gateway, rows, face, row.0, &row.1, &answers))
+    is_answered_so(alloc, told, gateway, rows, face, row.0, &row.1, answers)
 }
 
 // Whether an ask is, if it is of this id.

@@ -7,6 +7,7 @@
 mod answers;
 mod asks;
 mod calls;
+mod gathered;
 
 pub use answers::answers_asks;
 pub use asks::{answers_in, stands, was_sent_as};

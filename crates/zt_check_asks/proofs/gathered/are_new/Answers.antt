@@ -1,6 +1,6 @@
 use Rattle.std.proofs.Common.{sym, ◌∙◌, arith}
 use Rattle.zt_check_asks.proofs.Walked.{new_more}
-use Rattle.zt_check_asks.proofs.answers.are_new.Goals as goal
+use Rattle.zt_check_asks.proofs.gathered.are_new.Goals as goal
 
 pub loop-place-preserved : goal.loop-place-preserved
 loop-place-preserved g c =

@@ -1,6 +1,6 @@
 use Rattle.std.proofs.Common.{◌≡◌, ◌++◌, drop, take}
 use Rattle.zt_model.specs.Promises.{are_new}
-use Rattle.zt_check_asks.proofs.answers.are_new.Given as goal
+use Rattle.zt_check_asks.proofs.gathered.are_new.Given as goal
 
 -- those so far are, and the others are to be new beside them
 abbrev pub invariant-loop-place : goal.invariant-loop-place
